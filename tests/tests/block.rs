@@ -48,11 +48,12 @@ fn agrees_on_damaged_jobs() {
     }
 }
 
-/// Every place and every value: no border of these jobs is left out.
+/// Every place and every value of every job in jobs/: none of their borders is
+/// left out.
 #[test]
 fn agrees_on_every_changed_byte() {
-    for name in ["catch.job", "sensor.job"] {
-        let job = jobs::load(name);
+    for name in jobs::names() {
+        let job = jobs::load(&name);
         for place in 0..layout::BLOCK_BYTES {
             let mut bytes = job.clone();
             for value in 0..=u8::MAX {
