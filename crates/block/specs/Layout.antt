@@ -1,0 +1,169 @@
+-- The bytes of a job (document 01, "The job"): which place holds which field. A block is the list of its bytes, and no other file writes an offset.
+use mathlib.Core.List.{List}
+use mathlib.Core.Logic.{_⊎_}
+use mathlib.Core.Path.{_≡_}
+use Prim.Native.Nat.{ℕ, _+_, _*_, _/_, _%_, _^_, _≤_, _<_}
+use lib.ListN.{getD}
+use Rattle.block.specs.declared.layout.Place.{Place}
+use Rattle.block.specs.declared.layout.Place.the-variants.{Header, Mask, Count, Cost, Next, Field}
+
+abbrev pub Block : Type 0
+Block = List ℕ
+
+abbrev pub blockBytes : ℕ
+blockBytes = 2469
+
+-- the largest sizes: agents, resources, states, propositions, rows; actions of an agent, joint actions, fields of a row
+abbrev pub maxAgents : ℕ
+maxAgents = 3
+
+abbrev pub maxResources : ℕ
+maxResources = 2
+
+abbrev pub maxStates : ℕ
+maxStates = 24
+
+abbrev pub maxPropositions : ℕ
+maxPropositions = 8
+
+abbrev pub maxRows : ℕ
+maxRows = 32
+
+abbrev pub maxActions : ℕ
+maxActions = 4
+
+abbrev pub maxJoint : ℕ
+maxJoint = 64
+
+abbrev pub rowBytes : ℕ
+rowBytes = 8
+
+abbrev pub placeOf : Place → ℕ
+placeOf (Header f) = f
+placeOf (Mask s) = 5 + s
+placeOf (Count s a) = 29 + 3 * s + a
+placeOf (Cost s a k j) = 101 + 24 * s + 8 * a + 2 * k + j
+placeOf (Next s joint) = 677 + 64 * s + joint
+placeOf (Field i f) = 2213 + 8 * i + f
+
+-- the places of the layout: each number below blockBytes is one of these, and of one only
+abbrev pub InLayout : Place → Type 0
+InLayout (Header f) = f < 5
+InLayout (Mask s) = s < maxStates
+InLayout (Count s a) = (s < maxStates) × (a < maxAgents)
+InLayout (Cost s a k j) = (s < maxStates) × (a < maxAgents) × (k < maxActions) × (j < maxResources)
+InLayout (Next s joint) = (s < maxStates) × (joint < maxJoint)
+InLayout (Field i f) = (i < maxRows) × (f < rowBytes)
+
+abbrev pub byteAt : Block → ℕ → ℕ
+byteAt b p = getD b p 0
+
+abbrev pub at : Block → Place → ℕ
+at b x = byteAt b (placeOf x)
+
+-- N, R, M, P and F
+abbrev pub agents : Block → ℕ
+agents b = at b (Header 0)
+
+abbrev pub resources : Block → ℕ
+resources b = at b (Header 1)
+
+abbrev pub states : Block → ℕ
+states b = at b (Header 2)
+
+abbrev pub propositions : Block → ℕ
+propositions b = at b (Header 3)
+
+abbrev pub rows : Block → ℕ
+rows b = at b (Header 4)
+
+-- the mask of propositions true in state s
+abbrev pub mask : Block → ℕ → ℕ
+mask b s = at b (Mask s)
+
+-- how many actions agent a has in state s
+abbrev pub count : Block → ℕ → ℕ → ℕ
+count b s a = at b (Count s a)
+
+-- what agent a's action k takes of resource j in state s
+abbrev pub cost : Block → ℕ → ℕ → ℕ → ℕ → ℕ
+cost b s a k j = at b (Cost s a k j)
+
+-- the next state after a joint action in state s
+abbrev pub next : Block → ℕ → ℕ → ℕ
+next b s joint = at b (Next s joint)
+
+-- the fields of row i; bound j is that of resource j
+abbrev pub kind : Block → ℕ → ℕ
+kind b i = at b (Field i 0)
+
+abbrev pub left : Block → ℕ → ℕ
+left b i = at b (Field i 1)
+
+abbrev pub right : Block → ℕ → ℕ
+right b i = at b (Field i 2)
+
+abbrev pub team : Block → ℕ → ℕ
+team b i = at b (Field i 3)
+
+abbrev pub bound : Block → ℕ → ℕ → ℕ
+bound b i j = at b (Field i (4 + j))
+
+-- the byte of an unlimited bound
+abbrev pub unlimited : ℕ
+unlimited = 255
+
+-- the kinds of a row
+abbrev pub propKind : ℕ
+propKind = 0
+
+abbrev pub notKind : ℕ
+notKind = 1
+
+abbrev pub orKind : ℕ
+orKind = 2
+
+abbrev pub nextKind : ℕ
+nextKind = 3
+
+abbrev pub alwaysKind : ℕ
+alwaysKind = 4
+
+abbrev pub untilKind : ℕ
+untilKind = 5
+
+-- next, always and until: the kinds with a team and bounds
+abbrev pub Strategic : ℕ → Type 0
+Strategic k = (nextKind ≤ k) × (k ≤ untilKind)
+
+-- or and until: the kinds with a right row
+abbrev pub Binary : ℕ → Type 0
+Binary k = (k ≡ orKind) ⊎ (k ≡ untilKind)
+
+-- agent a's action in a joint action a0 + 4·a1 + 16·a2
+abbrev pub digit : ℕ → ℕ → ℕ
+digit joint a = joint / 4 ^ a % 4
+
+-- k is an action of agent a in state s, or 0 where there is no such agent
+abbrev pub Acts : Block → ℕ → ℕ → ℕ → Type 0
+Acts b s a k = ((a < agents b) × (k < count b s a)) ⊎ ((agents b ≤ a) × (k ≡ 0))
+
+-- the joint action can be done in state s
+abbrev pub Available : Block → ℕ → ℕ → Type 0
+Available b s joint = (joint < maxJoint) × ((a : ℕ) → a < maxAgents → Acts b s a (digit joint a))
+
+-- a row of kind k uses field f
+abbrev pub UsesField : Block → ℕ → ℕ → Type 0
+UsesField b k f = (f ≤ 1) ⊎ (((f ≡ 2) × Binary k) ⊎ (Strategic k × ((3 ≤ f) × (f < 4 + resources b))))
+
+abbrev pub InUse : Block → Place → Type 0
+InUse b (Header f) = f < 5
+InUse b (Mask s) = s < states b
+InUse b (Count s a) = (s < states b) × (a < agents b)
+InUse b (Cost s a k j) = (s < states b) × (a < agents b) × (k < count b s a) × (j < resources b)
+InUse b (Next s joint) = (s < states b) × Available b s joint
+InUse b (Field i f) = (i < rows b) × UsesField b (kind b i) f
+
+-- the job uses place p
+abbrev pub Used : Block → ℕ → Type 0
+Used b p = (x : Place) × (placeOf x ≡ p) × InUse b x

@@ -1,0 +1,190 @@
+// Where each field of a job stands in its block. No other module computes an offset.
+ghost use mathlib.Core.Path.{_≡_};
+ghost use Prim.Native.Nat.{_<_};
+ghost use lib.ListN.{length};
+ghost use Rattle.block.specs.Layout as L;
+ghost use Rattle.block.specs.Layout.{blockBytes, maxStates, maxAgents, maxActions, maxResources, maxJoint, maxRows, rowBytes, placeOf, InLayout, byteAt, at};
+
+pub const BLOCK_BYTES: usize = 2469;
+
+// A place of the layout: a header byte, the mask of a state, the count of a state and agent, the
+// cost of a state, agent, action and resource, the next state of a state and joint action, a
+// field of a row.
+pub enum Place {
+    Header(usize),
+    Mask(usize),
+    Count(usize, usize),
+    Cost(usize, usize, usize, usize),
+    Next(usize, usize),
+    Field(usize, usize),
+}
+
+// The place with number p.
+pub fn place_at(p: usize) -> Place
+    requires { ⌜ p < blockBytes ⌝ }
+    ensures { λ r. ⌜ (placeOf r ≡ p) × InLayout r ⌝ }
+{
+    if p < 5 {
+        return Place::Header(p);
+    }
+    if p < 29 {
+        return Place::Mask(p - 5);
+    }
+    if p < 101 {
+        let q = p - 29;
+        return Place::Count(q / 3, q % 3);
+    }
+    if p < 677 {
+        let q = p - 101;
+        return Place::Cost(q / 24, q % 24 / 8, q % 8 / 2, q % 2);
+    }
+    if p < 2213 {
+        let q = p - 677;
+        return Place::Next(q / 64, q % 64);
+    }
+    let q = p - 2213;
+    Place::Field(q / 8, q % 8)
+}
+
+fn wide(x: u8) -> usize
+    ensures { λ r. ⌜ r ≡ x ⌝ }
+{
+    x as usize
+}
+
+pub fn byte_at(block: &[u8], p: usize) -> usize
+    requires { ⌜ p < length (now block) ⌝ }
+    ensures { λ r. ⌜ r ≡ byteAt (now (block .entry)) p ⌝ }
+{
+    wide(block[p])
+}
+
+// N: how many agents there are.
+pub fn agents(block: &[u8]) -> usize
+    requires { ⌜ length (now block) ≡ blockBytes ⌝ }
+    ensures { λ r. ⌜ r ≡ L.agents (now (block .entry)) ⌝ }
+{
+    byte_at(block, 0)
+}
+
+// R: how many resources there are.
+pub fn resources(block: &[u8]) -> usize
+    requires { ⌜ length (now block) ≡ blockBytes ⌝ }
+    ensures { λ r. ⌜ r ≡ L.resources (now (block .entry)) ⌝ }
+{
+    byte_at(block, 1)
+}
+
+// M: how many states there are.
+pub fn states(block: &[u8]) -> usize
+    requires { ⌜ length (now block) ≡ blockBytes ⌝ }
+    ensures { λ r. ⌜ r ≡ L.states (now (block .entry)) ⌝ }
+{
+    byte_at(block, 2)
+}
+
+// P: how many propositions there are.
+pub fn propositions(block: &[u8]) -> usize
+    requires { ⌜ length (now block) ≡ blockBytes ⌝ }
+    ensures { λ r. ⌜ r ≡ L.propositions (now (block .entry)) ⌝ }
+{
+    byte_at(block, 3)
+}
+
+// F: how many formula rows there are.
+pub fn rows(block: &[u8]) -> usize
+    requires { ⌜ length (now block) ≡ blockBytes ⌝ }
+    ensures { λ r. ⌜ r ≡ L.rows (now (block .entry)) ⌝ }
+{
+    byte_at(block, 4)
+}
+
+// The mask of the propositions true in state s.
+pub fn mask(block: &[u8], s: usize) -> usize
+    requires { ⌜ length (now block) ≡ blockBytes ⌝ }
+    requires { ⌜ s < maxStates ⌝ }
+    ensures { λ r. ⌜ r ≡ L.mask (now (block .entry)) s ⌝ }
+{
+    byte_at(block, 5 + s)
+}
+
+// How many actions agent a has in state s.
+pub fn count(block: &[u8], s: usize, a: usize) -> usize
+    requires { ⌜ length (now block) ≡ blockBytes ⌝ }
+    requires { ⌜ (s < maxStates) × (a < maxAgents) ⌝ }
+    ensures { λ r. ⌜ r ≡ L.count (now (block .entry)) s a ⌝ }
+{
+    byte_at(block, 29 + 3 * s + a)
+}
+
+// What agent a's action k takes of resource j in state s.
+pub fn cost(block: &[u8], s: usize, a: usize, k: usize, j: usize) -> usize
+    requires { ⌜ length (now block) ≡ blockBytes ⌝ }
+    requires { ⌜ (s < maxStates) × (a < maxAgents) × (k < maxActions) × (j < maxResources) ⌝ }
+    ensures { λ r. ⌜ r ≡ L.cost (now (block .entry)) s a k j ⌝ }
+{
+    byte_at(block, 101 + 24 * s + 8 * a + 2 * k + j)
+}
+
+// The next state after a joint action in state s.
+pub fn next(block: &[u8], s: usize, joint: usize) -> usize
+    requires { ⌜ length (now block) ≡ blockBytes ⌝ }
+    requires { ⌜ (s < maxStates) × (joint < maxJoint) ⌝ }
+    ensures { λ r. ⌜ r ≡ L.next (now (block .entry)) s joint ⌝ }
+{
+    byte_at(block, 677 + 64 * s + joint)
+}
+
+// Field f of row i.
+fn field(block: &[u8], i: usize, f: usize) -> usize
+    requires { ⌜ length (now block) ≡ blockBytes ⌝ }
+    requires { ⌜ (i < maxRows) × (f < rowBytes) ⌝ }
+    ensures { λ r. ⌜ r ≡ at (now (block .entry)) (Place.Field i f) ⌝ }
+{
+    byte_at(block, 2213 + 8 * i + f)
+}
+
+// The kind of row i.
+pub fn kind(block: &[u8], i: usize) -> usize
+    requires { ⌜ length (now block) ≡ blockBytes ⌝ }
+    requires { ⌜ i < maxRows ⌝ }
+    ensures { λ r. ⌜ r ≡ L.kind (now (block .entry)) i ⌝ }
+{
+    field(block, i, 0)
+}
+
+// The left field of row i.
+pub fn left(block: &[u8], i: usize) -> usize
+    requires { ⌜ length (now block) ≡ blockBytes ⌝ }
+    requires { ⌜ i < maxRows ⌝ }
+    ensures { λ r. ⌜ r ≡ L.left (now (block .entry)) i ⌝ }
+{
+    field(block, i, 1)
+}
+
+// The right field of row i.
+pub fn right(block: &[u8], i: usize) -> usize
+    requires { ⌜ length (now block) ≡ blockBytes ⌝ }
+    requires { ⌜ i < maxRows ⌝ }
+    ensures { λ r. ⌜ r ≡ L.right (now (block .entry)) i ⌝ }
+{
+    field(block, i, 2)
+}
+
+// The team of row i, bit a for agent a.
+pub fn team(block: &[u8], i: usize) -> usize
+    requires { ⌜ length (now block) ≡ blockBytes ⌝ }
+    requires { ⌜ i < maxRows ⌝ }
+    ensures { λ r. ⌜ r ≡ L.team (now (block .entry)) i ⌝ }
+{
+    field(block, i, 3)
+}
+
+// The bound of row i on resource j.
+pub fn bound(block: &[u8], i: usize, j: usize) -> usize
+    requires { ⌜ length (now block) ≡ blockBytes ⌝ }
+    requires { ⌜ (i < maxRows) × (j < maxResources) ⌝ }
+    ensures { λ r. ⌜ r ≡ L.bound (now (block .entry)) i j ⌝ }
+{
+    field(block, i, 4 + j)
+}

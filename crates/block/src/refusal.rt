@@ -1,0 +1,42 @@
+// What is turned down, by document 01's numbers 1 to 11 in order.
+ghost use mathlib.Core.Path.{_≡_};
+ghost use Rattle.block.specs.Refusal.{numberOf};
+
+pub enum Refusal {
+    Length,
+    Sizes,
+    State,
+    Next,
+    Row,
+    Unused,
+    Form,
+    RowChoice,
+    Position,
+    WrongSide,
+    Move,
+}
+
+// The answer of a call that gives no value.
+pub enum Checked {
+    Passed,
+    Refused(Refusal),
+}
+
+// Document 01's number.
+pub fn number(r: Refusal) -> u8
+    ensures { λ n. ⌜ n ≡ numberOf r ⌝ }
+{
+    match r {
+        Refusal::Length => 1,
+        Refusal::Sizes => 2,
+        Refusal::State => 3,
+        Refusal::Next => 4,
+        Refusal::Row => 5,
+        Refusal::Unused => 6,
+        Refusal::Form => 7,
+        Refusal::RowChoice => 8,
+        Refusal::Position => 9,
+        Refusal::WrongSide => 10,
+        Refusal::Move => 11,
+    }
+}
