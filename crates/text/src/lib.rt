@@ -1,0 +1,2 @@
+// The text of a job: reader and writer.
+pub mod sizes;
