@@ -1,3 +1,4 @@
 -- Laws that belong to no one function.
 pub mod Search
 pub mod Decimals
+pub mod Numbers

@@ -1,2 +1,4 @@
 // The text of a job: reader and writer.
+mod numeral;
 pub mod sizes;
+mod step;
