@@ -2,3 +2,4 @@
 pub mod Search
 pub mod Decimals
 pub mod Numbers
+pub mod Beginnings

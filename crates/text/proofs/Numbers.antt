@@ -11,7 +11,7 @@ use native.Mathlib.Omega.{arith}
 use lib.ListN.{length, getD, drop}
 use lib.Seq.{getD-drop, drop-drop}
 use Rattle.text.specs.Numeral.{decimal, Found, found, missing, search}
-use Rattle.text.proofs.Search.{Starts, search-found, search-missing}
+use Rattle.text.proofs.Search.{search-found, search-missing}
 use Rattle.text.proofs.Decimals as D
 use Rattle.text.proofs.Decimals.{Shape, shape, only-one, begins-one, begins-two, begins-three}
 

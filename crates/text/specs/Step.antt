@@ -35,5 +35,5 @@ InsideWith t (value.At v next) = (v < 256) × (next ≤ length t)
 InsideWith t (value.Refused r) = Unit {0}
 
 abbrev pub InsideNumeral : List ℕ → Numeral → Type 0
-InsideNumeral t (numeral.Found n next) = (n < 256) × (next ≤ length t)
+InsideNumeral t (numeral.Found n next) = (n < 258) × (next ≤ length t)
 InsideNumeral t numeral.Missing = Unit {0}

@@ -2,3 +2,4 @@
 mod numeral;
 pub mod sizes;
 mod step;
+mod words;
