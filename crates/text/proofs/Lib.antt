@@ -3,3 +3,4 @@ pub mod Search
 pub mod Decimals
 pub mod Numbers
 pub mod Beginnings
+pub mod Reading

@@ -52,6 +52,10 @@ starts (x ∷ w) (y ∷ t) = go (eqb x y) refl (starts w t)
     go true e (inr h) = inr (λ s. h (tail-same s))
     go false e d = inr (λ s. eqb-false x y e (head-same s))
 
+pub search-step : (spell : ℕ → List ℕ) (n : ℕ) (t : List ℕ) → search spell (suc n) t ≡ after n (spell n) t (search spell n t)
+unfolding search
+search-step spell n t = refl
+
 module _ (spell : ℕ → List ℕ) (t : List ℕ) where
   pub search-missing : (n : ℕ) → ((m : ℕ) → m < n → Starts (spell m) t → ⊥) → search spell n t ≡ missing
   unfolding search

@@ -37,3 +37,8 @@ InsideWith t (value.Refused r) = Unit {0}
 abbrev pub InsideNumeral : List ℕ → Numeral → Type 0
 InsideNumeral t (numeral.Found n next) = (n < 258) × (next ≤ length t)
 InsideNumeral t numeral.Missing = Unit {0}
+
+-- a kind is 0 to 5
+abbrev pub KindInside : Value → Type 0
+KindInside (value.At v next) = v < 6
+KindInside (value.Refused r) = Unit {0}

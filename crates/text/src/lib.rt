@@ -1,4 +1,5 @@
 // The text of a job: reader and writer.
+mod fields;
 mod numeral;
 pub mod sizes;
 mod step;
