@@ -27,6 +27,16 @@ abbrev pub pastValue : Value → Step
 pastValue (value.At v next) = step.Next next
 pastValue (value.Refused r) = step.Refused r
 
+-- a value, or another number where there is none
+abbrev pub valueOr : ℕ → Value → ℕ
+valueOr d (value.At v next) = v
+valueOr d (value.Refused r) = d
+
+-- a value, where there is one, is from low to below limit
+abbrev pub Ranged : ℕ → ℕ → Value → Type 0
+Ranged low limit (value.At v next) = (low ≤ v) × (v < limit)
+Ranged low limit (value.Refused r) = Unit {0}
+
 -- the number found in the text, as a search finds it
 abbrev pub foundAt : List ℕ → Numeral → Found
 foundAt t (numeral.Found n next) = found n (drop next t)
@@ -44,11 +54,6 @@ InsideWith t (value.Refused r) = Unit {0}
 abbrev pub InsideNumeral : List ℕ → Numeral → Type 0
 InsideNumeral t (numeral.Found n next) = (n < 258) × (next ≤ length t)
 InsideNumeral t numeral.Missing = Unit {0}
-
--- a kind is 0 to 5
-abbrev pub KindInside : Value → Type 0
-KindInside (value.At v next) = v < 6
-KindInside (value.Refused r) = Unit {0}
 
 -- the sizes are in range
 pub record Fitting (z : Sizes) : Type 0 where

@@ -13,7 +13,7 @@ ghost use lib.ListN.{length, drop, set};
 ghost use Rattle.block.specs.Layout.{Block, blockBytes, placeOf, InLayout};
 ghost use Rattle.text.specs.Format.{Format, value, read};
 ghost use Rattle.text.specs.Job as J;
-ghost use Rattle.text.specs.Step.{resume, resumeWith, Inside, InsideWith, InsideNumeral, KindInside, foundAt};
+ghost use Rattle.text.specs.Step.{resume, resumeWith, Inside, InsideWith, InsideNumeral, Ranged, foundAt};
 ghost use Rattle.text.specs.Numeral.{search};
 
 // Past the number n and a comma, which must stand there.
@@ -59,6 +59,7 @@ pub fn field(
     requires { ⌜ (length (now job) ≡ blockBytes) × InLayout x ⌝ }
     ensures { λ r. ⌜ ((k : ℕ → Format) → read (value (J.number sep low limit refusal) x k) (now (job .entry)) (drop at (now (text .entry))) ≡ resumeWith (now (text .entry)) r (λ v rest. read (k v) (now (job .exit)) rest)) ⌝ }
     ensures { λ r. ⌜ InsideWith (now (text .entry)) r ⌝ }
+    ensures { λ r. ⌜ Ranged low limit r ⌝ }
 {
     match number(text, at, sep) {
         Numeral::Found(n, next) => {
@@ -115,7 +116,7 @@ pub fn kind(text: &[u8], at: usize, job: &mut [u8], x: Place) -> Value
     requires { ⌜ (length (now job) ≡ blockBytes) × InLayout x ⌝ }
     ensures { λ r. ⌜ ((k : ℕ → Format) → read (value J.kindSpelling x k) (now (job .entry)) (drop at (now (text .entry))) ≡ resumeWith (now (text .entry)) r (λ v rest. read (k v) (now (job .exit)) rest)) ⌝ }
     ensures { λ r. ⌜ InsideWith (now (text .entry)) r ⌝ }
-    ensures { λ r. ⌜ KindInside r ⌝ }
+    ensures { λ r. ⌜ Ranged 0 6 r ⌝ }
 {
     match kind_at(text, at) {
         Numeral::Found(k, next) => {

@@ -1,6 +1,8 @@
 // One step of reading after another: each goes on from the last, and a refusal stays.
+use crate::read::fields::bound;
 use crate::read::fields::field;
 use crate::read::fields::index;
+use crate::read::fields::kind;
 use crate::read::words::word;
 use crate::step::Step;
 use crate::step::Value;
@@ -13,7 +15,7 @@ ghost use lib.ListN.{length};
 ghost use Rattle.block.specs.Layout.{Block, blockBytes, InLayout};
 ghost use Rattle.text.specs.Format.{Format, exactly, value, read};
 ghost use Rattle.text.specs.Job as J;
-ghost use Rattle.text.specs.Step.{resume, pastValue, Inside};
+ghost use Rattle.text.specs.Step.{resume, pastValue, valueOr, Ranged, Inside};
 
 // Past the word.
 pub fn past_word(text: &[u8], at: Step, w: &[u8]) -> Step
@@ -39,7 +41,29 @@ pub fn past_index(text: &[u8], at: Step, n: usize) -> Step
     }
 }
 
-// Past a number from low to below limit, which is stored at a place of the block.
+// A number from low to below limit, stored at a place of the block.
+pub fn value_at(
+    text: &[u8],
+    at: Step,
+    job: &mut [u8],
+    x: Place,
+    sep: usize,
+    low: usize,
+    limit: usize,
+    refusal: Refusal,
+) -> Value
+    requires { ⌜ Inside (now text) at × ((0 < sep) × (sep < 48)) ⌝ }
+    requires { ⌜ (length (now job) ≡ blockBytes) × InLayout x ⌝ }
+    ensures { λ r. ⌜ ((d : ℕ) (k : ℕ → Format) → resume (now (text .entry)) at (read (value (J.number sep low limit refusal) x k) (now (job .entry))) ≡ resume (now (text .entry)) (pastValue r) (read (k (valueOr d r)) (now (job .exit)))) ⌝ }
+    ensures { λ r. ⌜ Inside (now (text .entry)) (pastValue r) × Ranged low limit r ⌝ }
+{
+    match at {
+        Step::Next(next) => field(text, next, job, x, sep, low, limit, refusal),
+        Step::Refused(r) => Value::Refused(r),
+    }
+}
+
+// Past such a number.
 pub fn past_field(
     text: &[u8],
     at: Step,
@@ -55,9 +79,31 @@ pub fn past_field(
     ensures { λ r. ⌜ ((f : Format) → resume (now (text .entry)) at (read (value (J.number sep low limit refusal) x (λ v. f)) (now (job .entry))) ≡ resume (now (text .entry)) r (read f (now (job .exit)))) ⌝ }
     ensures { λ r. ⌜ Inside (now (text .entry)) r ⌝ }
 {
+    past_value(value_at(text, at, job, x, sep, low, limit, refusal))
+}
+
+// A bound, and the kind of a row by its word.
+pub fn past_bound(text: &[u8], at: Step, job: &mut [u8], x: Place) -> Step
+    requires { ⌜ Inside (now text) at ⌝ }
+    requires { ⌜ (length (now job) ≡ blockBytes) × InLayout x ⌝ }
+    ensures { λ r. ⌜ ((f : Format) → resume (now (text .entry)) at (read (value J.bound x (λ v. f)) (now (job .entry))) ≡ resume (now (text .entry)) r (read f (now (job .exit)))) ⌝ }
+    ensures { λ r. ⌜ Inside (now (text .entry)) r ⌝ }
+{
     match at {
-        Step::Next(next) => past_value(field(text, next, job, x, sep, low, limit, refusal)),
+        Step::Next(next) => past_value(bound(text, next, job, x)),
         Step::Refused(r) => Step::Refused(r),
+    }
+}
+
+pub fn kind_at(text: &[u8], at: Step, job: &mut [u8], x: Place) -> Value
+    requires { ⌜ Inside (now text) at ⌝ }
+    requires { ⌜ (length (now job) ≡ blockBytes) × InLayout x ⌝ }
+    ensures { λ r. ⌜ ((d : ℕ) (k : ℕ → Format) → resume (now (text .entry)) at (read (value J.kindSpelling x k) (now (job .entry))) ≡ resume (now (text .entry)) (pastValue r) (read (k (valueOr d r)) (now (job .exit)))) ⌝ }
+    ensures { λ r. ⌜ Inside (now (text .entry)) (pastValue r) × Ranged 0 6 r ⌝ }
+{
+    match at {
+        Step::Next(next) => kind(text, next, job, x),
+        Step::Refused(r) => Value::Refused(r),
     }
 }
 
@@ -68,5 +114,15 @@ pub fn past_value(v: Value) -> Step
     match v {
         Value::At(_, next) => Step::Next(next),
         Value::Refused(r) => Step::Refused(r),
+    }
+}
+
+// A value, or d where there is none.
+pub fn value_or(d: usize, v: Value) -> usize
+    ensures { λ r. ⌜ r ≡ valueOr d v ⌝ }
+{
+    match v {
+        Value::At(n, _) => n,
+        Value::Refused(_) => d,
     }
 }

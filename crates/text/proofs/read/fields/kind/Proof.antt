@@ -1,5 +1,6 @@
 -- `kind` reads the word of a row and stores its kind. Assumes nothing.
 use mathlib.Core.Path.{refl}
+use borrow.Author.Needs.{zero≤}
 use native.Mathlib.Omega.{arith}
 use lib.ListN.{drop}
 use Rattle.text.specs.Job.{kindWord, kindSpelling}
@@ -39,7 +40,7 @@ returns c =
     let t = drop (g .at) (g .text .now) in
     let there = rw told at (call .0) in
     let is = search-inv kindWord t 6 _ _ there in
-    (λ k. value-next kindSpelling (g .x) k (g .job .now) t _ _ _ _ there refl refl (c .before .before .put .ensures), ((omega (arith, is .0), (rw told at (call .1)) .1), is .0))
+    (λ k. value-next kindSpelling (g .x) k (g .job .now) t _ _ _ _ there refl refl (c .before .before .put .ensures), ((omega (arith, is .0), (rw told at (call .1)) .1), (zero≤, is .0)))
 
 returns-2 : tie.Need-returns-2
 returns-2 c =
