@@ -1,3 +1,5 @@
 -- Laws that belong to no one function.
 pub mod Search
 pub mod Decimals
+pub mod Spellings
+pub mod Formats
