@@ -10,6 +10,7 @@ use mathlib.Core.List.{List, [], _∷_, _++_}
 use mathlib.Core.Logic.{_⊎_, inl, inr, ⊎-elim}
 use mathlib.Core.Path.{_≡_, refl, sym, ap, subst, _∙_}
 use Prim.Native.Nat.{ℕ, zero, suc, _+_, _-_, _*_, _%_, _≤_, _<_}
+use native.Mathlib.Nat.{le-trans}
 use native.Mathlib.Omega.{arith}
 use lib.Dec.{T, eqb}
 use lib.ListN.{length, set, length-set}
@@ -48,15 +49,15 @@ Good f b = Every (λ x p. Fits x (at b p)) f b
 abbrev pub Avoids : ℕ → Format → Block → Type 0
 Avoids n f b = Every (λ x p. placeOf p ≡ n → ⊥) f b
 
-abbrev pub Proper : ℕ → Format → Type 0
-Proper n end = Unit {0}
-Proper n (exactly w f) = Proper n f
-Proper n (value x p k) = (n ≤ turn p) × InLayout p × Clear x × ((v : ℕ) → Fits x v → Proper (suc (turn p)) (k v))
+pub data Proper : ℕ → Format → Type 0 where
+  done : {n : ℕ} → Proper n end
+  word : {n : ℕ} {w : List ℕ} {f : Format} → Proper n f → Proper n (exactly w f)
+  field : {n : ℕ} {x : Spelling} {p : Place} {k : ℕ → Format} → n ≤ turn p → InLayout p → Clear x → ((v : ℕ) → Fits x v → Proper (suc (turn p)) (k v)) → Proper n (value x p k)
 
-pub sooner : {m n : ℕ} → m ≤ n → (f : Format) → Proper n f → Proper m f
-sooner l end h = h
-sooner l (exactly w f) h = sooner l f h
-sooner l (value x p k) h = (omega (arith, h .0), h .1, h .2, h .3)
+pub sooner : {m n : ℕ} {f : Format} → m ≤ n → Proper n f → Proper m f
+sooner l done = done
+sooner l (word h) = word (sooner l h)
+sooner l (field a i c h) = field (le-trans l a) i c h
 
 -- a place is a byte of the block
 inside : (p : Place) → InLayout p → placeOf p < blockBytes
@@ -68,12 +69,12 @@ inside (Next s joint) h = omega arith
 inside (Field i f) h = omega arith
 
 -- a place whose turn has passed does not come again
-passed : (p : Place) → InLayout p → {n : ℕ} → turn p < n → (f : Format) (b : Block) → Proper n f → Good f b → Avoids (placeOf p) f b
-passed p i l end b h g = tt
-passed p i l (exactly w f) b h g = passed p i l f b h g
-passed p i {n} l (value x q k) b h g = (
-  λ e. let same : turn q ≡ turn p = ap turn (one-place q p (h .1) i e) in omega (arith, h .0),
-  passed p i (omega (arith, h .0)) (k (at b q)) b (h .3 (at b q) (g .0)) (g .1),
+passed : (p : Place) → InLayout p → {n : ℕ} (f : Format) (b : Block) → Proper n f → turn p < n → Good f b → Avoids (placeOf p) f b
+passed p i end b done l g = tt
+passed p i (exactly w f) b (word h) l g = passed p i f b h l g
+passed p i (value x q k) b (field a i′ c h) l g = (
+  λ e. let same : turn q ≡ turn p = ap turn (one-place q p i′ i e) in omega arith,
+  passed p i (k (at b q)) b (h (at b q) (g .0)) (omega arith) (g .1),
 )
 
 pub spells-good : (f : Format) (b : Block) (t : List ℕ) → Spells f b t → Good f b
@@ -81,13 +82,12 @@ spells-good end b t s = tt
 spells-good (exactly w f) b t s = spells-good f b (s .0) (s .2)
 spells-good (value x p k) b t s = ((s .0, s .1, s .2, s .3), spells-good (k (at b p)) b (s .4) (s .6))
 
-pub written : (f : Format) (b : Block) → Proper 0 f → Good f b → Spells f b (write f b)
-written end b h g = refl
-written (exactly w f) b h g = (write f b, refl, written f b h g)
-written (value x p k) b h g =
-    let m = h .2 .meant (at b p) (g .0) in
-    let next = written (k (at b p)) b (sooner (omega arith) (k (at b p)) (h .3 (at b p) (g .0))) (g .1) in
-    (x .chosen (at b p), m .0, m .1, m .2, write (k (at b p)) b, refl, next)
+pub written : {n : ℕ} (f : Format) (b : Block) → Proper n f → Good f b → Spells f b (write f b)
+written end b done g = refl
+written (exactly w f) b (word h) g = (write f b, refl, written f b h g)
+written (value x p k) b (field a i c h) g =
+    let m = c .meant (at b p) (g .0) in
+    (x .chosen (at b p), m .0, m .1, m .2, write (k (at b p)) b, refl, written (k (at b p)) b (h (at b p) (g .0)) (g .1))
 
 -- what a reading that is accepted shows
 abbrev Shown : Format → Block → Block → List ℕ → Type 0
@@ -100,10 +100,11 @@ stored : (b : Block) (p : Place) (v : ℕ) → length b ≡ blockBytes → InLay
 stored b p v l i = getD-set-same b (placeOf p) v 0 (omega (arith, inside p i))
 
 -- an accepted reading of a field: the spelling found, allowed, and the reading that goes on
-sound-value : (x : Spelling) (p : Place) (k : ℕ → Format) (b₀ b : Block) (t : List ℕ) → Proper 0 (value x p k) → length b₀ ≡ blockBytes →
-    ((v : ℕ) (b₁ : Block) (rest : List ℕ) → Proper 0 (k v) → length b₁ ≡ blockBytes → read (k v) b₁ rest ≡ accepted b → Shown (k v) b₁ b rest) →
+sound-value : (x : Spelling) (p : Place) (k : ℕ → Format) (b₀ b : Block) (t : List ℕ) → InLayout p → ((v : ℕ) → Fits x v → Proper (suc (turn p)) (k v)) →
+    length b₀ ≡ blockBytes →
+    ((v : ℕ) (b₁ : Block) (rest : List ℕ) → Proper (suc (turn p)) (k v) → length b₁ ≡ blockBytes → read (k v) b₁ rest ≡ accepted b → Shown (k v) b₁ b rest) →
     read (value x p k) b₀ t ≡ accepted b → Shown (value x p k) b₀ b t
-sound-value x p k b₀ b t h l ih = on (search (x .spell) (x .options) t) refl
+sound-value x p k b₀ b t i h l ih = on (search (x .spell) (x .options) t) refl
   where
     goes : (o : ℕ) (rest : List ℕ) (a : Bool) → x .allowed o ≡ a → search (x .spell) (x .options) t ≡ found o rest →
         cond a (read (k (x .byte o)) (store b₀ p (x .byte o)) rest) (refused (x .refusal)) ≡ accepted b → Shown (value x p k) b₀ b t
@@ -112,11 +113,11 @@ sound-value x p k b₀ b t h l ih = on (search (x .spell) (x .options) t) refl
         let is = search-inv (x .spell) t (x .options) o rest s in
         let v = x .byte o in
         let may : T (x .allowed o) = rw q tt in
-        let proper : Proper (suc (turn p)) (k v) = h .3 v (o, is .0, may, refl) in
+        let proper : Proper (suc (turn p)) (k v) = h v (o, is .0, may, refl) in
         let size : length (store b₀ p v) ≡ blockBytes = length-set b₀ (placeOf p) v ∙ l in
-        let shown = ih v (store b₀ p v) rest (sooner (omega arith) (k v) proper) size e in
-        let kept : at b p ≡ at (store b₀ p v) p = shown .2 (placeOf p) (passed p (h .1) (omega arith) (k v) b proper (spells-good (k v) b rest (shown .0))) in
-        let here : v ≡ at b p = sym (kept ∙ stored b₀ p v l (h .1)) in
+        let shown = ih v (store b₀ p v) rest proper size e in
+        let kept : at b p ≡ at (store b₀ p v) p = shown .2 (placeOf p) (passed p i (k v) b proper (omega arith) (spells-good (k v) b rest (shown .0))) in
+        let here : v ≡ at b p = sym (kept ∙ stored b₀ p v l i) in
         let spells : Spells (k (at b p)) b rest = subst (λ (u : ℕ). Spells (k u) b rest) here (shown .0) in (
           (o, is .0, may, here, rest, is .1, spells),
           shown .1,
@@ -128,19 +129,19 @@ sound-value x p k b₀ b t h l ih = on (search (x .spell) (x .options) t) refl
     on (found o rest) s e = goes o rest (x .allowed o) refl s e
     on missing s e = never Form b e
 
-pub sound : (f : Format) (b₀ b : Block) (t : List ℕ) → Proper 0 f → length b₀ ≡ blockBytes → read f b₀ t ≡ accepted b → Shown f b₀ b t
-sound end b₀ b [] h l e = let same : b₀ ≡ b = cc in (refl, rw (← same) l, λ n a. rw same)
-sound end b₀ b (x ∷ t) h l e = never Form b e
-sound (exactly w f) b₀ b t h l e = ⊎-elim (here (sound f b₀ b)) there (starts w t)
+pub sound : {n : ℕ} (f : Format) (b₀ b : Block) (t : List ℕ) → Proper n f → length b₀ ≡ blockBytes → read f b₀ t ≡ accepted b → Shown f b₀ b t
+sound end b₀ b [] done l e = let same : b₀ ≡ b = cc in (refl, rw (← same) l, λ n a. rw same)
+sound end b₀ b (x ∷ t) done l e = never Form b e
+sound (exactly w f) b₀ b t (word h) l e = ⊎-elim (here (λ r. sound f b₀ b r h l)) there (starts w t)
   where
-    here : ((r : List ℕ) → Proper 0 f → length b₀ ≡ blockBytes → read f b₀ r ≡ accepted b → Shown f b₀ b r) → Starts w t → Shown (exactly w f) b₀ b t
+    here : ((r : List ℕ) → read f b₀ r ≡ accepted b → Shown f b₀ b r) → Starts w t → Shown (exactly w f) b₀ b t
     here ih s =
-        let shown = ih (s .0) h l (rw (after-found 0 w t (s .0) missing (s .1)) at e) in
+        let shown = ih (s .0) (rw (after-found 0 w t (s .0) missing (s .1)) at e) in
         ((s .0, s .1, shown .0), shown .1, shown .2)
 
     there : (Starts w t → ⊥) → Shown (exactly w f) b₀ b t
     there q = never Form b (rw (after-other 0 w t missing q) at e)
-sound (value x p k) b₀ b t h l e = sound-value x p k b₀ b t h l (λ v b₁ rest. sound (k v) b₁ b rest) e
+sound (value x p k) b₀ b t (field a i c h) l e = sound-value x p k b₀ b t i h l (λ v b₁ rest. sound (k v) b₁ b rest) e
 
 -- the bytes of b that the format's fields do not name stand in b₀
 abbrev Ready : Format → Block → Block → Type 0
@@ -159,14 +160,12 @@ is-true : (t : Bool) → T t → t ≡ true
 is-true true h = refl
 is-true false h = absurd h
 
-pub complete : (f : Format) (b₀ b : Block) (t : List ℕ) → Proper 0 f → length b ≡ blockBytes → Ready f b₀ b → Spells f b t → read f b₀ t ≡ accepted b
-complete end b₀ b t h l r s = rw s (ap accepted (ext-getD 0 b₀ b (r .0 ∙ sym l) (λ i k. sym (r .1 i tt))))
-complete (exactly w f) b₀ b t h l r s = rw (after-found 0 w t (s .0) missing (s .1)) (complete f b₀ b (s .0) h l r (s .2))
-complete (value x p k) b₀ b t h l r s =
+pub complete : {n : ℕ} (f : Format) (b₀ b : Block) (t : List ℕ) → Proper n f → length b ≡ blockBytes → Ready f b₀ b → Spells f b t → read f b₀ t ≡ accepted b
+complete end b₀ b t done l r s = rw s (ap accepted (ext-getD 0 b₀ b (r .0 ∙ sym l) (λ i k. sym (r .1 i tt))))
+complete (exactly w f) b₀ b t (word h) l r s = rw (after-found 0 w t (s .0) missing (s .1)) (complete f b₀ b (s .0) h l r (s .2))
+complete (value x p k) b₀ b t (field a i c h) l r s =
     let o = s .0 in
     let rest = s .4 in
-    let fit : Fits x (at b p) = (o, s .1, s .2, s .3) in
-    let proper : Proper 0 (k (at b p)) = sooner (omega arith) (k (at b p)) (h .3 (at b p) fit) in
-    let only : (m : ℕ) → m < x .options → Starts (x .spell m) t → m ≡ o = λ m q w. h .2 .only t m o q (s .1) w (rest, s .5) in
+    let only : (m : ℕ) → m < x .options → Starts (x .spell m) t → m ≡ o = λ m q w. c .only t m o q (s .1) w (rest, s .5) in
     rw (search-found (x .spell) t (x .options) o rest (s .1) (s .5) only, is-true (x .allowed o) (s .2), s .3)
-    (complete (k (at b p)) (store b₀ p (at b p)) b rest proper l (ready-on x p k b₀ b (h .1) r) (s .6))
+    (complete (k (at b p)) (store b₀ p (at b p)) b rest (h (at b p) (o, s .1, s .2, s .3)) l (ready-on x p k b₀ b i r) (s .6))

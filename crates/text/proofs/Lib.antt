@@ -3,3 +3,4 @@ pub mod Search
 pub mod Decimals
 pub mod Spellings
 pub mod Formats
+pub mod Turns
