@@ -4,3 +4,4 @@ pub mod Decimals
 pub mod Spellings
 pub mod Formats
 pub mod Turns
+pub mod Everywhere
