@@ -1,22 +1,21 @@
 -- The fields of a block's text, line kind by line kind: what holds of every field of the format (Formats' Every) holds of each by its name, and the other way round.
 -- Assumes nothing.
 use mathlib.Core.Bool.{Bool, true, false, cond}
-use mathlib.Core.List.{List, [], _∷_, _++_}
-use mathlib.Core.Logic.{_⊎_, inl, inr, ⊎-elim, _↔_, Iff·rfl, Iff·symm, Iff·trans, Iff·and}
-use mathlib.Core.Path.{_≡_, refl, sym, ap, subst, _∙_}
-use Prim.Native.Nat.{ℕ, zero, suc, _+_, _-_, _*_, _^_, _≤_, _<_}
+use mathlib.Core.List.{List}
+use mathlib.Core.Logic.{⊎-elim, _↔_, Iff·rfl}
+use mathlib.Core.Path.{_≡_, refl, subst}
+use Prim.Native.Nat.{ℕ, zero, suc, _+_, _-_, _^_, _≤_, _<_}
 use native.Mathlib.Nat.{eq-or-lt-of-le}
 use native.Mathlib.Omega.{arith}
-use lib.Dec.{T, eqb, leb}
+use lib.Dec.{T, eqb}
 use lib.ListN.{set}
-use Rattle.block.specs.Layout.{Block, maxJoint, maxAgents, maxResources, maxStates, maxPropositions, maxRows, agents, resources, states, propositions, rows, count, kind, nextKind, propKind, at}
+use Rattle.block.specs.Layout.{Block, maxJoint, maxAgents, maxResources, maxStates, maxPropositions, maxRows, agents, resources, states, propositions, rows, count, kind, propKind}
 use Rattle.block.specs.declared.layout.Place.{Place}
 use Rattle.block.specs.declared.layout.Place.the-variants.{Header, Mask, Count, Cost, Next, Field}
-use Rattle.block.specs.declared.refusal.Refusal.{Refusal}
 use Rattle.block.specs.declared.refusal.Refusal.the-variants as refusal
 use Rattle.text.specs.declared.sizes.Sizes.{Sizes}
 use Rattle.text.specs.Numeral.{comma, lineEnd}
-use Rattle.text.specs.Format.{Spelling, Format, end, exactly, value}
+use Rattle.text.specs.Format.{Spelling, Format, end, value}
 use Rattle.text.specs.Job.{number, bound, kindSpelling, index, stateLine, costLimit, costEnd, costs, actions, actsLine, agentLines, possible, jointFields, goLine, goLines, noCounts, stateLines, states as allStates, strategic, binary, boundFields, teamFields, operandFields, rowLine, rowLines, size, headerLine, job}
 use Rattle.text.proofs.Formats.{Every}
 

@@ -6,14 +6,14 @@
 --     written           the text that is written for b is one of its texts
 -- Assumes nothing.
 use mathlib.Core.Bool.{Bool, true, false, cond}
-use mathlib.Core.List.{List, [], _∷_, _++_}
-use mathlib.Core.Logic.{_⊎_, inl, inr, ⊎-elim}
+use mathlib.Core.List.{List, [], _∷_}
+use mathlib.Core.Logic.{⊎-elim}
 use mathlib.Core.Path.{_≡_, refl, sym, ap, subst, _∙_}
-use Prim.Native.Nat.{ℕ, zero, suc, _+_, _-_, _*_, _%_, _≤_, _<_}
+use Prim.Native.Nat.{ℕ, suc, _+_, _-_, _*_, _%_, _≤_, _<_}
 use native.Mathlib.Nat.{le-trans}
 use native.Mathlib.Omega.{arith}
 use lib.Dec.{T, eqb}
-use lib.ListN.{length, set, length-set}
+use lib.ListN.{length, length-set}
 use lib.Seq.{getD-set-same, getD-set-other, ext-getD}
 use borrow.Author.Tests.{eqb-true, eqb-false}
 use Rattle.block.specs.Layout.{Block, blockBytes, placeOf, InLayout, byteAt, at}
@@ -22,8 +22,8 @@ use Rattle.block.specs.declared.layout.Place.the-variants.{Header, Mask, Count,
 use Rattle.block.specs.declared.refusal.Refusal.{Refusal}
 use Rattle.block.specs.declared.refusal.Refusal.the-variants.{Form}
 use Rattle.block.proofs.Places.{one-place}
-use Rattle.text.specs.Numeral.{Found, found, missing, after, search}
-use Rattle.text.specs.Format.{Spelling, Format, end, exactly, value, write, Spells, Outcome, accepted, refused, store, onFound, read}
+use Rattle.text.specs.Numeral.{Found, found, missing, search}
+use Rattle.text.specs.Format.{Spelling, Format, end, exactly, value, write, Spells, accepted, refused, store, onFound, read}
 use Rattle.text.proofs.Search.{Starts, starts, after-found, after-other, search-found, search-inv}
 use Rattle.text.proofs.Spellings.{Fits, Clear}
 
@@ -145,23 +145,23 @@ sound (value x p k) b₀ b t (field a i c h) l e = sound-value x p k b₀ b t i 
 
 -- the bytes of b that the format's fields do not name stand in b₀
 abbrev Ready : Format → Block → Block → Type 0
-Ready f b₀ b = (length b₀ ≡ blockBytes) × ((n : ℕ) → Avoids n f b → byteAt b n ≡ byteAt b₀ n)
+Ready f b₀ b = (length b₀ ≡ blockBytes) × ((n : ℕ) → n < blockBytes → Avoids n f b → byteAt b n ≡ byteAt b₀ n)
 
 ready-on : (x : Spelling) (p : Place) (k : ℕ → Format) (b₀ b : Block) → InLayout p → Ready (value x p k) b₀ b → Ready (k (at b p)) (store b₀ p (at b p)) b
-ready-on x p k b₀ b i r = (length-set b₀ (placeOf p) (at b p) ∙ r .0, λ n a. go n a (eqb n (placeOf p)) refl)
+ready-on x p k b₀ b i r = (length-set b₀ (placeOf p) (at b p) ∙ r .0, λ n l a. go n l a (eqb n (placeOf p)) refl)
   where
-    go : (n : ℕ) → Avoids n (k (at b p)) b → (t : Bool) → eqb n (placeOf p) ≡ t → byteAt b n ≡ byteAt (store b₀ p (at b p)) n
-    go n a true e = rw (eqb-true n (placeOf p) e) (sym (stored b₀ p (at b p) (r .0) i))
-    go n a false e =
+    go : (n : ℕ) → n < blockBytes → Avoids n (k (at b p)) b → (t : Bool) → eqb n (placeOf p) ≡ t → byteAt b n ≡ byteAt (store b₀ p (at b p)) n
+    go n l a true e = rw (eqb-true n (placeOf p) e) (sym (stored b₀ p (at b p) (r .0) i))
+    go n l a false e =
         let other : n ≡ placeOf p → ⊥ = eqb-false n (placeOf p) e in
-        r .1 n (λ q. other (sym q), a) ∙ sym (getD-set-other b₀ (placeOf p) n (at b p) 0 other)
+        r .1 n l (λ q. other (sym q), a) ∙ sym (getD-set-other b₀ (placeOf p) n (at b p) 0 other)
 
 is-true : (t : Bool) → T t → t ≡ true
 is-true true h = refl
 is-true false h = absurd h
 
 pub complete : {n : ℕ} (f : Format) (b₀ b : Block) (t : List ℕ) → Proper n f → length b ≡ blockBytes → Ready f b₀ b → Spells f b t → read f b₀ t ≡ accepted b
-complete end b₀ b t done l r s = rw s (ap accepted (ext-getD 0 b₀ b (r .0 ∙ sym l) (λ i k. sym (r .1 i tt))))
+complete end b₀ b t done l r s = rw s (ap accepted (ext-getD 0 b₀ b (r .0 ∙ sym l) (λ i k. sym (r .1 i (omega arith) tt))))
 complete (exactly w f) b₀ b t (word h) l r s = rw (after-found 0 w t (s .0) missing (s .1)) (complete f b₀ b (s .0) h l r (s .2))
 complete (value x p k) b₀ b t (field a i c h) l r s =
     let o = s .0 in

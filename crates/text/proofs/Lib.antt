@@ -5,3 +5,7 @@ pub mod Spellings
 pub mod Formats
 pub mod Turns
 pub mod Everywhere
+pub mod Passes
+pub mod Told
+pub mod Fitting
+pub mod Accepts

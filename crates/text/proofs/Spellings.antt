@@ -5,13 +5,14 @@
 use mathlib.Core.Bool.{Bool, true, false, cond}
 use mathlib.Core.List.{List, [], _∷_, _++_}
 use mathlib.Core.Logic.{_⊎_, inl, inr, ⊎-elim}
-use mathlib.Core.Path.{_≡_, refl, sym, ap, subst, _∙_}
-use Prim.Native.Nat.{ℕ, zero, suc, _+_, _≤_, _<_}
+use mathlib.Core.Path.{_≡_, refl, sym, _∙_}
+use Prim.Native.Nat.{ℕ, zero, suc, _≤_, _<_}
 use native.Mathlib.Omega.{arith}
 use lib.Dec.{T, ltb, leb, eqb, leb→le, le→leb, ltb→lt, lt→ltb, lit<}
 use lib.ListN.{getD}
-use borrow.Author.Tests.{lt-ltb, le-ltb, eq-eqb, ne-eqb}
+use borrow.Author.Tests.{lt-ltb, le-ltb, ne-eqb}
 use Rattle.block.specs.declared.refusal.Refusal.{Refusal}
+use Rattle.block.specs.declared.refusal.Refusal.the-variants.{Form}
 use Rattle.text.specs.Numeral.{ascii, comma, decimal}
 use Rattle.text.specs.Format.{Spelling}
 use Rattle.text.specs.Job.{both, either, number, boundField, bound, kindWord, kindSpelling}
@@ -38,30 +39,34 @@ both-right : (a b : Bool) → T (both a b) → T b
 both-right true b p = p
 both-right false b p = absurd p
 
-module _ (sep low limit : ℕ) (r : Refusal) where
-  pub number-range : {v : ℕ} → Fits (number sep low limit r) v → (low ≤ v) × (v < limit) × (v < 256)
+-- what fits does not depend on the byte after the number, nor on the refusal
+module _ (low limit : ℕ) where
+  abbrev pub FitsNumber : ℕ → Type 0
+  FitsNumber v = Fits (number comma low limit Form) v
+
+  pub number-range : {v : ℕ} → FitsNumber v → (low ≤ v) × (v < limit) × (v < 256)
   number-range f =
       let l = leb→le low (f .0) (both-left (leb low (f .0)) (ltb (f .0) limit) (f .2)) in
       let g = ltb→lt (f .0) limit (both-right (leb low (f .0)) (ltb (f .0) limit) (f .2)) in
       omega arith
 
-  pub number-fits : {v : ℕ} → low ≤ v → v < limit → v < 256 → Fits (number sep low limit r) v
+  pub number-fits : {v : ℕ} → low ≤ v → v < limit → v < 256 → FitsNumber v
   number-fits {v} l g h = (v, h, both-true (leb low v) (ltb v limit) (le→leb low v l) (lt→ltb v limit g), refl)
 
-  pub number-clear : sep < 48 → Clear (number sep low limit r)
+  pub number-clear : (sep : ℕ) (r : Refusal) → sep < 48 → Clear (number sep low limit r)
   unfolding number-fits
-  number-clear h = record {
+  number-clear sep r h = record {
     only = λ t o o′ l l′ s s′. only-one sep h o o′ l l′ t s s′;
     meant = λ v f. let g = number-range f in let n = number-fits (g .0) (g .1) (g .2) in (n .1, n .2, n .3);
   }
 
 -- a bound: the spelling that a text begins with shows in its first byte
-either-true : (a b : Bool) → T a ⊎ T b → T (either a b)
+pub either-true : (a b : Bool) → T a ⊎ T b → T (either a b)
 either-true true b p = tt
 either-true false b (inl p) = absurd p
 either-true false b (inr q) = q
 
-either-case : (a b : Bool) → T (either a b) → T a ⊎ T b
+pub either-case : (a b : Bool) → T (either a b) → T a ⊎ T b
 either-case true b p = inl p
 either-case false b p = inr p
 

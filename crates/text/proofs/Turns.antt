@@ -2,21 +2,18 @@
 -- In each law, n is a turn that has not passed, and what follows the lines is proper from the turn after theirs.
 -- Assumes nothing.
 use mathlib.Core.Bool.{Bool, true, false, cond}
-use mathlib.Core.List.{List, [], _∷_, _++_}
-use mathlib.Core.Path.{_≡_, refl}
-use Prim.Native.Nat.{ℕ, zero, suc, _+_, _*_, _^_, _≤_, _<_}
+use mathlib.Core.List.{List}
+use Prim.Native.Nat.{ℕ, zero, suc, _+_, _*_, _≤_, _<_}
 use native.Mathlib.Omega.{arith}
 use lib.Dec.{eqb, lit<}
 use lib.ListN.{set}
-use Rattle.block.specs.Layout.{placeOf, InLayout, maxJoint, maxAgents, maxResources, maxStates, maxPropositions, maxRows, propKind, digit}
+use Rattle.block.specs.Layout.{InLayout, maxJoint, maxAgents, maxResources, maxStates, maxPropositions, maxRows}
 use Rattle.block.specs.declared.layout.Place.{Place}
-use Rattle.block.specs.declared.layout.Place.the-variants.{Header, Mask, Count, Cost, Next, Field}
 use Rattle.block.specs.declared.refusal.Refusal.{Refusal}
-use Rattle.block.specs.declared.refusal.Refusal.the-variants as refusal
 use Rattle.text.specs.declared.sizes.Sizes.{Sizes}
 use Rattle.text.specs.Numeral.{comma, lineEnd}
-use Rattle.text.specs.Format.{Spelling, Format, end, exactly, value}
-use Rattle.text.specs.Job.{number, bound, kindSpelling, index, stateLine, costLimit, costEnd, costs, actions, actsLine, agentLines, possible, jointFields, goLine, goLines, noCounts, stateLines, states, strategic, binary, boundFields, teamFields, operandFields, rowLine, rowLines, size, headerLine, job}
+use Rattle.text.specs.Format.{Spelling, Format, exactly, value}
+use Rattle.text.specs.Job.{number, index, stateLine, costs, actions, actsLine, agentLines, possible, jointFields, goLine, goLines, noCounts, stateLines, states, strategic, binary, boundFields, teamFields, operandFields, rowLine, rowLines, size, headerLine, job}
 use Rattle.text.proofs.Spellings.{Fits, Clear, number-range, number-clear, bound-clear, kind-clear}
 use Rattle.text.proofs.Formats.{turn, Proper, done, word, field, sooner}
 
@@ -31,7 +28,7 @@ pub record Small (z : Sizes) : Type 0 where
 number-field : {n sep low limit : ℕ} {r : Refusal} {p : Place} {k : ℕ → Format} → sep < 48 → n ≤ turn p → InLayout p →
     ((v : ℕ) → low ≤ v → v < limit → Proper (suc (turn p)) (k v)) → Proper n (value (number sep low limit r) p k)
 number-field {sep = sep} {low = low} {limit = limit} {r = r} h l i f =
-    field l i (number-clear sep low limit r h) (λ v x. let g = number-range sep low limit r x in f v (g .0) (g .1))
+    field l i (number-clear low limit sep r h) (λ v x. let g = number-range low limit x in f v (g .0) (g .1))
 
 past : {n : ℕ} {w : List ℕ} {f : Format} → Proper n f → Proper n (exactly w f)
 past h = word h
