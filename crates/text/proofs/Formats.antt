@@ -27,7 +27,7 @@ use Rattle.text.specs.Format.{Spelling, Format, end, exactly, value, wri
 use Rattle.text.proofs.Search.{Starts, starts, after-found, after-other, search-found, search-inv}
 use Rattle.text.proofs.Spellings.{Fits, Clear}
 
--- when a place's turn comes in the text: the sizes, then state by state, then row by row
+-- when a place's turn comes in the text: the sizes, then state by state, then row by row, where the fields 0, 3, 4, 5, 1, 2 come in this order
 abbrev pub turn : Place → ℕ
 turn (Header f) = f
 turn (Mask s) = 8 + 128 * s

@@ -35,11 +35,11 @@ module _ (b : Block) (s : ℕ) where
 
   told-at : (n a : ℕ) (counts : List ℕ) (i : ℕ) → a ≤ i → i < a + n → i < length counts → getD (told b s n a counts) i 0 ≡ count b s i
   told-at zero a counts i l h g = absurd (omega arith)
-  told-at (suc n) a counts i l h g = ⊎-elim first (λ k. told-at n (suc a) now i k (omega arith) (omega (arith, length-set counts a (count b s a)))) (eq-or-lt-of-le l)
+  told-at (suc n) a counts i l h g = ⊎-elim
+      first
+      (λ k. told-at n (suc a) (set counts a (count b s a)) i k (omega arith) (omega (arith, length-set counts a (count b s a))))
+      (eq-or-lt-of-le l)
     where
-      now : List ℕ
-      now = set counts a (count b s a)
-
       first : a ≡ i → getD (told b s n (suc a) (set counts a (count b s a))) i 0 ≡ count b s i
       first e = told-before n (suc a) (set counts a (count b s a)) i (omega arith) ∙ rw (← e) (getD-set-same counts a (count b s a) 0 (omega arith))
 

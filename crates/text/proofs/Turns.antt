@@ -30,6 +30,7 @@ number-field : {n sep low limit : ℕ} {r : Refusal} {p : Place} {k : ℕ → Fo
 number-field {sep = sep} {low = low} {limit = limit} {r = r} h l i f =
     field l i (number-clear low limit sep r h) (λ v x. let g = number-range low limit x in f v (g .0) (g .1))
 
+-- Proper's constructors as functions: their arguments are then known where omega stands in them
 past : {n : ℕ} {w : List ℕ} {f : Format} → Proper n f → Proper n (exactly w f)
 past h = word h
 
