@@ -13,8 +13,7 @@ use native.Mathlib.Omega.{arith}
 use lib.Dec.{ltb}
 use lib.ListN.{length, getD, drop, List·getD-eq-default}
 use borrow.Author.Tests.{lt-ltb, le-ltb, ltb-true, ltb-false}
-use Rattle.text.specs.Numeral.{numeral, decimal}
-use Rattle.text.proofs.Search.{Starts}
+use Rattle.text.specs.Numeral.{numeral, decimal, Starts}
 
 -- one number is below another, or not
 pub lt-or-ge : (a b : ℕ) → (a < b) ⊎ (b ≤ a)

@@ -9,3 +9,6 @@ pub mod Passes
 pub mod Told
 pub mod Fitting
 pub mod Accepts
+pub mod Numbers
+pub mod Beginnings
+pub mod Reading

@@ -1,5 +1,4 @@
 -- What a search for a spelling finds (specs' after and search).
---     Starts w t        the text t begins with the word w
 --     search-found      where t begins with spelling n and with no other, it is found, with what follows
 --     search-missing    where t begins with none of them, nothing is found
 --     search-inv        what is found is there
@@ -13,10 +12,7 @@ use native.Mathlib.Nat.{eq-or-lt-of-le, le-of-suc-le-suc}
 use native.Mathlib.Omega.{arith}
 use lib.Dec.{eqb}
 use borrow.Author.Tests.{eq-eqb, eqb-true, eqb-false}
-use Rattle.text.specs.Numeral.{Found, found, missing, after, search}
-
-abbrev pub Starts : List ℕ → List ℕ → Type 0
-Starts w t = (rest : List ℕ) × (t ≡ w ++ rest)
+use Rattle.text.specs.Numeral.{Starts, Found, found, missing, after, search}
 
 after-same : (n : ℕ) (w rest : List ℕ) (other : Found) → after n w (w ++ rest) other ≡ found n rest
 unfolding after
@@ -56,6 +52,10 @@ starts (x ∷ w) (y ∷ t) = go (eqb x y) refl (starts w t)
     go true e (inr h) = inr (λ s. h (tail-same s))
     go false e d = inr (λ s. eqb-false x y e (head-same s))
 
+pub search-step : (spell : ℕ → List ℕ) (n : ℕ) (t : List ℕ) → search spell (suc n) t ≡ after n (spell n) t (search spell n t)
+unfolding search
+search-step spell n t = refl
+
 module _ (spell : ℕ → List ℕ) (t : List ℕ) where
   pub search-missing : (n : ℕ) → ((m : ℕ) → m < n → Starts (spell m) t → ⊥) → search spell n t ≡ missing
   unfolding search
@@ -89,3 +89,28 @@ module _ (spell : ℕ → List ℕ) (t : List ℕ) where
 
       there : (search spell n t ≡ found o rest → (o < n) × (t ≡ spell o ++ rest)) → (Starts (spell n) t → ⊥) → (o < suc n) × (t ≡ spell o ++ rest)
       there ih h = let r = ih (sym (after-other n (spell n) t (search spell n t) h) ∙ e) in (omega arith, r .1)
+
+  pub search-none : (n : ℕ) → search spell n t ≡ missing → (m : ℕ) → m < n → Starts (spell m) t → ⊥
+  unfolding search
+  search-none zero e m h s = omega arith
+  search-none (suc n) e m h s = ⊎-elim here (there (search-none n)) (starts (spell n) t)
+    where
+      here : Starts (spell n) t → ⊥
+      here q =
+          let is : found n (q .0) ≡ missing = sym (after-found n (spell n) t (q .0) (search spell n t) (q .1)) ∙ e in
+          let z : _≡_ {A = ℕ} 0 1 = cc in omega arith
+
+      there : (search spell n t ≡ missing → (m : ℕ) → m < n → Starts (spell m) t → ⊥) → (Starts (spell n) t → ⊥) → ⊥
+      there ih q =
+          ⊎-elim (λ (w : m ≡ n). q (subst (λ (k : ℕ). Starts (spell k) t) w s))
+          (λ l. ih (sym (after-other n (spell n) t (search spell n t) q) ∙ e) m l s)
+          (eq-or-lt-of-le (le-of-suc-le-suc h))
+
+-- the search depends on the spellings alone
+pub search-same : (spell other : ℕ → List ℕ) (t : List ℕ) (n : ℕ) → ((m : ℕ) → m < n → spell m ≡ other m) → search spell n t ≡ search other n t
+unfolding search
+search-same spell other t zero h = refl
+search-same spell other t (suc n) h =
+    let last : spell n ≡ other n = h n (omega arith) in
+    let rest : search spell n t ≡ search other n t = search-same spell other t n (λ m l. h m (omega arith)) in
+    (cc)

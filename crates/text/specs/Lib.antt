@@ -3,3 +3,4 @@ pub mod Numeral
 pub mod Format
 pub mod Job
 pub mod Text
+pub mod Step

@@ -1,6 +1,7 @@
 -- Bytes of the text: words, numbers, and what follows a word.
 use mathlib.Core.Bool.{Bool, true, false, cond}
-use mathlib.Core.List.{List, [], _∷_}
+use mathlib.Core.List.{List, [], _∷_, _++_}
+use mathlib.Core.Path.{_≡_}
 use Prim.Native.Nat.{ℕ, zero, suc, _+_, _/_, _%_}
 use Prim.Native.Char.{Char, code}
 use Prim.Native.String.{String}
@@ -27,6 +28,10 @@ decimal n =
     cond (ltb n 10) (numeral n ∷ [])
     (cond (ltb n 100) (numeral (n / 10) ∷ numeral (n % 10) ∷ [])
     (numeral (n / 100) ∷ numeral (n / 10 % 10) ∷ numeral (n % 10) ∷ []))
+
+-- the text t begins with the word w
+abbrev pub Starts : List ℕ → List ℕ → Type 0
+Starts w t = (rest : List ℕ) × (t ≡ w ++ rest)
 
 -- what a search in a text found: which of several spellings it begins with, and what follows
 pub data Found : Type 0 where
