@@ -22,9 +22,9 @@ use Rattle.block.specs.declared.layout.Place.the-variants.{Header, Mask, Count,
 use Rattle.block.specs.declared.refusal.Refusal.{Refusal}
 use Rattle.block.specs.declared.refusal.Refusal.the-variants.{Form}
 use Rattle.block.proofs.Places.{one-place}
-use Rattle.text.specs.Numeral.{Found, found, missing, search}
+use Rattle.text.specs.Numeral.{Starts, Found, found, missing, search}
 use Rattle.text.specs.Format.{Spelling, Format, end, exactly, value, write, Spells, accepted, refused, store, onFound, read}
-use Rattle.text.proofs.Search.{Starts, starts, after-found, after-other, search-found, search-inv}
+use Rattle.text.proofs.Search.{starts, after-found, after-other, search-found, search-inv}
 use Rattle.text.proofs.Spellings.{Fits, Clear}
 
 -- when a place's turn comes in the text: the sizes, then state by state, then row by row, where the fields 0, 3, 4, 5, 1, 2 come in this order

@@ -13,10 +13,9 @@ use lib.ListN.{getD}
 use borrow.Author.Tests.{lt-ltb, le-ltb, ne-eqb}
 use Rattle.block.specs.declared.refusal.Refusal.{Refusal}
 use Rattle.block.specs.declared.refusal.Refusal.the-variants.{Form}
-use Rattle.text.specs.Numeral.{ascii, comma, decimal}
+use Rattle.text.specs.Numeral.{ascii, comma, decimal, Starts}
 use Rattle.text.specs.Format.{Spelling}
 use Rattle.text.specs.Job.{both, either, number, boundField, bound, kindWord, kindSpelling}
-use Rattle.text.proofs.Search.{Starts}
 use Rattle.text.proofs.Decimals.{lt-or-ge, shape, Shape, one, two, three, only-one}
 
 abbrev pub Fits : Spelling → ℕ → Type 0
