@@ -14,6 +14,9 @@ use Rattle.block.specs.declared.refusal.Refusal.the-variants.{Form}
 use Rattle.text.specs.Numeral.{ascii, comma, decimal, Starts, Found, found, missing, after, search}
 use Rattle.text.specs.Format.{Spelling, Format, exactly, value, Outcome, refused, store, onFound, read}
 use Rattle.text.specs.Job.{both, either, number, bound, boundField, kindWord, index}
+use Rattle.text.specs.Step.{resume, resumeWith, pastValue, Inside, InsideWith}
+use Rattle.text.specs.declared.step.Value.{Value}
+use Rattle.text.specs.declared.step.Value.the-variants as value-at
 use Rattle.text.proofs.Search.{after-found, after-other, search-step, search-same}
 
 module _ (n : ℕ) (t : List ℕ) (f : Format) (b : Block) where
@@ -87,3 +90,12 @@ byte-none h = simp (le-ltb _ _ h)
 
 pub bound-large : {o : ℕ} → 16 ≤ o → o < 256 → either (ltb o 16) (leb 256 o) ≡ false
 bound-large l h = simp (le-ltb _ _ l, lt-leb _ _ h)
+
+-- past a value, reading goes on from the step past it
+pub past-law : (t : List ℕ) (v : Value) (g : List ℕ → Outcome) → resumeWith t v (λ n rest. g rest) ≡ resume t (pastValue v) g
+past-law t (value-at.At n next) g = refl
+past-law t (value-at.Refused r) g = refl
+
+pub past-inside : (t : List ℕ) (v : Value) → InsideWith t v → Inside t (pastValue v)
+past-inside t (value-at.At n next) h = h .1
+past-inside t (value-at.Refused r) h = tt

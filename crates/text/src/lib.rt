@@ -1,6 +1,4 @@
 // The text of a job: reader and writer.
-mod fields;
-mod numeral;
+mod read;
 pub mod sizes;
 mod step;
-mod words;
