@@ -12,3 +12,4 @@ pub mod Accepts
 pub mod Numbers
 pub mod Beginnings
 pub mod Reading
+pub mod Loops
