@@ -13,3 +13,4 @@ pub mod Numbers
 pub mod Beginnings
 pub mod Reading
 pub mod Loops
+pub mod Repeats

@@ -1,4 +1,6 @@
 // Reading a text into a block.
+mod actions;
+mod agents;
 mod fields;
 mod numeral;
 mod steps;

@@ -1,0 +1,41 @@
+-- The repeated parts of a job's text (specs' Job), each as a loop and its body.
+-- Assumes nothing.
+use mathlib.Core.Bool.{cond}
+use mathlib.Core.List.{List}
+use mathlib.Core.Path.{refl}
+use Prim.Native.Nat.{ℕ, _+_}
+use Rattle.block.specs.Layout.{digit}
+use Rattle.block.specs.declared.layout.Place.the-variants.{Cost, Field}
+use Rattle.block.specs.declared.refusal.Refusal.the-variants as refusal
+use Rattle.text.specs.declared.sizes.Sizes.{Sizes}
+use Rattle.text.specs.Format.{Format, value}
+use Rattle.text.specs.Job.{number, bound, index, costEnd, costLimit, costs, actions, possible, jointFields, goLine, goLines, stateLines, states, boundFields, rowLine, rowLines}
+use Rattle.text.proofs.Loops.{Loop}
+
+pub costs-loop : (s a n k : ℕ) → Loop (costs s a n k) (λ left j f. value (number (costEnd (n + left)) 0 (costLimit k) refusal.State) (Cost s a k j) (λ v. f))
+unfolding costs
+costs-loop s a n k = record { done = λ j f. refl; more = λ m j f. refl }
+
+pub actions-loop : (z : Sizes) (s a : ℕ) → Loop (actions z s a) (λ left k f. costs s a left k (z .resources) 0 f)
+unfolding actions
+actions-loop z s a = record { done = λ j f. refl; more = λ m j f. refl }
+
+pub joint-loop : (joint : ℕ) → Loop (jointFields joint) (λ left a f. index (digit joint a) f)
+unfolding jointFields
+joint-loop joint = record { done = λ j f. refl; more = λ m j f. refl }
+
+pub go-loop : (z : Sizes) (s : ℕ) (counts : List ℕ) → Loop (goLines z s counts) (λ left joint f. cond (possible counts joint) (goLine z s joint f) f)
+unfolding goLines
+go-loop z s counts = record { done = λ j f. refl; more = λ m j f. refl }
+
+pub states-loop : (z : Sizes) → Loop (states z) (λ left s f. stateLines z s f)
+unfolding states
+states-loop z = record { done = λ j f. refl; more = λ m j f. refl }
+
+pub bounds-loop : (i : ℕ) → Loop (boundFields i) (λ left j f. value bound (Field i (4 + j)) (λ v. f))
+unfolding boundFields
+bounds-loop i = record { done = λ j f. refl; more = λ m j f. refl }
+
+pub rows-loop : (z : Sizes) → Loop (rowLines z) (λ left i f. rowLine z i f)
+unfolding rowLines
+rows-loop z = record { done = λ j f. refl; more = λ m j f. refl }
