@@ -2,6 +2,7 @@
 mod actions;
 mod agents;
 mod fields;
+mod gos;
 mod numeral;
 mod steps;
 mod words;
