@@ -4,5 +4,6 @@ mod agents;
 mod fields;
 mod gos;
 mod numeral;
+mod states;
 mod steps;
 mod words;
