@@ -4,6 +4,7 @@ mod agents;
 mod fields;
 mod gos;
 mod numeral;
+mod rows;
 mod states;
 mod steps;
 mod words;
