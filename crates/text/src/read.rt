@@ -3,6 +3,7 @@ mod actions;
 mod agents;
 mod fields;
 mod gos;
+mod header;
 mod numeral;
 mod rows;
 mod states;

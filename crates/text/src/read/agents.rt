@@ -7,6 +7,7 @@ use crate::read::steps::value_at;
 use crate::read::steps::value_or;
 use crate::sizes::Sizes;
 use crate::step::Step;
+use crate::step::Valued;
 use block::layout::Place;
 use block::refusal::Refusal;
 ghost use mathlib.Core.List.{List};
@@ -19,15 +20,10 @@ ghost use Rattle.text.specs.Job as J;
 ghost use Rattle.text.specs.Step.{resume, Inside, Fitting};
 
 // How many actions an agent has, and the step past its line.
-pub struct Agent {
-    pub count: usize,
-    pub next: Step,
-}
-
-pub fn acts(text: &[u8], at: Step, job: &mut [u8], z: Sizes, s: usize, a: usize) -> Agent
+pub fn acts(text: &[u8], at: Step, job: &mut [u8], z: Sizes, s: usize, a: usize) -> Valued
     requires { ⌜ Inside (now text) at × (length (now job) ≡ blockBytes) ⌝ }
     requires { ⌜ Fitting z × ((s < maxStates) × (a < maxAgents)) ⌝ }
-    ensures { λ r. ⌜ ((f : ℕ → Format) → resume (now (text .entry)) at (read (J.actsLine z s a f) (now (job .entry))) ≡ resume (now (text .entry)) (r .next) (read (f (r .count)) (now (job .exit)))) ⌝ }
+    ensures { λ r. ⌜ ((f : ℕ → Format) → resume (now (text .entry)) at (read (J.actsLine z s a f) (now (job .entry))) ≡ resume (now (text .entry)) (r .next) (read (f (r .value)) (now (job .exit)))) ⌝ }
     ensures { λ r. ⌜ Inside (now (text .entry)) (r .next) ⌝ }
 {
     let named = past_word(text, at, b"acts,");
@@ -43,7 +39,7 @@ pub fn acts(text: &[u8], at: Step, job: &mut [u8], z: Sizes, s: usize, a: usize)
         5,
         Refusal::State,
     );
-    let count = value_or(1, v);
-    let next = actions(text, past_value(v), job, z, s, a, count);
-    Agent { count, next }
+    let value = value_or(1, v);
+    let next = actions(text, past_value(v), job, z, s, a, value);
+    Valued { value, next }
 }

@@ -50,7 +50,7 @@ fn moves(text: &[u8], at: Step, job: &mut [u8], z: Sizes, s: usize) -> Step
     let mut a = 0;
     while a < z.agents {
         let agent = acts(text, next, job, z, s, a);
-        counts[a] = agent.count;
+        counts[a] = agent.value;
         next = agent.next;
         a += 1;
     }

@@ -42,7 +42,7 @@ loop-again : tie.Need-loop-again Inv-loop μ-loop
 loop-again c =
     let inv = c .before .before .before .before .before .before .loop .inv in
     let call = c .before .before .acts in
-    (call .ensures .1, call .kept .1 .1 .0 ∙ inv .1, omega arith, length-set (c .before .before .before .before .before .before .loop .counts) (c .before .before .before .before .before .before .loop .a) (call .result .count) ∙ inv .3, acted-more (inv .4) (call .result .count) (c .before .before .before .before .if1 .taken) (call .ensures .0))
+    (call .ensures .1, call .kept .1 .1 .0 ∙ inv .1, omega arith, length-set (c .before .before .before .before .before .before .loop .counts) (c .before .before .before .before .before .before .loop .a) (call .result .value) ∙ inv .3, acted-more (inv .4) (call .result .value) (c .before .before .before .before .if1 .taken) (call .ensures .0))
 
 gos-requires : tie.Need-gos-requires Inv-loop μ-loop
 gos-requires c κs =
