@@ -1,10 +1,21 @@
 -- The number that a C caller is handed back: a value from 0, or minus document 01's number of a refusal.
+use mathlib.Core.List.{List}
 use mathlib.Core.Path.{_≡_}
 use Prim.Native.Nat.{ℕ}
 use lib.IntN.{ℤ, pos, negℤ}
 use Rattle.block.specs.Layout.{Block}
+use Rattle.block.specs.Refusal.{answerOf}
 use Rattle.block.specs.Check.{Verdict}
+use Rattle.text.specs.Text.{readCall, answerTo}
+
+-- minus the number of a refusal, and 0 for none
+abbrev pub minus : ℕ → ℤ
+minus n = negℤ (pos n)
 
 -- r is 0 where the block passes, or minus the number of its refusal
 abbrev pub CheckAnswer : Block → ℤ → Type 0
-CheckAnswer b r = (n : ℕ) × Verdict b n × (r ≡ negℤ (pos n))
+CheckAnswer b r = (n : ℕ) × Verdict b n × (r ≡ minus n)
+
+-- what the read call answers
+abbrev pub readAnswer : List ℕ → Block → ℤ
+readAnswer t b = minus (answerOf (answerTo (readCall t b)))
