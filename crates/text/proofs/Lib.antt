@@ -14,3 +14,4 @@ pub mod Beginnings
 pub mod Reading
 pub mod Loops
 pub mod Repeats
+pub mod Writing

@@ -2,3 +2,4 @@
 mod read;
 pub mod sizes;
 mod step;
+mod write;

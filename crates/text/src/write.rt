@@ -1,0 +1,2 @@
+// Writing the text of a block.
+mod bytes;
