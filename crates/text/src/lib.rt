@@ -2,4 +2,4 @@
 mod read;
 pub mod sizes;
 mod step;
-mod write;
+mod writer;

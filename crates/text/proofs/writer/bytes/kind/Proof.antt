@@ -3,8 +3,8 @@ use mathlib.Core.Path.{_≡_}
 use native.Mathlib.Omega.{arith}
 use Rattle.text.specs.Job.{kindWord}
 use borrow.Author.Needs.{needs}
-use Rattle.text.proofs.write.bytes.kind.Statement.{statement}
-use Rattle.text.proofs.write.bytes.kind.Tie as tie
+use Rattle.text.proofs.writer.bytes.kind.Statement.{statement}
+use Rattle.text.proofs.writer.bytes.kind.Tie as tie
 
 slice-aggregate-word : tie.Need-slice-aggregate-word
 slice-aggregate-word c = search needs

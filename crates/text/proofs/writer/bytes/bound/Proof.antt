@@ -3,8 +3,8 @@ use native.Mathlib.Omega.{arith}
 use Rattle.text.specs.Job.{boundField}
 use Rattle.text.proofs.Writing.{bound-number}
 use borrow.Author.Needs.{needs}
-use Rattle.text.proofs.write.bytes.bound.Statement.{statement}
-use Rattle.text.proofs.write.bytes.bound.Tie as tie
+use Rattle.text.proofs.writer.bytes.bound.Statement.{statement}
+use Rattle.text.proofs.writer.bytes.bound.Tie as tie
 
 slice-aggregate-word : tie.Need-slice-aggregate-word
 slice-aggregate-word c = search needs

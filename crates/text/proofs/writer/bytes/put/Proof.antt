@@ -2,8 +2,8 @@
 use mathlib.Core.Path.{refl}
 use Rattle.text.proofs.Writing.{byte-added}
 use borrow.Author.Needs.{needs}
-use Rattle.text.proofs.write.bytes.put.Statement.{statement}
-use Rattle.text.proofs.write.bytes.put.Tie as tie
+use Rattle.text.proofs.writer.bytes.put.Statement.{statement}
+use Rattle.text.proofs.writer.bytes.put.Tie as tie
 
 slice-write-text : tie.Need-slice-write-text
 slice-write-text c = search needs

@@ -3,8 +3,8 @@ use mathlib.Core.List.{append-assoc}
 use mathlib.Core.Path.{_∙_}
 use native.Mathlib.Omega.{arith}
 use borrow.Author.Needs.{needs}
-use Rattle.text.proofs.write.bytes.number.Statement.{statement}
-use Rattle.text.proofs.write.bytes.number.Tie as tie
+use Rattle.text.proofs.writer.bytes.number.Statement.{statement}
+use Rattle.text.proofs.writer.bytes.number.Tie as tie
 
 digits-requires : tie.Need-digits-requires
 digits-requires c κs = search needs

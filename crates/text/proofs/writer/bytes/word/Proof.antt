@@ -1,11 +1,11 @@
 -- `word` stores the bytes of a word from the left. Assumes nothing.
 use mathlib.Core.Path.{_≡_, refl}
-use Prim.Native.Nat.{_+_, _-_, _≤_}
+use Prim.Native.Nat.{_-_, _≤_}
 use native.Mathlib.Omega.{arith}
 use lib.ListN.{length, length-set}
 use Rattle.text.proofs.Writing.{Begun, begun-none, begun-more, begun-all}
-use Rattle.text.proofs.write.bytes.word.Statement.{statement}
-use Rattle.text.proofs.write.bytes.word.Tie as tie
+use Rattle.text.proofs.writer.bytes.word.Statement.{statement}
+use Rattle.text.proofs.writer.bytes.word.Tie as tie
 
 abbrev Inv-loop : tie.InvT-loop
 Inv-loop text₀ at w i₀ text i = (i ≤ length w) × ((length text ≡ length text₀) × Begun w text₀ at text i)
