@@ -1,2 +1,3 @@
 // Writing the text of a block.
+mod agents;
 mod bytes;
