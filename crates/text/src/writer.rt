@@ -1,3 +1,4 @@
 // Writing the text of a block.
 mod agents;
 mod bytes;
+mod states;
