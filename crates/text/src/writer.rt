@@ -1,4 +1,5 @@
 // Writing the text of a block.
 mod agents;
 mod bytes;
+mod rows;
 mod states;
