@@ -15,3 +15,4 @@ pub mod Reading
 pub mod Loops
 pub mod Repeats
 pub mod Writing
+pub mod Calls

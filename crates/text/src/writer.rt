@@ -1,5 +1,6 @@
 // Writing the text of a block.
 mod agents;
 mod bytes;
+pub mod job;
 mod rows;
 mod states;
