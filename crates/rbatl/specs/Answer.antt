@@ -6,9 +6,10 @@ use lib.IntN.{ℤ, pos, negℤ}
 use Rattle.block.specs.Layout.{Block}
 use Rattle.block.specs.Refusal.{numberOf, answerOf}
 use Rattle.block.specs.Check.{Verdict}
-use Rattle.text.specs.Text.{readCall, answerTo, WriteCall}
-use Rattle.text.specs.declared.written.Written.{Written}
-use Rattle.text.specs.declared.written.Written.the-variants as written
+use Rattle.text.specs.Text.{readCall, answerTo}
+use Rattle.writer.specs.Call.{WriteCall}
+use Rattle.writer.specs.declared.written.Written.{Written}
+use Rattle.writer.specs.declared.written.Written.the-variants as written
 
 -- minus the number of a refusal, and 0 for none
 abbrev pub minus : ℕ → ℤ

@@ -1,7 +1,7 @@
 // The C library: each call of document 01 under its C name, and nothing else. include/rbatl.h is its header.
 use block::refusal::Checked;
 use block::refusal::Refusal;
-use text::written::Written;
+use writer::written::Written;
 ghost use mathlib.Core.Path.{_≡_};
 ghost use Rattle.block.specs.Refusal.{numberOf, answerOf};
 ghost use Rattle.text.specs.Text.{readCall, blockAfter, Exact};
@@ -48,14 +48,14 @@ pub extern "C" fn rbatl_read(text: &[u8], block: &mut [u8]) -> i32
     ensures { λ _. ⌜ now (block .exit) ≡ blockAfter (now (block .entry)) (readCall (now (text .entry)) (now (block .entry))) ⌝ }
     ensures { λ _. ⌜ Exact (now (text .entry)) ⌝ }
 {
-    answer(text::read(text, block))
+    answer(reader::read(text, block))
 }
 
 #[no_mangle]
 pub extern "C" fn rbatl_write(block: &[u8], text: &mut [u8]) -> i32
     ensures { λ r. ⌜ WriteAnswer (now (block .entry)) (now (text .entry)) (now (text .exit)) r ⌝ }
 {
-    match text::write(block, text) {
+    match writer::write(block, text) {
         Written::Length(n) => n as i32,
         Written::Refused(r) => refused(r),
     }

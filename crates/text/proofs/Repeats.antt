@@ -2,21 +2,15 @@
 -- Assumes nothing.
 use mathlib.Core.Bool.{cond}
 use mathlib.Core.List.{List}
-use mathlib.Core.Path.{_≡_, refl, ap, _∙_}
-use Prim.Native.Nat.{ℕ, _+_, _-_, _≤_, _<_}
-use native.Mathlib.Nat.{sub-zero}
-use native.Mathlib.Numerals.{add-one}
-use native.Mathlib.Omega.{arith}
-use lib.ListN.{set}
-use Rattle.block.specs.Layout.{Block, digit}
+use mathlib.Core.Path.{refl}
+use Prim.Native.Nat.{ℕ, _+_}
+use Rattle.block.specs.Layout.{digit}
 use Rattle.block.specs.declared.layout.Place.the-variants.{Cost, Field}
 use Rattle.block.specs.declared.refusal.Refusal.the-variants as refusal
 use Rattle.text.specs.declared.sizes.Sizes.{Sizes}
-use Rattle.text.specs.Format.{Format, value, read}
-use Rattle.text.specs.Job.{number, bound, index, costEnd, costLimit, costs, actions, actsLine, agentLines, noCounts, possible, jointFields, goLine, goLines, stateLines, states, boundFields, rowLine, rowLines}
-use Rattle.text.specs.Step.{resume}
-use Rattle.text.specs.declared.step.Step.{Step}
-use Rattle.text.proofs.Loops.{Loop, left-more}
+use Rattle.text.specs.Format.{Format, value}
+use Rattle.text.specs.Job.{number, bound, index, costEnd, costLimit, costs, actions, possible, jointFields, goLine, goLines, stateLines, states, boundFields, rowLine, rowLines}
+use Rattle.text.proofs.Loops.{Loop}
 
 pub costs-loop : (s a n k : ℕ) → Loop (costs s a n k) (λ left j f. value (number (costEnd (n + left)) 0 (costLimit k) refusal.State) (Cost s a k j) (λ v. f))
 unfolding costs
@@ -45,29 +39,3 @@ bounds-loop i = record { done = λ j f. refl; more = λ m j f. refl }
 pub rows-loop : (z : Sizes) → Loop (rowLines z) (λ left i f. rowLine z i f)
 unfolding rowLines
 rows-loop z = record { done = λ j f. refl; more = λ m j f. refl }
-
--- the reader has read a agents' lines and has their counts
-pub record Acted (z : Sizes) (s : ℕ) (text : List ℕ) (at : Step) (b₀ : Block) (next : Step) (b : Block) (counts : List ℕ) (a : ℕ) : Type 0 where
-  pub so : (f : List ℕ → Format) → resume text at (read (agentLines z s (z .agents) 0 noCounts f) b₀) ≡ resume text next (read (agentLines z s (z .agents - a) a counts f) b)
-
-pub acted-none : {z : Sizes} {s : ℕ} {text : List ℕ} {at : Step} {b₀ : Block} → Acted z s text at b₀ at b₀ noCounts 0
-acted-none = record { so = λ f. rw sub-zero }
-
-agents-turn : (z : Sizes) (s a : ℕ) (counts : List ℕ) (f : List ℕ → Format) → a < z .agents → agentLines z s (z .agents - a) a counts f ≡ actsLine z s a (λ n. agentLines z s (z .agents - (a + 1)) (a + 1) (set counts a n) f)
-unfolding agentLines
-agents-turn z s a counts f h = rw (left-more (z .agents) a h, add-one a)
-
-module _ {z : Sizes} {s a : ℕ} {text counts : List ℕ} {at next : Step} {b₀ b : Block} (r : Acted z s text at b₀ next b counts a) where
-  pub acted-more : {after : Step} {b′ : Block} (n : ℕ) → a < z .agents → ((f : ℕ → Format) → resume text next (read (actsLine z s a f) b) ≡ resume text after (read (f n) b′)) → Acted z s text at b₀ after b′ (set counts a n) (a + 1)
-  acted-more n h body = record {
-    so = λ f.
-        r .so f
-        ∙ ap (λ (g : Format). resume text next (read g b)) (agents-turn z s a counts f h)
-        ∙ body (λ m. agentLines z s (z .agents - (a + 1)) (a + 1) (set counts a m) f);
-  }
-
-  pub acted-all : z .agents ≤ a → (f : List ℕ → Format) → resume text at (read (agentLines z s (z .agents) 0 noCounts f) b₀) ≡ resume text next (read (f counts) b)
-  unfolding agentLines
-  acted-all h f =
-      let none : z .agents - a ≡ 0 = omega arith in
-      r .so f ∙ ap (λ (m : ℕ). resume text next (read (agentLines z s m a counts f) b)) none

@@ -8,7 +8,7 @@ use mir.Facts.{toZ-ofZ}
 use mir.Syntax.{w32}
 use mir.Val.{SFits}
 use Rattle.text.specs.Text.{textBytes}
-use Rattle.text.specs.declared.written.Written.the-variants as written
+use Rattle.writer.specs.declared.written.Written.the-variants as written
 use borrow.Author.Needs.{needs}
 use Rattle.rbatl.proofs.rbatl_write.Statement.{statement}
 use Rattle.rbatl.proofs.rbatl_write.Tie as tie
