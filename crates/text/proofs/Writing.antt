@@ -15,7 +15,7 @@ use Rattle.text.specs.declared.sizes.Sizes.{Sizes}
 use Rattle.text.specs.Numeral.{comma, decimal}
 use Rattle.text.specs.Format.{Format, write}
 use Rattle.text.specs.Job.{bound, boundField, actsLine, agentLines, noCounts}
-use Rattle.text.specs.Writing.{Adds, Past, countsTo}
+use Rattle.text.specs.Writing.{Adds, Past, PastWith, countsTo}
 use Rattle.text.proofs.Loops.{Loop, left-more, turn, finish}
 
 -- a byte stored at a place
@@ -39,23 +39,23 @@ module _ {w t u : List ℕ} {place i : ℕ} (b : Begun w t place u i) where
   begun-all h rest = rw (b .so, take-all i w h, append-assoc) refl
 
 -- the writer's loop has written j turns
-pub record Written (loop : ℕ → ℕ → Format → Format) (count : ℕ) (b : Block) (t : List ℕ) (place : ℕ) (u : List ℕ) (next j : ℕ) : Type 0 where
+pub record Looped (loop : ℕ → ℕ → Format → Format) (count : ℕ) (b : Block) (t : List ℕ) (place : ℕ) (u : List ℕ) (next j : ℕ) : Type 0 where
   pub so : (f : Format) → take next u ++ write (loop (count - j) j f) b ≡ take place t ++ write (loop count 0 f) b
 
-pub written-none : {loop : ℕ → ℕ → Format → Format} {count : ℕ} {b : Block} {t : List ℕ} {place : ℕ} → Written loop count b t place t place 0
-written-none = record { so = λ f. rw sub-zero }
+pub looped-none : {loop : ℕ → ℕ → Format → Format} {count : ℕ} {b : Block} {t : List ℕ} {place : ℕ} → Looped loop count b t place t place 0
+looped-none = record { so = λ f. rw sub-zero }
 
-module _ {loop body : ℕ → ℕ → Format → Format} {count j : ℕ} {b : Block} {t u : List ℕ} {place next : ℕ} (l : Loop loop body) (r : Written loop count b t place u next j) where
-  pub written-more : {v : List ℕ} {after : ℕ} → j < count → Past b (body (count - (j + 1)) j) u next v after → Written loop count b t place v after (j + 1)
-  written-more {v} {after} h p = record {
+module _ {loop body : ℕ → ℕ → Format → Format} {count j : ℕ} {b : Block} {t u : List ℕ} {place next : ℕ} (l : Loop loop body) (r : Looped loop count b t place u next j) where
+  pub looped-more : {v : List ℕ} {after : ℕ} → j < count → Past b (body (count - (j + 1)) j) u next v after → Looped loop count b t place v after (j + 1)
+  looped-more {v} {after} h p = record {
     so = λ f.
         p (loop (count - (j + 1)) (j + 1) f)
         ∙ ap (λ (g : Format). take next u ++ write g b) (sym (turn l count j f h))
         ∙ r .so f;
   }
 
-  pub written-all : count ≤ j → Past b (loop count 0) t place u next
-  written-all h f = ap (λ (g : Format). take next u ++ write g b) (sym (finish l count j f h)) ∙ r .so f
+  pub looped-all : count ≤ j → Past b (loop count 0) t place u next
+  looped-all h f = ap (λ (g : Format). take next u ++ write g b) (sym (finish l count j f h)) ∙ r .so f
 
 -- a bound that is not unlimited is written as a number
 pub bound-number : (v : ℕ) → v < 256 → (v ≡ unlimited → ⊥) → bound .spell (bound .chosen v) ≡ decimal v ++ comma ∷ []
@@ -78,7 +78,7 @@ unfolding agentLines
 agents-done z s count a counts f h = let none : count - a ≡ 0 = omega arith in rw none refl
 
 module _ {z : Sizes} {s count a : ℕ} {b : Block} {t u : List ℕ} {place next : ℕ} (r : Acted z s count b t place u next a) where
-  pub acted-more : {v : List ℕ} {after : ℕ} → a < count → ((f : ℕ → Format) → take after v ++ write (f (L.count b s a)) b ≡ take next u ++ write (actsLine z s a f) b) → Acted z s count b t place v after (a + 1)
+  pub acted-more : {v : List ℕ} {after : ℕ} → a < count → PastWith b (actsLine z s a) (L.count b s a) u next v after → Acted z s count b t place v after (a + 1)
   acted-more {v} {after} h p = record {
     so = λ f. rw (add-one a) (
         p (λ c. agentLines z s (count - suc a) (suc a) (set (countsTo b s a) a c) f)
@@ -86,7 +86,7 @@ module _ {z : Sizes} {s count a : ℕ} {b : Block} {t u : List ℕ} {place next 
         ∙ r .so f);
   }
 
-  pub acted-all : count ≡ a → (f : List ℕ → Format) → take next u ++ write (f (countsTo b s count)) b ≡ take place t ++ write (agentLines z s count 0 noCounts f) b
+  pub acted-all : count ≡ a → PastWith b (agentLines z s count 0 noCounts) (countsTo b s count) t place u next
   acted-all e f =
       ap (λ (n : ℕ). take next u ++ write (f (countsTo b s n)) b) e
       ∙ ap (λ (g : Format). take next u ++ write g b) (sym (agents-done z s count a (countsTo b s a) f (omega arith)))

@@ -18,7 +18,11 @@ Adds w t place u next = (rest : List ℕ) → take next u ++ rest ≡ take place
 abbrev pub Past : Block → (Format → Format) → List ℕ → ℕ → List ℕ → ℕ → Type 0
 Past b part t place u next = (f : Format) → take next u ++ write f b ≡ take place t ++ write (part f) b
 
--- the writer's buffer has room up to a place, and a byte to spare
+-- the same where what follows depends on a value v
+abbrev pub PastWith : {A : Type 0} → Block → ((A → Format) → Format) → A → List ℕ → ℕ → List ℕ → ℕ → Type 0
+PastWith {A} b part v t place u next = (f : A → Format) → take next u ++ write (f v) b ≡ take place t ++ write (part f) b
+
+-- the writer's buffer has room up to a place, and a byte to spare, since a number is always given four
 abbrev pub Room : List ℕ → ℕ → Type 0
 Room t n = (length t ≡ textBytes) × (n < textBytes)
 

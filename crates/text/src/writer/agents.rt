@@ -2,16 +2,13 @@
 use crate::writer::bytes::number;
 use crate::writer::bytes::word;
 use block::layout;
-ghost use mathlib.Core.List.{List, _++_};
 ghost use mathlib.Core.Path.{_≡_};
-ghost use Prim.Native.Nat.{ℕ, _+_, _≤_, _<_};
-ghost use lib.ListN.{take};
+ghost use Prim.Native.Nat.{_+_, _≤_, _<_};
 ghost use Rattle.block.specs.Layout as L;
 ghost use Rattle.block.specs.Layout.{maxStates, maxAgents, maxActions};
 ghost use Rattle.block.specs.Valid.{Valid};
-ghost use Rattle.text.specs.Format.{Format, write};
 ghost use Rattle.text.specs.Job as J;
-ghost use Rattle.text.specs.Writing.{Past, Room, sizesOf, countsTo};
+ghost use Rattle.text.specs.Writing.{Past, PastWith, Room, sizesOf, countsTo};
 
 // The byte after a cost: the line ends where none is left.
 fn cost_end(left: usize) -> u8
@@ -59,7 +56,7 @@ fn actions(block: &[u8], text: &mut [u8], at: usize, s: usize, a: usize) -> usiz
 fn acts_line(block: &[u8], text: &mut [u8], at: usize, s: usize, a: usize) -> usize
     requires { ⌜ Valid (now block) × Room (now text) (at + 47) ⌝ }
     requires { ⌜ (s < L.states (now block)) × (a < L.agents (now block)) ⌝ }
-    ensures { λ r. ⌜ ((f : ℕ → Format) → take r (now (text .exit)) ++ write (f (L.count (now (block .entry)) s a)) (now (block .entry)) ≡ take at (now (text .entry)) ++ write (J.actsLine (sizesOf (now (block .entry))) s a f) (now (block .entry))) × (r ≤ at + 47) ⌝ }
+    ensures { λ r. ⌜ PastWith (now (block .entry)) (J.actsLine (sizesOf (now (block .entry))) s a) (L.count (now (block .entry)) s a) (now (text .entry)) at (now (text .exit)) r × (r ≤ at + 47) ⌝ }
 {
     let state = word(text, at, b"acts,");
     let agent = number(text, state, s, b',');
@@ -72,7 +69,7 @@ fn acts_line(block: &[u8], text: &mut [u8], at: usize, s: usize, a: usize) -> us
 pub fn agent_lines(block: &[u8], text: &mut [u8], at: usize, s: usize) -> usize
     requires { ⌜ Valid (now block) × Room (now text) (at + 141) ⌝ }
     requires { ⌜ s < L.states (now block) ⌝ }
-    ensures { λ r. ⌜ ((f : List ℕ → Format) → take r (now (text .exit)) ++ write (f (countsTo (now (block .entry)) s (L.agents (now (block .entry))))) (now (block .entry)) ≡ take at (now (text .entry)) ++ write (J.agentLines (sizesOf (now (block .entry))) s (L.agents (now (block .entry))) 0 J.noCounts f) (now (block .entry))) × (r ≤ at + 141) ⌝ }
+    ensures { λ r. ⌜ PastWith (now (block .entry)) (J.agentLines (sizesOf (now (block .entry))) s (L.agents (now (block .entry))) 0 J.noCounts) (countsTo (now (block .entry)) s (L.agents (now (block .entry)))) (now (text .entry)) at (now (text .exit)) r × (r ≤ at + 141) ⌝ }
 {
     let agents = layout::agents(block);
     let mut next = at;

@@ -9,16 +9,14 @@ ghost use mathlib.Core.Path.{_≡_};
 ghost use Prim.Native.Nat.{_+_, _-_, _≤_};
 ghost use lib.ListN.{length, take, replicate};
 ghost use Rattle.block.specs.Valid.{Valid};
-ghost use Rattle.text.specs.declared.sizes.Sizes.{Sizes};
-ghost use Rattle.text.specs.Format.{Format, write};
 ghost use Rattle.text.specs.Job as J;
 ghost use Rattle.text.specs.Text.{textBytes, textOf};
-ghost use Rattle.text.specs.Writing.{Room, sizesOf};
+ghost use Rattle.text.specs.Writing.{PastWith, Room, sizesOf};
 
 // job,N,R,M,P,F
 fn header_line(block: &[u8], text: &mut [u8], at: usize) -> usize
     requires { ⌜ Valid (now block) × Room (now text) (at + 24) ⌝ }
-    ensures { λ r. ⌜ ((f : Sizes → Format) → take r (now (text .exit)) ++ write (f (sizesOf (now (block .entry)))) (now (block .entry)) ≡ take at (now (text .entry)) ++ write (J.headerLine f) (now (block .entry))) × (r ≤ at + 24) ⌝ }
+    ensures { λ r. ⌜ PastWith (now (block .entry)) J.headerLine (sizesOf (now (block .entry))) (now (text .entry)) at (now (text .exit)) r × (r ≤ at + 24) ⌝ }
 {
     let agents = word(text, at, b"job,");
     let resources = number(text, agents, layout::agents(block), b',');

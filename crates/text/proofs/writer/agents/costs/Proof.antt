@@ -8,12 +8,12 @@ use Rattle.block.specs.declared.layout.Place.the-variants.{Cost}
 use Rattle.text.specs.Format.{write}
 use Rattle.text.specs.Job as J
 use Rattle.text.proofs.Repeats.{costs-loop}
-use Rattle.text.proofs.Writing.{Written, written-none, written-more, written-all}
+use Rattle.text.proofs.Writing.{Looped, looped-none, looped-more, looped-all}
 use Rattle.text.proofs.writer.agents.costs.Statement.{statement}
 use Rattle.text.proofs.writer.agents.costs.Tie as tie
 
 abbrev Inv-loop : tie.InvT-loop
-Inv-loop block text₀ at s a n k resources next₀ j₀ text next j = (j ≤ resources) × ((length text ≡ length text₀) × ((next ≤ at + 4 * j) × Written (J.costs s a n k) resources block text₀ at text next j))
+Inv-loop block text₀ at s a n k resources next₀ j₀ text next j = (j ≤ resources) × ((length text ≡ length text₀) × ((next ≤ at + 4 * j) × Looped (J.costs s a n k) resources block text₀ at text next j))
 
 abbrev μ-loop : tie.MeasureT-loop
 μ-loop block text₀ at s a n k resources next₀ j₀ text next j = resources - j
@@ -22,7 +22,7 @@ resources-requires : tie.Need-resources-requires Inv-loop μ-loop
 resources-requires c κs = omega arith
 
 loop-holds : tie.Need-loop-holds Inv-loop μ-loop
-loop-holds c = (omega arith, (refl, (omega arith, written-none)))
+loop-holds c = (omega arith, (refl, (omega arith, looped-none)))
 
 add-cost-end : tie.Need-add-cost-end Inv-loop μ-loop
 add-cost-end c = omega arith
@@ -60,7 +60,7 @@ loop-again c =
     let cost = c .before .before .before .cost .ensures in
     let number = c .before .before .number .ensures in
     let b = g .block .now in
-    (omega arith, (omega arith, (omega arith, written-more (costs-loop (g .s) (g .a) (g .n) (g .k)) (inv .1 .1 .1) (omega arith) (λ f. rw (cost, cost-end) at (number .0 (write f b))))))
+    (omega arith, (omega arith, (omega arith, looped-more (costs-loop (g .s) (g .a) (g .n) (g .k)) (inv .1 .1 .1) (omega arith) (λ f. rw (cost, cost-end) at (number .0 (write f b))))))
 
 same-length : tie.Need-same-length Inv-loop μ-loop
 same-length c = omega arith
@@ -70,7 +70,7 @@ returns c =
     let g = c .before .before .before .before .before .args in
     let resources = c .before .before .resources .ensures in
     let inv = c .before .loop .inv in
-    (written-all (costs-loop (g .s) (g .a) (g .n) (g .k)) (rw resources at (inv .1 .1 .1)) (omega arith), omega arith)
+    (looped-all (costs-loop (g .s) (g .a) (g .n) (g .k)) (rw resources at (inv .1 .1 .1)) (omega arith), omega arith)
 
 pub costs-spec : {M : Type 1} → statement M
 costs-spec =

@@ -8,12 +8,12 @@ use Rattle.block.specs.declared.layout.Place.the-variants.{Field}
 use Rattle.text.specs.Format.{write}
 use Rattle.text.specs.Job as J
 use Rattle.text.proofs.Repeats.{bounds-loop}
-use Rattle.text.proofs.Writing.{Written, written-none, written-more, written-all}
+use Rattle.text.proofs.Writing.{Looped, looped-none, looped-more, looped-all}
 use Rattle.text.proofs.writer.rows.bounds.Statement.{statement}
 use Rattle.text.proofs.writer.rows.bounds.Tie as tie
 
 abbrev Inv-loop : tie.InvT-loop
-Inv-loop block text₀ at i resources next₀ j₀ text next j = (j ≤ resources) × ((length text ≡ length text₀) × ((next ≤ at + 4 * j) × Written (J.boundFields i) resources block text₀ at text next j))
+Inv-loop block text₀ at i resources next₀ j₀ text next j = (j ≤ resources) × ((length text ≡ length text₀) × ((next ≤ at + 4 * j) × Looped (J.boundFields i) resources block text₀ at text next j))
 
 abbrev μ-loop : tie.MeasureT-loop
 μ-loop block text₀ at i resources next₀ j₀ text next j = resources - j
@@ -22,7 +22,7 @@ resources-requires : tie.Need-resources-requires Inv-loop μ-loop
 resources-requires c κs = omega arith
 
 loop-holds : tie.Need-loop-holds Inv-loop μ-loop
-loop-holds c = (omega arith, (refl, (omega arith, written-none)))
+loop-holds c = (omega arith, (refl, (omega arith, looped-none)))
 
 bound-requires : tie.Need-bound-requires Inv-loop μ-loop
 bound-requires c κs = omega arith
@@ -45,7 +45,7 @@ loop-again c =
     let bound = c .before .before .before .bound .ensures in
     let bound2 = c .before .before .bound2 .ensures in
     let b = g .block .now in
-    (omega arith, (omega arith, (omega arith, written-more (bounds-loop (g .i)) (inv .1 .1 .1) (omega arith) (λ f. rw bound at (bound2 .0 (write f b))))))
+    (omega arith, (omega arith, (omega arith, looped-more (bounds-loop (g .i)) (inv .1 .1 .1) (omega arith) (λ f. rw bound at (bound2 .0 (write f b))))))
 
 same-length : tie.Need-same-length Inv-loop μ-loop
 same-length c = omega arith
@@ -55,7 +55,7 @@ returns c =
     let g = c .before .before .before .before .before .args in
     let resources = c .before .before .resources .ensures in
     let inv = c .before .loop .inv in
-    (written-all (bounds-loop (g .i)) (rw resources at (inv .1 .1 .1)) (omega arith), omega arith)
+    (looped-all (bounds-loop (g .i)) (rw resources at (inv .1 .1 .1)) (omega arith), omega arith)
 
 pub bounds-spec : {M : Type 1} → statement M
 bounds-spec =

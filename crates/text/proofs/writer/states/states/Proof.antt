@@ -6,12 +6,12 @@ use lib.ListN.{length}
 use Rattle.text.specs.Job as J
 use Rattle.text.specs.Writing.{sizesOf}
 use Rattle.text.proofs.Repeats.{states-loop}
-use Rattle.text.proofs.Writing.{Written, written-none, written-more, written-all}
+use Rattle.text.proofs.Writing.{Looped, looped-none, looped-more, looped-all}
 use Rattle.text.proofs.writer.states.states.Statement.{statement}
 use Rattle.text.proofs.writer.states.states.Tie as tie
 
 abbrev Inv-loop : tie.InvT-loop
-Inv-loop block text₀ at count next₀ s₀ text next s = (s ≤ count) × ((length text ≡ length text₀) × ((next ≤ at + 1178 * s) × Written (J.states (sizesOf block)) count block text₀ at text next s))
+Inv-loop block text₀ at count next₀ s₀ text next s = (s ≤ count) × ((length text ≡ length text₀) × ((next ≤ at + 1178 * s) × Looped (J.states (sizesOf block)) count block text₀ at text next s))
 
 abbrev μ-loop : tie.MeasureT-loop
 μ-loop block text₀ at count next₀ s₀ text next s = count - s
@@ -20,7 +20,7 @@ states-requires : tie.Need-states-requires Inv-loop μ-loop
 states-requires c κs = omega arith
 
 loop-holds : tie.Need-loop-holds Inv-loop μ-loop
-loop-holds c = (omega arith, (refl, (omega arith, written-none)))
+loop-holds c = (omega arith, (refl, (omega arith, looped-none)))
 
 state-lines-requires : tie.Need-state-lines-requires Inv-loop μ-loop
 state-lines-requires c κs = ((c .before .before .before .before .before .before .pre .0, omega arith), omega arith)
@@ -36,7 +36,7 @@ loop-again c =
     let g = c .before .before .before .before .before .before .before .before .before .args in
     let inv = c .before .before .before .before .before .loop .inv in
     let state-lines = c .before .before .state-lines .ensures in
-    (omega arith, (omega arith, (omega arith, written-more (states-loop (sizesOf (g .block .now))) (inv .1 .1 .1) (omega arith) (state-lines .0))))
+    (omega arith, (omega arith, (omega arith, looped-more (states-loop (sizesOf (g .block .now))) (inv .1 .1 .1) (omega arith) (state-lines .0))))
 
 same-length : tie.Need-same-length Inv-loop μ-loop
 same-length c = omega arith
@@ -46,7 +46,7 @@ returns c =
     let g = c .before .before .before .before .before .args in
     let states = c .before .before .states .ensures in
     let inv = c .before .loop .inv in
-    (written-all (states-loop (sizesOf (g .block .now))) (rw states at (inv .1 .1 .1)) (omega arith), omega arith)
+    (looped-all (states-loop (sizesOf (g .block .now))) (rw states at (inv .1 .1 .1)) (omega arith), omega arith)
 
 pub states-spec : {M : Type 1} → statement M
 states-spec =
