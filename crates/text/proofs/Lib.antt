@@ -1,4 +1,4 @@
--- Laws that belong to no one function.
+-- Laws of the description: what a text of it says, and that reading accepts exactly the texts of passing blocks.
 pub mod Search
 pub mod Decimals
 pub mod Spellings
@@ -9,10 +9,5 @@ pub mod Passes
 pub mod Told
 pub mod Fitting
 pub mod Accepts
-pub mod Numbers
-pub mod Beginnings
-pub mod Reading
 pub mod Loops
 pub mod Repeats
-pub mod Writing
-pub mod Calls

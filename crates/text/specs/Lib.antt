@@ -3,5 +3,3 @@ pub mod Numeral
 pub mod Format
 pub mod Job
 pub mod Text
-pub mod Step
-pub mod Writing

@@ -1,33 +1,6 @@
-// The text of a job: reader and writer.
-mod joint;
-mod read;
+// The text of a job: the one description of it (specs/), and what reader and writer share.
+pub mod joint;
 pub mod sizes;
-mod step;
-mod writer;
-pub mod written;
 
-use block::refusal::Checked;
-use block::refusal::Refusal;
-use writer::job::job;
-use writer::job::zeros;
-use written::Written;
-ghost use Rattle.text.specs.Text.{WriteCall};
-
+// A text is at most this long, and the writer's buffer has this length.
 pub const TEXT_BYTES: usize = 32768;
-
-// Writes the text of a block that passes the check, with zeros after it.
-pub fn write(block: &[u8], text: &mut [u8]) -> Written
-    ensures { λ r. ⌜ WriteCall (now (block .entry)) (now (text .entry)) (now (text .exit)) r ⌝ }
-{
-    if text.len() != TEXT_BYTES {
-        return Written::Refused(Refusal::Length);
-    }
-    match block::check(block) {
-        Checked::Passed => {
-            let length = job(block, text);
-            zeros(text, length);
-            Written::Length(length)
-        }
-        Checked::Refused(r) => Written::Refused(r),
-    }
-}

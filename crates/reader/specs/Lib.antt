@@ -1,0 +1,2 @@
+-- What the steps of the reader come to.
+pub mod Step

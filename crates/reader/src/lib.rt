@@ -1,0 +1,78 @@
+// The reader: a text into a block.
+mod actions;
+mod agents;
+mod fields;
+mod gos;
+mod header;
+mod numeral;
+mod rows;
+mod states;
+mod step;
+mod steps;
+mod words;
+
+use block::layout::BLOCK_BYTES;
+use block::refusal::Checked;
+use block::refusal::Refusal;
+use header::header;
+use rows::rows;
+use states::states;
+use step::Step;
+use text::TEXT_BYTES;
+ghost use mathlib.Core.Path.{_≡_};
+ghost use lib.ListN.{length};
+ghost use Rattle.block.specs.Layout.{blockBytes};
+ghost use Rattle.text.specs.Format.{end, read};
+ghost use Rattle.text.specs.Job as J;
+ghost use Rattle.reader.specs.Step.{resume, Inside};
+ghost use Rattle.text.specs.Text.{outcomeOf, readCall, answerTo, blockAfter, Exact};
+
+// All lines of the text.
+fn lines(text: &[u8], job: &mut [u8]) -> Step
+    requires { ⌜ length (now job) ≡ blockBytes ⌝ }
+    ensures { λ r. ⌜ read J.job (now (job .entry)) (now (text .entry)) ≡ resume (now (text .entry)) r (read end (now (job .exit))) ⌝ }
+    ensures { λ r. ⌜ Inside (now (text .entry)) r ⌝ }
+{
+    let opened = header(text, job);
+    let z = opened.z;
+    let first = opened.next;
+    let next = states(text, first, job, z);
+    rows(text, next, job, z)
+}
+
+// Reads the text into a block; nothing may follow its last line.
+fn read_into(text: &[u8], job: &mut [u8]) -> Checked
+    requires { ⌜ length (now job) ≡ blockBytes ⌝ }
+    ensures { λ r. ⌜ read J.job (now (job .entry)) (now (text .entry)) ≡ outcomeOf r (now (job .exit)) ⌝ }
+{
+    match lines(text, job) {
+        Step::Next(at) => {
+            if at < text.len() {
+                Checked::Refused(Refusal::Form)
+            } else {
+                Checked::Passed
+            }
+        }
+        Step::Refused(r) => Checked::Refused(r),
+    }
+}
+
+// Reads a text into a block, which keeps its bytes where the text is refused.
+pub fn read(text: &[u8], block: &mut [u8]) -> Checked
+    ensures { λ r. ⌜ r ≡ answerTo (readCall (now (text .entry)) (now (block .entry))) ⌝ }
+    ensures { λ _. ⌜ now (block .exit) ≡ blockAfter (now (block .entry)) (readCall (now (text .entry)) (now (block .entry))) ⌝ }
+    ensures { λ _. ⌜ Exact (now (text .entry)) ⌝ }
+{
+    if TEXT_BYTES < text.len() {
+        return Checked::Refused(Refusal::Length);
+    }
+    if block.len() != BLOCK_BYTES {
+        return Checked::Refused(Refusal::Length);
+    }
+    let mut blank = [0u8; BLOCK_BYTES];
+    let r = read_into(text, &mut blank);
+    if let Checked::Passed = r {
+        bytes::copy(&blank, block);
+    }
+    r
+}

@@ -1,6 +1,0 @@
-// Writing the text of a block.
-mod agents;
-mod bytes;
-pub mod job;
-mod rows;
-mod states;

@@ -1,0 +1,3 @@
+-- What the steps of the writer do, and what the write call promises.
+pub mod Writing
+pub mod Call
