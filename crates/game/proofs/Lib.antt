@@ -1,0 +1,1 @@
+-- The theorems of the game: from local facts of a table to claims about whole plays.

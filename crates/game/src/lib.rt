@@ -1,0 +1,1 @@
+// The meaning of a formula row, and the game on positions that decides it.
