@@ -1,1 +1,4 @@
 -- The theorems of the game: from local facts of a table to claims about whole plays.
+pub mod Ranks
+pub mod Pigeonhole
+pub mod Joint
