@@ -2,3 +2,7 @@
 pub mod Ranks
 pub mod Pigeonhole
 pub mod Joint
+pub mod Proper
+pub mod Moves
+pub mod Stocks
+pub mod Plays
