@@ -6,3 +6,4 @@ pub mod Proper
 pub mod Moves
 pub mod Stocks
 pub mod Plays
+pub mod Strategies
