@@ -7,3 +7,7 @@ pub mod Moves
 pub mod Stocks
 pub mod Plays
 pub mod Strategies
+pub mod Decidable
+pub mod Choices
+pub mod Settled
+pub mod Winning

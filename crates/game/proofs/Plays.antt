@@ -10,7 +10,6 @@ use Rattle.block.specs.Layout.{digit}
 use Rattle.game.specs.Rbatl.{Fits, Joint, Coalition, Structure, Strategy, Computation, prefix, Available, IsMove, IsStrategy, Agree, Outcome, Consistent, Within, moveCost, spent}
 use Rattle.game.specs.Position.{Arena, Position, joint, part, opponents, MoveOf, IsPosition, budget, Move, Reply, cost, Affordable, Allowed, outcome}
 use Rattle.game.specs.Play.{Play, CounterStrategy, states, spentOn, From, Follows, Answers, IsCounterStrategy, KeepsWithin}
-use Rattle.game.specs.Table.{Paid}
 use Rattle.game.proofs.Joint.{joint-cong, joint-parts, digit-joint}
 use Rattle.game.proofs.Proper.{Proper}
 use Rattle.game.proofs.Moves.{merge, together-digit, together-available, number-move, number-agrees, number-cost}

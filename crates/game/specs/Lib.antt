@@ -3,4 +3,5 @@ pub mod Rbatl
 pub mod Position
 pub mod Play
 pub mod Table
+pub mod Facts
 pub mod Model

@@ -3,8 +3,8 @@
 use mathlib.Core.Logic.{_⊎_}
 use mathlib.Core.Path.{_≡_}
 use Prim.Native.Nat.{ℕ, zero, suc, _+_, _≤_, _<_}
-use Rattle.game.specs.Rbatl.{Computation, Strategy, prefix, IsStrategy, Within, NextOn, AlwaysOn, UntilOn}
-use Rattle.game.specs.Position.{Arena, Position, IsPosition, joint, part, budget, Move, Reply, cost, outcome}
+use Rattle.game.specs.Rbatl.{Fits, Computation, Strategy, prefix, IsStrategy, Within, NextOn, AlwaysOn, UntilOn}
+use Rattle.game.specs.Position.{Arena, Position, IsPosition, joint, part, budget, Move, Reply, cost, Affordable, outcome}
 
 -- what a strategic row asks of a play; left and right say in which states the lower rows are true
 pub data Objective : Type 1 where
@@ -66,6 +66,12 @@ module _ (G : Arena) where
 
   abbrev pub IsCounterStrategy : CounterStrategy → Type 0
   IsCounterStrategy ρ = (p : Position) (m : ℕ) → IsPosition G p → Move G p m → Reply G p (ρ p m)
+
+  -- every move can be paid when its turn comes, and each beginning of the play costs at most the first position's stock
+  abbrev pub Paid : Play G → Type 0
+  Paid P =
+      ((i : ℕ) → Affordable G (P .at i) (P .move i))
+      × ((n r : ℕ) → r < G .structure .resources → Fits (spentOn P n r) (budget G (P .at 0) r))
 
   -- the strategy keeps within the position's stock
   abbrev pub KeepsWithin : Position → Strategy → Type 0

@@ -4,9 +4,9 @@ use mathlib.Core.Logic.{_⊎_}
 use mathlib.Core.Path.{_≡_}
 use Prim.Native.Nat.{ℕ, _≤_, _<_}
 use lib.Dec.{eqb}
-use Rattle.game.specs.Rbatl.{Computation, Strategy, Fits}
-use Rattle.game.specs.Position.{Arena, Position, IsPosition, number, positions, budget, Reply, Affordable, Allowed, outcome}
-use Rattle.game.specs.Play.{Objective, next, always, until, True, MetWithin, FalseWithin, Settled, Play, CounterStrategy, states, spentOn, From, Follows, Answers, KeepsWithin, CoalitionWins, OpponentsWin, EnforcesWithin, ForcesWithin}
+use Rattle.game.specs.Rbatl.{Computation, Strategy}
+use Rattle.game.specs.Position.{Arena, Position, IsPosition, number, positions, Reply, Allowed, outcome}
+use Rattle.game.specs.Play.{Objective, next, always, until, True, MetWithin, FalseWithin, Settled, Play, CounterStrategy, states, From, Follows, Answers, Paid, KeepsWithin, CoalitionWins, OpponentsWin, EnforcesWithin, ForcesWithin}
 
 -- the rank where nothing is enforced or forced, and the move where the coalition does not win
 abbrev pub never : ℕ
@@ -19,6 +19,10 @@ noMove = 255
 pub record Table : Type 0 where
   pub rank : ℕ → ℕ
   pub move : ℕ → ℕ
+
+-- the move that a strategy makes by the table: it idles where the table shows none
+abbrev pub shown : ℕ → ℕ
+shown m = cond (eqb m noMove) 0 m
 
 -- n is the smallest number that has the property
 abbrev pub Smallest : (ℕ → Type 0) → ℕ → Type 0
@@ -86,10 +90,7 @@ module _ (G : Arena) where
     abbrev pub ReplyRule : Objective → (Position → Type 0) → CounterStrategy → Type 0
     ReplyRule t Won ρ = (p : Position) (m : ℕ) → IsPosition G p → Allowed G p m → ReplyIs t Won p m (ρ p m)
 
-    -- the table read as a strategy: it idles where it shows no move
-    abbrev pub shown : ℕ → ℕ
-    shown m = cond (eqb m noMove) 0 m
-
+    -- the table read as a strategy
     abbrev pub ByTable : Play G → Type 0
     ByTable P = (i : ℕ) → P .move i ≡ shown (moveAt (P .at i))
 
@@ -119,12 +120,6 @@ module _ (G : Arena) where
         (F : Strategy) × KeepsWithin G p F × ((P : Play G) → From G p P → Follows G F P → (k : ℕ) → k < rankAt p → left (states G P k))
     NoSooner (next left) p = Unit {0}
 
-    -- every move of the play can be paid, and each beginning of it costs at most the first position's stock
-    abbrev pub Paid : Play G → Type 0
-    Paid P =
-        ((i : ℕ) → Affordable G (P .at i) (P .move i))
-        × ((n r : ℕ) → r < G .structure .resources → Fits (spentOn G P n r) (budget G (P .at 0) r))
-
     -- demand 3 at the position p, about whole plays from p without end
     pub record Decided (t : Objective) (p : Position) : Type 0 where
       -- exactly one side wins
@@ -136,7 +131,7 @@ module _ (G : Arena) where
       pub no-sooner : NoSooner t p
       pub move-is : MoveIs t (CoalitionWins G t) p (moveAt p)
       -- where the coalition wins: every play by the table, whatever the replies, is paid and won; it idles only after the row is settled
-      pub by-table : CoalitionWins G t p → (P : Play G) → From G p P → ByTable P → Paid P × WonOn t p (states G P)
+      pub by-table : CoalitionWins G t p → (P : Play G) → From G p P → ByTable P → Paid G P × WonOn t p (states G P)
       pub idles-settled :
         CoalitionWins G t p → (P : Play G) → From G p P → ByTable P
         → (n : ℕ) → moveAt (P .at n) ≡ noMove → Settled t (states G P) n
