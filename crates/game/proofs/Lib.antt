@@ -10,4 +10,7 @@ pub mod Strategies
 pub mod Decidable
 pub mod Choices
 pub mod Settled
+pub mod Realise
+pub mod Bounded
 pub mod Winning
+pub mod Losing
