@@ -14,3 +14,5 @@ pub mod Realise
 pub mod Bounded
 pub mod Winning
 pub mod Losing
+pub mod Replies
+pub mod Decided
