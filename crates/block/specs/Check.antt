@@ -35,19 +35,27 @@ BadState b s = BitFrom (propositions b) (mask b s) ⊎ Some (agents b) (BadActio
 abbrev pub BadNext : Block → ℕ → ℕ → Type 0
 BadNext b s joint = Available b s joint × (states b ≤ next b s joint)
 
--- a bound 16 to 254
+-- a bound 16 to 254: neither at most 15 nor unlimited
 abbrev pub BadBound : Block → ℕ → ℕ → Type 0
-BadBound b i j = (15 < bound b i j) × (bound b i j < unlimited)
+BadBound b i j = (15 < bound b i j) × (bound b i j ≡ unlimited → ⊥)
 
--- 5: in some row
+-- what the row names: a proposition at or above P, or a left or right row that is not lower
+pub data BadOperands (b : Block) (i : ℕ) : Type 0 where
+  prop-range : kind b i ≡ propKind → propositions b ≤ left b i → BadOperands b i
+  left-range : propKind < kind b i → i ≤ left b i → BadOperands b i
+  right-range : Binary (kind b i) → i ≤ right b i → BadOperands b i
+
+-- team 0 or with an absent agent, or a bad bound
+pub data BadTeam (b : Block) (i : ℕ) : Type 0 where
+  team-empty : team b i ≡ 0 → BadTeam b i
+  team-absent : BitFrom (agents b) (team b i) → BadTeam b i
+  bound-range : Some (resources b) (BadBound b i) → BadTeam b i
+
+-- 5: in some row, an unknown kind, or a bad field that the kind uses
 pub data BadRow (b : Block) (i : ℕ) : Type 0 where
   kind-unknown : untilKind < kind b i → BadRow b i
-  prop-range : kind b i ≡ propKind → propositions b ≤ left b i → BadRow b i
-  left-range : propKind < kind b i → i ≤ left b i → BadRow b i
-  right-range : Binary (kind b i) → i ≤ right b i → BadRow b i
-  team-empty : Strategic (kind b i) → team b i ≡ 0 → BadRow b i
-  team-absent : Strategic (kind b i) → BitFrom (agents b) (team b i) → BadRow b i
-  bound-range : Strategic (kind b i) → Some (resources b) (BadBound b i) → BadRow b i
+  operands : BadOperands b i → BadRow b i
+  coalition : Strategic (kind b i) → BadTeam b i → BadRow b i
 
 -- 6: an unused place that is not 0
 abbrev pub BadPlace : Block → ℕ → Type 0

@@ -4,10 +4,10 @@ use mathlib.Core.Logic.{_⊎_}
 use mathlib.Core.Path.{_≡_}
 use Prim.Native.Nat.{ℕ, _<_, _≤_, _/_, _%_, _^_}
 
--- the test t tells whether P holds
-abbrev pub Decides : Bool → Type 0 → Type 0
-Decides true P = P
-Decides false P = P → ⊥
+-- a test tells whether P holds
+pub data Decides (P : Type 0) : Bool → Type 0 where
+  holds : P → Decides P true
+  fails : (P → ⊥) → Decides P false
 
 -- P holds of some number below n
 abbrev pub Some : ℕ → (ℕ → Type 0) → Type 0

@@ -1,0 +1,6 @@
+-- Laws that belong to no one function.
+pub mod Decide
+pub mod Masks
+pub mod Digits
+pub mod Places
+pub mod Passing

@@ -1,0 +1,114 @@
+-- A block that passes the check is valid: the check's conditions, none of which holds, as what they guarantee (specs' Valid).
+-- Assumes nothing.
+use mathlib.Core.List.{List, _∷_}
+use mathlib.Core.Logic.{inl, inr}
+use mathlib.Core.Path.{_≡_, refl, sym, _∙_}
+use Prim.Native.Nat.{ℕ, _<_, _≤_, _^_, _/_}
+use native.Mathlib.Nat.{div-lt-iff-lt-mul, one-mul}
+use native.Mathlib.Omega.{arith}
+use lib.ListN.{length}
+use lib.Pow.{pow-pos}
+use Rattle.block.specs.Decide.{Decides, holds, fails, Some, Outside, BitFrom}
+use Rattle.block.specs.Refusal.{numberOf, First, none, here, later}
+use Rattle.block.specs.Layout.{Block, blockBytes, agents, resources, states, cost}
+use Rattle.block.specs.Check.{BadSizes, agents-range, resources-range, states-range, propositions-range, rows-range, BadState, BadRow, kind-unknown, operands, coalition, prop-range, left-range, right-range, team-empty, team-absent, bound-range, Verdict}
+use Rattle.block.specs.Valid.{Range, Sized, Counted, RowFits, Valid}
+use Rattle.block.specs.declared.refusal.Refusal.{Refusal}
+use Rattle.block.specs.declared.refusal.Refusal.the-variants.{Length, Sizes, State, Next, Row, Unused, Form, RowChoice, Position, WrongSide, Move}
+use Rattle.block.proofs.Decide as D
+use Rattle.block.proofs.Masks.{bit-above}
+
+-- an equation of numbers that cannot fail holds
+stable : (a b : ℕ) → ((a ≡ b → ⊥) → ⊥) → a ≡ b
+stable a b h = decided (D.equal a b)
+  where
+    decided : {t : _} → Decides (a ≡ b) t → a ≡ b
+    decided (holds p) = p
+    decided (fails q) = absurd (h q)
+
+inside : (low high n : ℕ) → (Outside low high n → ⊥) → Range low high n
+inside low high n h =
+    let l : n < low → ⊥ = λ x. h (inl x) in
+    let g : high < n → ⊥ = λ x. h (inr x) in
+    omega arith
+
+-- a mask with no bit at or above p
+below-bit : (p m : ℕ) → (BitFrom p m → ⊥) → m < 2 ^ p
+below-bit p m h =
+    let z : m / 2 ^ p ≡ 0 = stable (m / 2 ^ p) 0 (λ n. h (bit-above p m n)) in
+    let small : m / 2 ^ p < 1 = omega arith in
+    rw one-mul at (div-lt-iff-lt-mul (pow-pos p) .0 small)
+
+pub sized : {b : Block} → length b ≡ blockBytes → (BadSizes b → ⊥) → Sized b
+sized e h = record {
+  bytes = e;
+  agents-fit = inside _ _ _ (λ x. h (agents-range x));
+  resources-fit = inside _ _ _ (λ x. h (resources-range x));
+  states-fit = inside _ _ _ (λ x. h (states-range x));
+  propositions-fit = inside _ _ _ (λ x. h (propositions-range x));
+  rows-fit = inside _ _ _ (λ x. h (rows-range x));
+}
+
+pub counted : (b : Block) → (Some (states b) (BadState b) → ⊥) → Counted b
+counted b h s a hs ha = inside _ _ _ (λ x. h (s, hs, inr (a, ha, inl x)))
+
+at-most : {a b : ℕ} → (b < a → ⊥) → a ≤ b
+at-most h = omega arith
+
+below : {a b : ℕ} → (b ≤ a → ⊥) → a < b
+below h = omega arith
+
+-- idle is an action of every agent
+idle-valid : (b : Block) → (Some (states b) (BadState b) → ⊥) → (s a j : ℕ) → s < states b → a < agents b → j < resources b → cost b s a 0 j ≡ 0
+idle-valid b h s a j hs ha hj =
+    let some = counted b h s a hs ha in
+    let none : 0 < cost b s a 0 j → ⊥ = λ x. h (s, hs, inr (a, ha, inr (0, some .0, (j, hj, inr (refl, x))))) in
+    omega arith
+
+row-valid : {b : Block} {i : ℕ} → (BadRow b i → ⊥) → RowFits b i
+row-valid {b} {i} h = record {
+  known = at-most (λ x. h (kind-unknown x));
+  prop-fits = λ e. below (λ x. h (operands (prop-range e x)));
+  left-lower = λ k. below (λ x. h (operands (left-range k x)));
+  right-lower = λ k. below (λ x. h (operands (right-range k x)));
+  team-some = λ s. below (λ x. h (coalition s (team-empty (omega arith))));
+  team-fits = λ s. below-bit _ _ (λ x. h (coalition s (team-absent x)));
+  bound-fits = λ s j hj g. stable _ _ (λ x. h (coalition s (bound-range (j, hj, (g, x)))));
+}
+
+positive : (r : Refusal) → numberOf r ≡ 0 → ⊥
+positive Length e = omega arith
+positive Sizes e = omega arith
+positive State e = omega arith
+positive Next e = omega arith
+positive Row e = omega arith
+positive Unused e = omega arith
+positive Form e = omega arith
+positive RowChoice e = omega arith
+positive Position e = omega arith
+positive WrongSide e = omega arith
+positive Move e = omega arith
+
+-- where the number is 0, the first condition of the list does not hold, nor the rest
+pub not-first : {Holds : Refusal → Type 0} {r : Refusal} {rs : List Refusal} {n : ℕ} → n ≡ 0 → First Holds (r ∷ rs) n → (Holds r → ⊥) × First Holds rs n
+not-first {r = r} z (here h e) = absurd (positive r (sym e ∙ z))
+not-first z (later h f) = (h, f)
+
+pub passing : {b : Block} → Verdict b 0 → Valid b
+passing {b} v =
+    let (no-length, v₁) = not-first refl v in
+    let (no-sizes, v₂) = not-first refl v₁ in
+    let (no-state, v₃) = not-first refl v₂ in
+    let (no-next, v₄) = not-first refl v₃ in
+    let (no-row, v₅) = not-first refl v₄ in
+    let (no-unused, v₆) = not-first refl v₅ in
+    record {
+      sized = sized (stable _ _ no-length) no-sizes;
+      counted = counted b no-state;
+      mask-fits = λ s hs. below-bit _ _ (λ x. no-state (s, hs, inl x));
+      cost-fits = λ s a k j hs ha hk hj. at-most (λ x. no-state (s, hs, inr (a, ha, inr (k, hk, (j, hj, inl x)))));
+      idle-free = idle-valid b no-state;
+      next-fits = λ s joint hs av. below (λ x. no-next (s, hs, (joint, av .0, (av, x))));
+      row-fits = λ i hi. row-valid (λ x. no-row (i, hi, x));
+      unused-zero = λ p hp u. stable _ _ (λ z. no-unused (p, hp, (u, z)));
+    }

@@ -1,0 +1,39 @@
+// Number 2: the sizes in the header.
+use crate::layout;
+ghost use mathlib.Core.Path.{_≡_};
+ghost use lib.ListN.{length};
+ghost use Rattle.block.specs.Decide.{Decides, Outside};
+ghost use Rattle.block.specs.Layout.{blockBytes};
+ghost use Rattle.block.specs.Check.{BadSizes};
+
+// Whether n is not from 1 to high.
+pub fn outside(n: usize, high: usize) -> bool
+    ensures { λ r. ⌜ Decides (Outside 1 high n) r ⌝ }
+{
+    if n < 1 {
+        return true;
+    }
+    if high < n {
+        return true;
+    }
+    false
+}
+
+pub fn sizes_bad(block: &[u8]) -> bool
+    requires { ⌜ length (now block) ≡ blockBytes ⌝ }
+    ensures { λ r. ⌜ Decides (BadSizes (now (block .entry))) r ⌝ }
+{
+    if outside(layout::agents(block), 3) {
+        return true;
+    }
+    if outside(layout::resources(block), 2) {
+        return true;
+    }
+    if outside(layout::states(block), 24) {
+        return true;
+    }
+    if outside(layout::propositions(block), 8) {
+        return true;
+    }
+    outside(layout::rows(block), 32)
+}

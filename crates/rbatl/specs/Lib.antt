@@ -1,0 +1,2 @@
+-- What a C caller is handed back.
+pub mod Answer
