@@ -16,3 +16,5 @@ pub mod Winning
 pub mod Losing
 pub mod Replies
 pub mod Decided
+pub mod Truth
+pub mod Blocks
