@@ -18,3 +18,4 @@ pub mod Replies
 pub mod Decided
 pub mod Truth
 pub mod Blocks
+pub mod Rows
