@@ -27,8 +27,10 @@ module _ (b : Block) (valid : Valid b) where
     where
       small : (a : ℕ) → a < L.agents b → σ a < 4
       small a h = omega (arith, available a h, valid .counted s a l h)
+
       below : joint (L.agents b) σ < 4 ^ L.agents b
       below = joint-below (L.agents b) σ small
+
       go : (a : ℕ) → Dec (a < L.agents b) → Acts b s a (digit (joint (L.agents b) σ) a)
       go a (yes h) = inl (h, rw (digit-joint (L.agents b) σ small a h) (available a h))
       go a (no h) = inr (omega arith, digit-beyond (L.agents b) _ a below (omega arith))

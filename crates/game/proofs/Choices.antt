@@ -34,6 +34,7 @@ module _ (G : Arena) (proper : Proper (G .structure)) where
         inside : (fits : IsPosition G p) → Dec (Region p) → Chosen p
         inside fits (yes h) = let f = force p fits h in record { pick = f .0; allowed = λ _. f .1; forced = λ _ _. f .2 }
         inside fits (no h) = record { pick = 0; allowed = idle-allowed p; forced = λ _ h′. absurd (h h′) }
+
         go : Dec (IsPosition G p) → Chosen p
         go (yes fits) = inside fits (region? p fits)
         go (no fits) = record { pick = 0; allowed = λ fits′. absurd (fits fits′); forced = λ fits′. absurd (fits fits′) }
@@ -50,6 +51,7 @@ module _ (G : Arena) (proper : Proper (G .structure)) where
         inside : (fits : IsPosition G p) → Allowed G p m → Dec (Region p) → Answer p m
         inside fits a (yes h) = let r = can p fits h m a in record { reply = r .0; available = λ _. r .1; answered = λ _ _ _. r .2 }
         inside fits a (no h) = record { reply = 0; available = idle-reply p; answered = λ _ h′. absurd (h h′) }
+
         go : Dec (IsPosition G p) → Dec (Allowed G p m) → Answer p m
         go (yes fits) (yes a) = inside fits a (region? p fits)
         go (yes fits) (no a) = record { reply = 0; available = idle-reply p; answered = λ _ _ a′. absurd (a a′) }

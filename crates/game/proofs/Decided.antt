@@ -35,9 +35,10 @@ module _ (G : Arena) (proper : Proper (G .structure)) (X : Table) where
   facts-winning t facts = record { claimed = λ p fits claim. back t facts p fits claim; unclaimed = λ p fits unclaimed. facts .moves p fits .lost unclaimed }
     where
       back : (t : Objective) → Facts G X t → (p : Position) → IsPosition G p → Claims G X t p → Backed G X t p
-      back (until left right) facts p fits claim =
-          ((λ e. (facts .ranks .reached p fits e, facts .moves p fits .met claim e)),
-          λ positive. (facts .ranks .safe p fits positive claim, facts .moves p fits .best claim (λ e. omega arith) .0))
+      back (until left right) facts p fits claim = (
+        (λ e. (facts .ranks .reached p fits e, facts .moves p fits .met claim e)),
+        λ positive. (facts .ranks .safe p fits positive claim, facts .moves p fits .best claim (λ e. omega arith) .0),
+      )
       back (always left) facts p fits claim = (holds (facts .decided (p .state) (fits .0)), facts .moves p fits .best claim (λ e. e) .0)
         where
           holds : Dec (left (p .state)) → left (p .state)
@@ -73,30 +74,50 @@ module _ (G : Arena) (proper : Proper (G .structure)) (X : Table) where
     where
       t : Objective
       t = until left right
+
       go : Dec (rankAt G X p < never) → RankIs G (until left right) p (rankAt G X p)
       go (yes finite) =
-          inl (finite, (claimed-won G X proper t (facts-winning t facts) p fits finite, λ k less (F, keeps, met).
-            let (P, from, follows, slow) = no-sooner G proper X t (facts .ranks) (facts .decided) p fits F keeps in
-            slow k less (met P from follows)))
+          inl (
+            finite,
+            (
+              claimed-won G X proper t (facts-winning t facts) p fits finite,
+              λ k less (F, keeps, met).
+                  let (P, from, follows, slow) = no-sooner G proper X t (facts .ranks) (facts .decided) p fits F keeps in
+                  slow k less (met P from follows),
+            ),
+          )
       go (no unclaimed) =
-          inr (omega (arith, facts .ranks .bounded p fits), λ k enforces.
-            clash G proper p fits (λ λs. MetWithin left right λs k) (LostOn G X t p) (λ λs (j, _, r, before) lost. lost (j, r, before)) enforces
-            (unclaimed-lost G proper X t (facts .ranks) (facts .decided) p fits unclaimed))
+          inr (
+            omega (arith, facts .ranks .bounded p fits),
+            λ k enforces.
+                clash G proper p fits (λ λs. MetWithin left right λs k) (LostOn G X t p) (λ λs (j, _, r, before) lost. lost (j, r, before)) enforces
+                (unclaimed-lost G proper X t (facts .ranks) (facts .decided) p fits unclaimed),
+          )
 
   always-rank : (left : ℕ → Type 0) → Facts G X (always left) → (p : Position) → IsPosition G p → RankIs G (always left) p (rankAt G X p)
   always-rank left facts p fits = go (ℕ-discrete (rankAt G X p) never)
     where
       t : Objective
       t = always left
+
       go : Dec (rankAt G X p ≡ never) → RankIs G (always left) p (rankAt G X p)
       go (yes claim) =
-          inr (claim, λ k forces.
-            clash G proper p fits (True t) (λ λs. FalseWithin left λs k) (λ λs all (j, _, fails). fails (all j))
-            (claimed-won G X proper t (facts-winning t facts) p fits claim) forces)
+          inr (
+            claim,
+            λ k forces.
+                clash G proper p fits (True t) (λ λs. FalseWithin left λs k) (λ λs all (j, _, fails). fails (all j))
+                (claimed-won G X proper t (facts-winning t facts) p fits claim) forces,
+          )
       go (no unclaimed) =
-          inl (omega (arith, facts .ranks .bounded p fits), (unclaimed-lost G proper X t (facts .ranks) (facts .decided) p fits unclaimed, λ k less forces.
-            clash G proper p fits (λ λs. (j : ℕ) → j < rankAt G X p → left (λs j)) (λ λs. FalseWithin left λs k) (λ λs slow (j, l, fails). fails (slow j (omega arith)))
-            (no-sooner G proper X t (facts .ranks) (facts .decided) p fits) forces))
+          inl (
+            omega (arith, facts .ranks .bounded p fits),
+            (
+              unclaimed-lost G proper X t (facts .ranks) (facts .decided) p fits unclaimed,
+              λ k less forces.
+                  clash G proper p fits (λ λs. (j : ℕ) → j < rankAt G X p → left (λs j)) (λ λs. FalseWithin left λs k) (λ λs slow (j, l, fails). fails (slow j (omega arith)))
+                  (no-sooner G proper X t (facts .ranks) (facts .decided) p fits) forces,
+            ),
+          )
 
   next-rank : (left : ℕ → Type 0) → Facts G X (next left) → (p : Position) → IsPosition G p → RankIs G (next left) p (rankAt G X p)
   next-rank left facts p fits = go (facts .ranks p fits)
@@ -140,14 +161,15 @@ module _ (G : Arena) (proper : Proper (G .structure)) (X : Table) where
       rank-below = rank-small t (facts .ranks) p fits;
       no-sooner = no-sooner G proper X t (facts .ranks) (facts .decided) p fits;
       move-is = move-by-plays p fits;
-      by-table = λ wins P from by.
-        (table-paid G X proper t (facts-winning t facts) P by,
-        subst (λ (x : Position). WonOn G X t x (states G P)) from (table-won G X proper t (facts-winning t facts) P by (claimed P from wins)));
+      by-table = λ wins P from by. (
+        table-paid G X proper t (facts-winning t facts) P by,
+        subst (λ (x : Position). WonOn G X t x (states G P)) from (table-won G X proper t (facts-winning t facts) P by (claimed P from wins)),
+      );
       idles-settled = λ wins P from by. table-idles-settled G X proper t (facts-winning t facts) P by (claimed P from wins);
       by-replies = λ loses ρ rule F keeps P from follows answers.
-        let (lost, settled) = replies-win G proper X (CoalitionWins G t) ρ P answers (strategy-paid G proper p F keeps P from follows) t (facts .ranks) (facts .decided) rule (wins-claimed t facts) (claims-win t facts)
-              (λ claim. not-both-win t facts p fits (claims-win t facts p fits (subst (Claims G X t) from claim)) loses) in
-        (subst (λ (x : Position). LostOn G X t x (states G P)) from lost, settled);
+          let (lost, settled) = replies-win G proper X (CoalitionWins G t) ρ P answers (strategy-paid G proper p F keeps P from follows) t (facts .ranks) (facts .decided) rule (wins-claimed t facts) (claims-win t facts)
+          (λ claim. not-both-win t facts p fits (claims-win t facts p fits (subst (Claims G X t) from claim)) loses) in
+          (subst (λ (x : Position). LostOn G X t x (states G P)) from lost, settled);
     }
       where
         claimed : (P : Play G) → From G p P → CoalitionWins G t p → Claims G X t (P .at 0)

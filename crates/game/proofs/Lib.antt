@@ -19,3 +19,4 @@ pub mod Decided
 pub mod Truth
 pub mod Blocks
 pub mod Rows
+pub mod Tables

@@ -23,7 +23,7 @@ module _ (G : Arena) (proper : Proper (G .structure)) (X : Table) where
   module _ (left right : ℕ → Type 0) (ranks : RankFacts G (until left right) (rankAt G X)) (left? : LeftDecided G (until left right)) where
     -- a counter-strategy that keeps the rank up
     keep-up : (ρ : CounterStrategy) × IsCounterStrategy G ρ
-      × ((P : Play G) → Answers G ρ P → ((i : ℕ) → Affordable G (P .at i) (P .move i)) → (i : ℕ) → left (states G P i) × (0 < rankAt G X (P .at i)) → Kept G X (P .at i) (P .at (suc i)))
+        × ((P : Play G) → Answers G ρ P → ((i : ℕ) → Affordable G (P .at i) (P .move i)) → (i : ℕ) → left (states G P i) × (0 < rankAt G X (P .at i)) → Kept G X (P .at i) (P .at (suc i)))
     keep-up =
         answered-along G proper (λ p. left (p .state) × (0 < rankAt G X p)) (λ p fits. Dec·and (left? (p .state) (fits .0)) (decLt 0 (rankAt G X p))) (Kept G X)
         (λ p fits region. ranks .defend p fits (region .0) (region .1))
@@ -40,6 +40,7 @@ module _ (G : Arena) (proper : Proper (G .structure)) (X : Table) where
           where
             start : rankAt G X (P .at 0) ≡ never
             start = rw from (omega (arith, ranks .bounded p fits))
+
             stays : (i : ℕ) → left (states G P i) → rankAt G X (P .at i) ≡ never → rankAt G X (P .at (suc i)) ≡ never
             stays i l e = keep-up .2 P answers (strategy-paid G proper p F keeps P from follows) i (l, omega arith) .1 e
 
@@ -48,12 +49,16 @@ module _ (G : Arena) (proper : Proper (G .structure)) (X : Table) where
       where
         against : (P : Play G) × From G p P × Follows G F P × Answers G (keep-up .0) P
         against = play-against G proper F (keeps .0) (keep-up .0) (keep-up .1) p fits
+
         P : Play G
         P = against .0
+
         from : From G p P
         from = against .1
+
         follows : Follows G F P
         follows = against .2
+
         slow : (k : ℕ) → k < rankAt G X p → ReachedWithin (λ i. left (states G P i)) (λ i. right (states G P i)) k → ⊥
         slow k l =
             puts-off never _ _ (λ i. rankAt G X (P .at i)) (until-goal P)
@@ -63,7 +68,7 @@ module _ (G : Arena) (proper : Proper (G .structure)) (X : Table) where
   module _ (left : ℕ → Type 0) (ranks : RankFacts G (always left) (rankAt G X)) (left? : LeftDecided G (always left)) where
     -- a counter-strategy that lowers the rank
     lower : (ρ : CounterStrategy) × IsCounterStrategy G ρ
-      × ((P : Play G) → Answers G ρ P → ((i : ℕ) → Affordable G (P .at i) (P .move i)) → (i : ℕ) → (0 < rankAt G X (P .at i)) × (rankAt G X (P .at i) < never) → rankAt G X (P .at (suc i)) < rankAt G X (P .at i))
+        × ((P : Play G) → Answers G ρ P → ((i : ℕ) → Affordable G (P .at i) (P .move i)) → (i : ℕ) → (0 < rankAt G X (P .at i)) × (rankAt G X (P .at i) < never) → rankAt G X (P .at (suc i)) < rankAt G X (P .at i))
     lower =
         answered-along G proper (λ p. (0 < rankAt G X p) × (rankAt G X p < never)) (λ p _. Dec·and (decLt 0 (rankAt G X p)) (decLt (rankAt G X p) never)) (λ p x. rankAt G X x < rankAt G X p)
         (λ p fits region. ranks .attack p fits (region .0) (region .1))
@@ -74,9 +79,9 @@ module _ (G : Arena) (proper : Proper (G .structure)) (X : Table) where
         lost : (F : Strategy) → KeepsWithin G p F → (P : Play G) → From G p P → Follows G F P → Answers G (lower .0) P → LostOn G X (always left) p (states G P)
         lost F keeps P from follows answers =
             let found = reaches never (λ _. Unit {0}) (λ i. left (states G P i) → ⊥) (λ i. rankAt G X (P .at i))
-                  (λ i e. ranks .reached (P .at i) (at-fits G proper P i) e)
-                  (λ i positive finite. (tt, lower .2 P answers (strategy-paid G proper p F keeps P from follows) i (positive, finite)))
-                  (rw from (omega (arith, ranks .bounded p fits))) in
+            (λ i e. ranks .reached (P .at i) (at-fits G proper P i) e)
+            (λ i positive finite. (tt, lower .2 P answers (strategy-paid G proper p F keeps P from follows) i (positive, finite)))
+            (rw from (omega (arith, ranks .bounded p fits))) in
             (found .0, omega (arith, found .1, ap (rankAt G X) from), found .2)
 
     always-no-sooner : (p : Position) → IsPosition G p → NoSooner G X (always left) p
@@ -85,6 +90,7 @@ module _ (G : Arena) (proper : Proper (G .structure)) (X : Table) where
         -- a strategy that keeps the rank up
         resist : (F : Strategy) × KeepsWithin G p F × ((P : Play G) → From G p P → Follows G F P → (i : ℕ) → 0 < rankAt G X (P .at i) → Kept G X (P .at i) (P .at (suc i)))
         resist = forced-along G proper (λ x. 0 < rankAt G X x) (λ x _. decLt 0 (rankAt G X x)) (Kept G X) (λ x fits′ positive. ranks .defend x fits′ tt positive) p fits
+
         slow : (P : Play G) → From G p P → Follows G (resist .0) P → (k : ℕ) → k < rankAt G X p → left (states G P k)
         slow P from follows k l = go (left? (states G P k) (at-fits G proper P k .0))
           where
@@ -100,15 +106,16 @@ module _ (G : Arena) (proper : Proper (G .structure)) (X : Table) where
   next-lost left ranks p fits unclaimed = (spoil .0, spoil .1, λ F keeps P from follows answers. spoil .2 P answers (strategy-paid G proper p F keeps P from follows) 0 (rw from unclaimed))
     where
       spoil : (ρ : CounterStrategy) × IsCounterStrategy G ρ
-        × ((P : Play G) → Answers G ρ P → ((i : ℕ) → Affordable G (P .at i) (P .move i)) → (i : ℕ) → (rankAt G X (P .at i) ≡ 1 → ⊥) → left (states G P (suc i)) → ⊥)
+          × ((P : Play G) → Answers G ρ P → ((i : ℕ) → Affordable G (P .at i) (P .move i)) → (i : ℕ) → (rankAt G X (P .at i) ≡ 1 → ⊥) → left (states G P (suc i)) → ⊥)
       spoil = answered-along G proper (λ x. rankAt G X x ≡ 1 → ⊥) (λ x _. not? (ℕ-discrete (rankAt G X x) 1)) (λ x y. left (y .state) → ⊥) (λ x fits′ region. pick x region (ranks x fits′))
         where
           not? : {A : Type 0} → Dec A → Dec (A → ⊥)
           not? (yes a) = no (λ f. f a)
           not? (no f) = yes f
+
           pick : (x : Position) → (rankAt G X x ≡ 1 → ⊥)
-            → ((rankAt G X x ≡ 1) × CanForce G x (λ y. left (y .state))) ⊎ ((rankAt G X x ≡ never) × CanAnswer G x (λ y. left (y .state) → ⊥))
-            → CanAnswer G x (λ y. left (y .state) → ⊥)
+              → ((rankAt G X x ≡ 1) × CanForce G x (λ y. left (y .state))) ⊎ ((rankAt G X x ≡ never) × CanAnswer G x (λ y. left (y .state) → ⊥))
+              → CanAnswer G x (λ y. left (y .state) → ⊥)
           pick x region (inl (e, _)) = absurd (region e)
           pick x region (inr (_, can)) = can
 

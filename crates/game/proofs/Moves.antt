@@ -35,6 +35,7 @@ module _ (S : Structure) (proper : Proper S) where
     where
       small : 0 < 4 ^ S .agents
       small = omega (arith, joint-below (S .agents) (λ _. 0) (λ _ _. omega arith))
+
       go : {a : ℕ} (t : Bool) → (1 ≤ S .actions q a) × (S .actions q a ≤ 4) → cond t (digit 0 a < S .actions q a) (digit 0 a ≡ 0)
       go {a} true h = omega (arith, digit-idle a)
       go {a} false h = digit-idle a
@@ -48,6 +49,7 @@ module _ (S : Structure) (proper : Proper S) where
     where
       free : S .cost q n (digit 0 n) r ≡ 0
       free = rw (digit-idle n) (proper .idle-free q n r l (omega arith) lr)
+
       go : (t : Bool) → cond t (S .cost q n (digit 0 n) r) 0 ≡ 0
       go true = free
       go false = refl
@@ -70,14 +72,15 @@ module _ (S : Structure) (proper : Proper S) where
       together =
           let n = S .agents in
           let mine : joint n (part A (merge A m r)) ≡ m =
-              joint-cong n (part A (merge A m r)) (digit m) (λ a l. first a (A a) (move .1 a l)) ∙ joint-digit n m (move .0) in
+          joint-cong n (part A (merge A m r)) (digit m) (λ a l. first a (A a) (move .1 a l)) ∙ joint-digit n m (move .0) in
           let others : joint n (part (opponents A) (merge A m r)) ≡ r =
-              joint-cong n (part (opponents A) (merge A m r)) (digit r) (λ a l. second a (A a) (reply .1 a l)) ∙ joint-digit n r (reply .0) in
+          joint-cong n (part (opponents A) (merge A m r)) (digit r) (λ a l. second a (A a) (reply .1 a l)) ∙ joint-digit n r (reply .0) in
           omega (arith, joint-parts n A (merge A m r))
         where
           first : (a : ℕ) (t : Bool) → cond t (digit m a < S .actions q a) (digit m a ≡ 0) → cond t (cond t (digit m a) (digit r a)) 0 ≡ digit m a
           first a true h = refl
           first a false h = sym h
+
           second : (a : ℕ) (t : Bool) → cond (not t) (digit r a < S .actions q a) (digit r a ≡ 0) → cond (not t) (cond t (digit m a) (digit r a)) 0 ≡ digit r a
           second a true h = sym h
           second a false h = refl
@@ -102,9 +105,10 @@ module _ (S : Structure) (proper : Proper S) where
       number-digit = digit-joint (S .agents) (part A σ) (part-small (S .agents) A σ (λ a l t. omega (arith, move a l t, proper .acts q a inside l)))
 
       pub number-move : MoveOf S A q (joint (S .agents) (part A σ))
-      number-move =
-          (joint-below (S .agents) (part A σ) (part-small (S .agents) A σ (λ a l t. omega (arith, move a l t, proper .acts q a inside l))),
-          λ a l. go a (A a) (move a l) (number-digit a l))
+      number-move = (
+        joint-below (S .agents) (part A σ) (part-small (S .agents) A σ (λ a l t. omega (arith, move a l t, proper .acts q a inside l))),
+        λ a l. go a (A a) (move a l) (number-digit a l),
+      )
         where
           go : (a : ℕ) (t : Bool) → (T t → σ a < S .actions q a) → digit (joint (S .agents) (part A σ)) a ≡ cond t (σ a) 0 → cond t (digit (joint (S .agents) (part A σ)) a < S .actions q a) (digit (joint (S .agents) (part A σ)) a ≡ 0)
           go a true h e = omega (arith, h tt)

@@ -26,9 +26,10 @@ module _ (G : Arena) (proper : Proper (G .structure)) where
   moveBy F h = joint (G .structure .agents) (part (G .coalition) (F h))
 
   pub outcome-fits : (p : Position) (m r : ℕ) → IsPosition G p → Move G p m → Reply G p r → IsPosition G (outcome G p m r)
-  outcome-fits p m r fits move reply =
-      (proper .next-fits (p .state) (digit (m + r)) (fits .0) (together-available (G .structure) proper (G .coalition) (p .state) m r move reply),
-      λ j l. remaining-fits (G .bounds j) (p .stock j) (cost G p m j) (fits .1 j l))
+  outcome-fits p m r fits move reply = (
+    proper .next-fits (p .state) (digit (m + r)) (fits .0) (together-available (G .structure) proper (G .coalition) (p .state) m r move reply),
+    λ j l. remaining-fits (G .bounds j) (p .stock j) (cost G p m j) (fits .1 j l),
+  )
 
   pub at-fits : (P : Play G) (i : ℕ) → IsPosition G (P .at i)
   at-fits P zero = P .start
@@ -40,25 +41,35 @@ module _ (G : Arena) (proper : Proper (G .structure)) where
     where
       S : Structure
       S = G .structure
+
       A : Coalition
       A = G .coalition
+
       q : ℕ
       q = P .at i .state
+
       m : ℕ
       m = P .move i
+
       r : ℕ
       r = P .reply i
+
       move : MoveOf S A q m
       move = P .moved i
+
       reply : MoveOf S (opponents A) q r
       reply = P .replied i
+
       σ : Joint
       σ = F (prefix (states G P) i)
+
       inside : q < S .states
       inside = at-fits P i .0
+
       first : (t : Bool) (k l : ℕ) → T t → cond t k l ≡ k
       first true k l _ = refl
       first false k l h = absurd h
+
       agrees : Agree S A (digit (m + r)) σ
       agrees a l t =
           together-digit S proper A q m r move reply a l
@@ -73,8 +84,10 @@ module _ (G : Arena) (proper : Proper (G .structure)) where
     where
       q : ℕ
       q = P .at n .state
+
       inside : q < G .structure .states
       inside = at-fits P n .0
+
       here : moveCost (G .structure) (G .coalition) q (F (prefix (states G P) n)) r ≡ cost G (P .at n) (P .move n) r
       here =
           sym (number-cost (G .structure) proper (G .coalition) q inside (F (prefix (states G P) n)) (moves (G .structure) (G .coalition) F strategy (states G P) n inside) r)
@@ -122,7 +135,7 @@ module _ (G : Arena) (proper : Proper (G .structure)) where
         let n = G .structure .agents in
         let m = consistent i .0 in
         let mine : moveBy F (prefix λs i) ≡ joint n (part (G .coalition) m) =
-            joint-cong n _ (part (G .coalition) m) (λ a l. same a (G .coalition a) (consistent i .2 a l)) in
+        joint-cong n _ (part (G .coalition) m) (λ a l. same a (G .coalition a) (consistent i .2 a l)) in
         omega (arith, joint-parts n (G .coalition) m)
       where
         same : (a : ℕ) (t : Bool) → (T t → consistent i .0 a ≡ F (prefix λs i) a) → cond t (F (prefix λs i) a) 0 ≡ cond t (consistent i .0 a) 0
@@ -156,8 +169,10 @@ module _ (G : Arena) (proper : Proper (G .structure)) where
           replied = λ i. rw (state-is i) (replyAt-reply i);
           step = λ i. refl;
         }
+
         same : states G P ≡ λs
         same = fun-ext state-is
+
         follows : Follows G F P
         follows i = ap (λ (μs : Computation). moveBy F (prefix μs i)) (sym same)
 

@@ -24,7 +24,6 @@ below-suc {P} n before here j l = go (ℕ-discrete j n)
 module _ (never : ℕ) (Safe Goal : ℕ → Type 0) (rank : ℕ → ℕ) where
   -- a finite rank falls until it is 0
   module _ (reached : (i : ℕ) → rank i ≡ 0 → Goal i) (falls : (i : ℕ) → 0 < rank i → rank i < never → Safe i × (rank (suc i) < rank i)) (start : rank 0 < never) where
-
     -- the goal is reached, or the rank has fallen by one in each move
     reached-or-falling : (n : ℕ) → ReachedWithin Safe Goal n ⊎ ((rank n + n ≤ rank 0) × ((j : ℕ) → j < n → Safe j))
     reached-or-falling zero = inr (omega arith, λ j l. absurd (omega arith))

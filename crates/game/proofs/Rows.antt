@@ -85,11 +85,13 @@ module _ (b : Block) (valid : Valid b) (i : ℕ) (inside : i < L.rows b) where
   row-wins strategic q l = go (ℕ-discrete (L.kind b i) L.nextKind) (ℕ-discrete (L.kind b i) L.alwaysKind)
     where
       wins : (φ : Formula) (t : Objective) → formulaOf b i ≡ φ → objectiveOf b i ≡ t
-        → (Sat (structureOf b) φ q ↔ CoalitionWins (arenaOf b i) t (full (arenaOf b i) q))
-        → RowTrue b i q ↔ CoalitionWins (arenaOf b i) (objectiveOf b i) (full (arenaOf b i) q)
+          → (Sat (structureOf b) φ q ↔ CoalitionWins (arenaOf b i) t (full (arenaOf b i) q))
+          → RowTrue b i q ↔ CoalitionWins (arenaOf b i) (objectiveOf b i) (full (arenaOf b i) q)
       wins φ t formula objective = subst₂ (λ (φ : Formula) (t : Objective). Sat (structureOf b) φ q ↔ CoalitionWins (arenaOf b i) t (full (arenaOf b i) q)) (sym formula) (sym objective)
+
       at : (t : Objective) → Can (structureOf b) (coalitionOf b i) (boundsOf b i) (True t) q ↔ CoalitionWins (arenaOf b i) t (full (arenaOf b i) q)
       at t = can-enforces (arenaOf b i) (valid-proper b valid) (True t) q l
+
       go : Dec (L.kind b i ≡ L.nextKind) → Dec (L.kind b i ≡ L.alwaysKind) → RowTrue b i q ↔ CoalitionWins (arenaOf b i) (objectiveOf b i) (full (arenaOf b i) q)
       go (yes e) _ = wins _ _ (next-formula e) (next-objective e) (at (P.next (RowTrue b (L.left b i))))
       go (no _) (yes e) = wins _ _ (always-formula e) (always-objective e) (at (P.always (RowTrue b (L.left b i))))

@@ -101,5 +101,5 @@ module _ (G : Arena) (proper : Proper (G .structure)) (pick : Position → ℕ) 
           let start : P .at 0 .stock ≡ stock = ap (λ (y : Position). y .stock) (found .1) in
           let paid : Fits (spentOn G P n r) (budget G (P .at 0) r) = within-along G proper P (picks-affordable (fits .1) P start (found .2)) n r l in
           let same : spentOn G P n r ≡ spent (G .structure) (G .coalition) asStrategy λs n r =
-              sym (same-cost G proper asStrategy (is-strategy (fits .1)) P (found .2) n r) ∙ ap (λ (μs : Computation). spent (G .structure) (G .coalition) asStrategy μs n r) (found .3) in
+          sym (same-cost G proper asStrategy (is-strategy (fits .1)) P (found .2) n r) ∙ ap (λ (μs : Computation). spent (G .structure) (G .coalition) asStrategy μs n r) (found .3) in
           rw same at (rw (found .1) at paid)

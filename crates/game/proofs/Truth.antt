@@ -26,12 +26,18 @@ module _ (G : Arena) where
     can-enforces = (to, from)
       where
         to : Can (G .structure) (G .coalition) (G .bounds) property q → Enforces G (full G q) property
-        to (F, strategy, within, true) =
-            (F, (strategy, λ λs l consistent n r lr. subst (Fits _) (sym (full-bound (G .bounds r))) (within λs l consistent n r lr)),
-            λ P starts follows. true (states G P) (ap (λ (x : Position). x .state) starts) (play-consistent G proper F strategy P follows))
+        to (F, strategy, within, true) = (
+          F,
+          (strategy, λ λs l consistent n r lr. subst (Fits _) (sym (full-bound (G .bounds r))) (within λs l consistent n r lr)),
+          λ P starts follows. true (states G P) (ap (λ (x : Position). x .state) starts) (play-consistent G proper F strategy P follows),
+        )
+
         from : Enforces G (full G q) property → Can (G .structure) (G .coalition) (G .bounds) property q
-        from (F, (strategy, within), true) =
-            (F, strategy, (λ λs l consistent n r lr. subst (Fits _) (full-bound (G .bounds r)) (within λs l consistent n r lr)),
-            λ λs starts consistent.
+        from (F, (strategy, within), true) = (
+          F,
+          strategy,
+          (λ λs l consistent n r lr. subst (Fits _) (full-bound (G .bounds r)) (within λs l consistent n r lr)),
+          λ λs starts consistent.
               let (P, start, follows, same) = computation-play G proper F strategy λs consistent (full G q) (full-fits q inside) (sym starts) in
-              subst property same (true P start follows))
+              subst property same (true P start follows),
+        )

@@ -82,6 +82,7 @@ module _ (G : Arena) (X : Table) where
               at-rank (no e) = let good = b .1 (omega arith) .1 in rw (shown-good (until left right) p good) (good .0)
           backed (always left) b = rw (shown-good (always left) p (b .1)) (b .1 .0)
           backed (next left) b = rw (shown-good (next left) p b) (b .0)
+
           go : Dec (Claims G X t p) → Allowed G p (shown (moveAt G X p))
           go (yes c) = backed t (facts .claimed p fits c)
           go (no c) = rw (facts .unclaimed p fits c) (idle-allowed G proper p fits)
@@ -104,6 +105,7 @@ module _ (G : Arena) (X : Table) where
       where
         good-shows : (t : Objective) → Good G X t p (moveAt G X p) → ⊥
         good-shows t good = omega (arith, move-small (G .structure) proper (G .coalition) (p .state) _ (good .0 .0))
+
         go : (t : Objective) → Backed G X t p → ⊥
         go (until left right) b = at-rank (ℕ-discrete (rankAt G X p) 0)
           where
@@ -130,8 +132,10 @@ module _ (G : Arena) (X : Table) where
       where
         pick : Position → ℕ
         pick x = shown (moveAt G X x)
+
         allowed : (x : Position) → IsPosition G x → Allowed G x (pick x)
         allowed = shown-allowed t facts
+
         won : (P : Play G) → From G p P → Follows G (asStrategy G proper pick allowed (p .stock)) P → WonOn G X t p (states G P)
         won P from follows =
             let by : ByTable G X P = picks G proper pick allowed (p .stock) (fits .1) P (ap (λ (x : Position). x .stock) from) follows in

@@ -26,8 +26,8 @@ module _ (G : Arena) where
     pub attack : (p : Position) → IsPosition G p → 0 < rank p → rank p < never → Attack p (λ x. rank x < rank p)
     -- and nothing does better
     pub defend :
-      (p : Position) → IsPosition G p → Safe (p .state) → 0 < rank p
-      → Defend p (λ x. (rank p ≤ suc (rank x)) × (rank p ≡ never → rank x ≡ never))
+        (p : Position) → IsPosition G p → Safe (p .state) → 0 < rank p
+        → Defend p (λ x. (rank p ≤ suc (rank x)) × (rank p ≡ never → rank x ≡ never))
 
   abbrev pub RankFacts : Objective → (Position → ℕ) → Type 0
   RankFacts (until left right) rank = Ranked CanForce CanAnswer left right rank

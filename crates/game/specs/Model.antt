@@ -1,7 +1,9 @@
 -- The structure and the formulas that a block holds (document 01, "The job").
 use mathlib.Core.Bool.{Bool, cond}
-use Prim.Native.Nat.{ℕ, zero, suc, _/_, _%_, _^_}
-use lib.Dec.{eqb}
+use mathlib.Core.Logic.{_↔_}
+use Prim.Native.Nat.{ℕ, zero, suc, _/_, _%_, _^_, _<_}
+use lib.Dec.{eqb, ltb}
+use Rattle.block.specs.Decide.{Bit}
 use Rattle.block.specs.Layout as L
 use Rattle.block.specs.Layout.{Block}
 use Rattle.game.specs.Rbatl as R
@@ -28,12 +30,12 @@ structureOf b = record {
 abbrev pub boundOf : ℕ → Bound
 boundOf n = cond (eqb n L.unlimited) unlimited (limit n)
 
--- the coalition and the bounds of row i
+-- the coalition and the bounds of row i. An absent resource is unlimited, so that its stock is 0
 abbrev pub coalitionOf : Block → ℕ → Coalition
 coalitionOf b i a = bit (L.team b i) a
 
 abbrev pub boundsOf : Block → ℕ → Bounds
-boundsOf b i r = boundOf (L.bound b i r)
+boundsOf b i r = cond (ltb r (L.resources b)) (boundOf (L.bound b i r)) unlimited
 
 -- what stands for each kind of row
 abbrev pub byKind {ℓ} : {A : Type ℓ} → ℕ → A → A → A → A → A → A → A
@@ -65,6 +67,10 @@ formulaOf b i = rowFormula b i (formulasBelow b i)
 -- row i is true in state q
 abbrev pub RowTrue : Block → ℕ → ℕ → Type 0
 RowTrue b i q = Sat (structureOf b) (formulaOf b i) q
+
+-- the word w is row i's set: bit s for state s (document 01, "Sets are 32-bit words")
+abbrev pub RowSet : Block → ℕ → ℕ → Type 0
+RowSet b i w = (w < 2 ^ 32) × ((s : ℕ) → Bit w s ↔ ((s < L.states b) × RowTrue b i s))
 
 -- where a strategic row i is played, and what it asks of a play
 abbrev pub arenaOf : Block → ℕ → Arena

@@ -133,10 +133,10 @@ module _ (G : Arena) where
       -- where the coalition wins: every play by the table, whatever the replies, is paid and won; it idles only after the row is settled
       pub by-table : CoalitionWins G t p → (P : Play G) → From G p P → ByTable P → Paid G P × WonOn t p (states G P)
       pub idles-settled :
-        CoalitionWins G t p → (P : Play G) → From G p P → ByTable P
-        → (n : ℕ) → moveAt (P .at n) ≡ noMove → Settled t (states G P) n
+          CoalitionWins G t p → (P : Play G) → From G p P → ByTable P
+          → (n : ℕ) → moveAt (P .at n) ≡ noMove → Settled t (states G P) n
       -- elsewhere: every strategy within the stock loses its play against the replies; a position that it wins comes only after the row is settled
       pub by-replies :
-        OpponentsWin G t p → (ρ : CounterStrategy) → ReplyRule t (CoalitionWins G t) ρ
-        → (F : Strategy) → KeepsWithin G p F → (P : Play G) → From G p P → Follows G F P → Answers G ρ P
-        → LostOn t p (states G P) × ((n : ℕ) → CoalitionWins G t (P .at n) → Settled t (states G P) n)
+          OpponentsWin G t p → (ρ : CounterStrategy) → ReplyRule t (CoalitionWins G t) ρ
+          → (F : Strategy) → KeepsWithin G p F → (P : Play G) → From G p P → Follows G F P → Answers G ρ P
+          → LostOn t p (states G P) × ((n : ℕ) → CoalitionWins G t (P .at n) → Settled t (states G P) n)
