@@ -20,3 +20,4 @@ pub mod Truth
 pub mod Blocks
 pub mod Rows
 pub mod Tables
+pub mod Same
