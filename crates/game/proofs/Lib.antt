@@ -21,3 +21,4 @@ pub mod Blocks
 pub mod Rows
 pub mod Tables
 pub mod Same
+pub mod ByNumber
