@@ -13,7 +13,8 @@ use Rattle.game.specs.Facts.{CanForce, CanAnswer, RankFacts, Claims, Bac
 use Rattle.game.proofs.Proper.{Proper}
 use Rattle.game.proofs.Plays.{strategy-paid, play-against}
 use Rattle.game.proofs.Bounded.{force-answer, answer-force, rank-below}
-use Rattle.game.proofs.Winning.{claims?, won-true, table-won, table-paid, table-idles-settled, claimed-won}
+use Rattle.game.proofs.Winning.{won-true, table-won, table-paid, table-idles-settled, claimed-won}
+use Rattle.game.proofs.Decidable.{claims?}
 use Rattle.game.proofs.Losing.{unclaimed-lost, no-sooner}
 use Rattle.game.proofs.Replies.{replies-win}
 

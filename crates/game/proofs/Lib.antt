@@ -22,3 +22,4 @@ pub mod Rows
 pub mod Tables
 pub mod Same
 pub mod ByNumber
+pub mod Certificate

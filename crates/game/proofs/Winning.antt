@@ -18,6 +18,7 @@ use Rattle.game.proofs.Ranks.{ReachedWithin, reaches, unranked-reached}
 use Rattle.game.proofs.Settled.{met-settled, next-true-settled}
 use Rattle.game.proofs.Plays.{at-fits, within-along}
 use Rattle.game.proofs.Strategies.{asStrategy, keeps, picks}
+use Rattle.game.proofs.Decidable.{claims?}
 use Rattle.game.proofs.Choices.{idle-allowed, idle-reply}
 
 -- a move that exists is shown as it is
@@ -37,11 +38,6 @@ won-true G X (always left) p λs w = w
 won-true G X (next left) p λs w = w
 
 module _ (G : Arena) (X : Table) where
-  pub claims? : (t : Objective) (p : Position) → Dec (Claims G X t p)
-  claims? (until left right) p = decLt (rankAt G X p) never
-  claims? (always left) p = ℕ-discrete (rankAt G X p) never
-  claims? (next left) p = ℕ-discrete (rankAt G X p) 1
-
   module _ (proper : Proper (G .structure)) where
     shown-good : (t : Objective) (p : Position) → Good G X t p (moveAt G X p) → shown (moveAt G X p) ≡ moveAt G X p
     shown-good t p good = shown-small (moveAt G X p) (move-small (G .structure) proper (G .coalition) (p .state) _ (good .0 .0))
@@ -72,7 +68,7 @@ module _ (G : Arena) (X : Table) where
     module _ (t : Objective) (facts : WinningFacts G X t) where
       -- what the table shows can always be paid
       pub shown-allowed : (p : Position) → IsPosition G p → Allowed G p (shown (moveAt G X p))
-      shown-allowed p fits = go (claims? t p)
+      shown-allowed p fits = go (claims? G X t p)
         where
           backed : (t : Objective) → Backed G X t p → Allowed G p (shown (moveAt G X p))
           backed (until left right) b = at-rank (ℕ-discrete (rankAt G X p) 0)
