@@ -22,4 +22,5 @@ pub mod Rows
 pub mod Tables
 pub mod Same
 pub mod ByNumber
+pub mod Lower
 pub mod Certificate
