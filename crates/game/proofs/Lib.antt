@@ -24,3 +24,5 @@ pub mod Same
 pub mod ByNumber
 pub mod Lower
 pub mod Certificate
+pub mod BlockTests
+pub mod Starred

@@ -1,4 +1,4 @@
--- The rows of a block that passes: what each kind of row says in terms of lower rows, and for a strategic row that it is true exactly
+-- The rows of a block: what each kind of row says in terms of lower rows, and for a strategic row that it is true exactly
 -- where the coalition wins at full stock. Assumes nothing.
 use mathlib.Core.Bool.{Bool, true, false, cond}
 use mathlib.Core.Logic.{_⊎_, _↔_, inl, inr, Iff·trans}
@@ -10,7 +10,7 @@ use lib.Dec.{T, eqb}
 use borrow.Author.Tests.{eq-eqb, ne-eqb}
 use Rattle.block.specs.Layout as L
 use Rattle.block.specs.Layout.{Block, Strategic}
-use Rattle.block.specs.Valid.{Valid}
+use Rattle.block.specs.Valid.{RowFits}
 use Rattle.game.specs.Rbatl as R
 use Rattle.game.specs.Rbatl.{Formula, Sat, Can}
 use Rattle.game.specs.Position.{full}
@@ -18,7 +18,7 @@ use Rattle.game.specs.Play as P
 use Rattle.game.specs.Play.{Objective, True, CoalitionWins}
 use Rattle.game.specs.Model.{bit, structureOf, coalitionOf, boundsOf, byKind, rowFormula, formulasBelow, formulaOf, RowTrue, arenaOf, objectiveOf}
 use Rattle.game.proofs.Truth.{can-enforces}
-use Rattle.game.proofs.Blocks.{valid-proper}
+use Rattle.game.proofs.Proper.{Proper}
 
 -- the formulas below row i are those of their own rows
 pub below-formula : (b : Block) (i j : ℕ) → j < i → formulasBelow b i j ≡ formulaOf b j
@@ -29,13 +29,13 @@ below-formula b (suc i) j l = go (ℕ-discrete j i) (below-formula b i j)
     go (yes e) _ = ap (λ (t : Bool). cond t (formulaOf b i) (formulasBelow b i j)) (eq-eqb j i e) ∙ ap (formulaOf b) (sym e)
     go (no e) lower = ap (λ (t : Bool). cond t (formulaOf b i) (formulasBelow b i j)) (ne-eqb j i e) ∙ lower (omega arith)
 
-module _ (b : Block) (valid : Valid b) (i : ℕ) (inside : i < L.rows b) where
+module _ (b : Block) (proper : Proper (structureOf b)) (i : ℕ) (row : RowFits b i) where
   -- the lower rows' formulas are their own
   left-formula : L.propKind < L.kind b i → formulasBelow b i (L.left b i) ≡ formulaOf b (L.left b i)
-  left-formula strict = below-formula b i (L.left b i) (valid .row-fits i inside .left-lower strict)
+  left-formula strict = below-formula b i (L.left b i) (row .left-lower strict)
 
   right-formula : L.Binary (L.kind b i) → formulasBelow b i (L.right b i) ≡ formulaOf b (L.right b i)
-  right-formula binary = below-formula b i (L.right b i) (valid .row-fits i inside .right-lower binary)
+  right-formula binary = below-formula b i (L.right b i) (row .right-lower binary)
 
   abbrev standsFor : ℕ → Formula
   standsFor k =
@@ -90,7 +90,7 @@ module _ (b : Block) (valid : Valid b) (i : ℕ) (inside : i < L.rows b) where
       wins φ t formula objective = subst₂ (λ (φ : Formula) (t : Objective). Sat (structureOf b) φ q ↔ CoalitionWins (arenaOf b i) t (full (arenaOf b i) q)) (sym formula) (sym objective)
 
       at : (t : Objective) → Can (structureOf b) (coalitionOf b i) (boundsOf b i) (True t) q ↔ CoalitionWins (arenaOf b i) t (full (arenaOf b i) q)
-      at t = can-enforces (arenaOf b i) (valid-proper b valid) (True t) q l
+      at t = can-enforces (arenaOf b i) proper (True t) q l
 
       go : Dec (L.kind b i ≡ L.nextKind) → Dec (L.kind b i ≡ L.alwaysKind) → RowTrue b i q ↔ CoalitionWins (arenaOf b i) (objectiveOf b i) (full (arenaOf b i) q)
       go (yes e) _ = wins _ _ (next-formula e) (next-objective e) (at (P.next (RowTrue b (L.left b i))))

@@ -33,7 +33,7 @@ module _ (b : Block) (valid : Valid b) (i : ℕ) (X : Table) (facts : Facts (are
   pub table-set : i < L.rows b → Strategic (L.kind b i) → (q : ℕ) → q < L.states b → RowTrue b i q ↔ Claims (arenaOf b i) X (objectiveOf b i) (full (arenaOf b i) q)
   table-set inside strategic q l =
       let fits = full-fits (arenaOf b i) q l in
-      Iff·trans (row-wins b valid i inside strategic q l) (
+      Iff·trans (row-wins b (valid-proper b valid) i (valid .row-fits i inside) strategic q l) (
         wins-claimed (arenaOf b i) (valid-proper b valid) X (objectiveOf b i) facts (full (arenaOf b i) q) fits,
         claims-win (arenaOf b i) (valid-proper b valid) X (objectiveOf b i) facts (full (arenaOf b i) q) fits,
       )

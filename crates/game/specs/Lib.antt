@@ -5,3 +5,4 @@ pub mod Play
 pub mod Table
 pub mod Facts
 pub mod Model
+pub mod Catch
