@@ -45,3 +45,43 @@ module _ (b : Block) where
         next-fits = λ q m l available. tests .1 q l .1 .1 (joint (L.agents b) m) (joint-below (L.agents b) m (λ a h. omega (arith, available a h, tests .1 q l .0 a h)));
         next-agrees = λ q m m′ same. ap (L.next b q) (joint-cong (L.agents b) m m′ same);
       }
+
+  abbrev pub binary? : (k : ℕ) → Dec (Binary k)
+  binary? k = either? (eq? k L.orKind) (λ _. eq? k L.untilKind)
+
+  abbrev pub strategic? : (k : ℕ) → Dec (Strategic k)
+  strategic? k = both? (le? L.nextKind k) (λ _. le? k L.untilKind)
+
+  -- a row's fields are in range
+  abbrev pub row-fits? : (i : ℕ) → Dec (RowFits b i)
+  row-fits? i =
+      let k = L.kind b i in
+      let tests :
+      Dec ((k ≤ L.untilKind)
+      × ((k ≡ L.propKind → L.left b i < L.propositions b)
+      × ((L.propKind < k → L.left b i < i)
+      × ((Binary k → L.right b i < i)
+      × (Strategic k
+      → (0 < L.team b i)
+      × ((L.team b i < 2 ^ L.agents b)
+      × ((j : ℕ) → j < L.resources b → 15 < L.bound b i j → L.bound b i j ≡ L.unlimited))))))) =
+      both? (le? k L.untilKind) λ _.
+      both? (implies? (eq? k L.propKind) (λ _. lt? (L.left b i) (L.propositions b))) λ _.
+      both? (implies? (lt? L.propKind k) (λ _. lt? (L.left b i) i)) λ _.
+      both? (implies? (binary? k) (λ _. lt? (L.right b i) i)) λ _.
+      implies? (strategic? k) λ _.
+      both? (lt? 0 (L.team b i)) λ _.
+      both? (lt? (L.team b i) (2 ^ L.agents b)) λ _.
+      all-below (λ j. 15 < L.bound b i j → L.bound b i j ≡ L.unlimited) (L.resources b) (λ j _. implies? (lt? 15 (L.bound b i j)) (λ _. eq? (L.bound b i j) L.unlimited)) in
+      elim tests [
+        | yes h ↦ yes record {
+          known = h .0;
+          prop-fits = h .1 .0;
+          left-lower = h .1 .1 .0;
+          right-lower = h .1 .1 .1 .0;
+          team-some = λ s. h .1 .1 .1 .1 s .0;
+          team-fits = λ s. h .1 .1 .1 .1 s .1 .0;
+          bound-fits = λ s. h .1 .1 .1 .1 s .1 .1;
+        }
+        | no fails ↦ no (λ r. fails (r .known, (r .prop-fits, (r .left-lower, (r .right-lower, λ s. (r .team-some s, (r .team-fits s, r .bound-fits s)))))))
+      ]

@@ -101,6 +101,30 @@ module _ (G : Arena) (proper : Proper (G .structure)) (X : Table) where
           | no fails ↦ no (λ at. fails (at .lost, (at .met, at .best)))
         ]
 
+    abbrev pub failed? : (t : Objective) → RowsDecided G t → Dec (Failed G X t p)
+    failed? (until left right) rows = both? (not? (rows .0 (p .state) (fits .0))) (λ _. not? (rows .1 (p .state) (fits .0)))
+    failed? (always left) rows = eq? (rankAt G X p) 0
+    failed? (next left) rows = no (λ e. e)
+
+    abbrev pub counter-aim? : (t : Objective) → RowsDecided G t → (m r : ℕ) → Allowed G p m → Reply G p r → Dec (CounterAim G X t (Claims G X t) p (outcome G p m r))
+    counter-aim? (until left right) rows m r a reply = not? (claims? G X (until left right) (outcome G p m r))
+    counter-aim? (always left) rows m r a reply = lt? (rankAt G X (outcome G p m r)) (rankAt G X p)
+    counter-aim? (next left) rows m r a reply = not? (rows (outcome G p m r .state) (outcome-fits G proper p m r fits (a .0) reply .0))
+
+    -- the reply to a move
+    abbrev pub reply-is? : (t : Objective) → RowsDecided G t → (m : ℕ) → Allowed G p m → (r : ℕ) → Dec (ReplyIs G X t (Claims G X t) p m r)
+    reply-is? t rows m a r =
+        let Best : ℕ → Type 0 = λ k. Reply G p k × CounterAim G X t (Claims G X t) p (outcome G p m k) in
+        let best? : (k : ℕ) → Dec (Best k) = λ k. both? (reply? G p k) (counter-aim? t rows m k a) in
+        let tests : Dec ((Claims G X t p → r ≡ 0) × ((Failed G X t p → r ≡ 0) × ((Claims G X t p → ⊥) → (Failed G X t p → ⊥) → Smallest Best r))) =
+        both? (implies? (claims? G X t p) (λ _. eq? r 0)) λ _.
+        both? (implies? (failed? t rows) (λ _. eq? r 0)) λ _.
+        implies? (not? (claims? G X t p)) (λ _. implies? (not? (failed? t rows)) (λ _. both? (best? r) (λ _. all-below (λ k. Best k → ⊥) r (λ k _. not? (best? k))))) in
+        elim tests [
+          | yes h ↦ yes record { won = h .0; failed = h .1 .0; best = h .1 .1 }
+          | no fails ↦ no (λ at. fails (at .won, (at .failed, at .best)))
+        ]
+
   -- whether the table has the facts at every number
   abbrev pub table? : (t : Objective) → RowsDecided G t → Dec ((n : ℕ) → n < positions G → RankAt G X t (positionOf G n) × MoveIs G X t (Claims G X t) (positionOf G n) (moveAt G X (positionOf G n)))
   table? t rows = all-below (λ n. RankAt G X t (positionOf G n) × MoveIs G X t (Claims G X t) (positionOf G n) (moveAt G X (positionOf G n))) (positions G) (λ n l. entry? (positionOf G n) (position-fits G n l) t rows)

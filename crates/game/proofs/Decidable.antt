@@ -14,7 +14,7 @@ use Rattle.game.specs.Facts.{CanForce, CanAnswer, Claims}
 use Rattle.game.proofs.Ranks.{below-suc}
 
 -- numbers
-abbrev by-test : {P : Type 0} (t : Bool) → (T t → P) → (P → T t) → Dec P
+abbrev pub by-test : {P : Type 0} (t : Bool) → (T t → P) → (P → T t) → Dec P
 by-test true sound complete = yes (sound tt)
 by-test false sound complete = no complete
 

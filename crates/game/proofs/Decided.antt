@@ -6,12 +6,12 @@ use Prim.Native.Nat.{ℕ, zero, suc, _≤_, _<_}
 use native.Mathlib.Decide.{decLt, ℕ-discrete}
 use native.Mathlib.Omega.{arith}
 use Rattle.game.specs.Rbatl.{Computation, Strategy}
-use Rattle.game.specs.Position.{Arena, Position, IsPosition, number}
+use Rattle.game.specs.Position.{Arena, Position, IsPosition, number, Reply, Allowed, outcome}
 use Rattle.game.specs.Play.{Objective, next, always, until, True, MetWithin, FalseWithin, Settled, Play, CounterStrategy, states, From, Follows, Answers, Paid, KeepsWithin, Enforces, Forces, CoalitionWins, OpponentsWin}
-use Rattle.game.specs.Table.{Table, never, noMove, rankAt, moveAt, RankIs, RankBelow, MoveIs, ReplyRule, ByTable, WonOn, LostOn, Decided}
+use Rattle.game.specs.Table.{Table, never, noMove, rankAt, moveAt, RankIs, RankBelow, MoveIs, CounterAim, ReplyIs, ReplyRule, ByTable, WonOn, LostOn, Decided}
 use Rattle.game.specs.Facts.{CanForce, CanAnswer, RankFacts, Claims, Backed, WinningFacts, Facts}
 use Rattle.game.proofs.Proper.{Proper}
-use Rattle.game.proofs.Plays.{strategy-paid, play-against}
+use Rattle.game.proofs.Plays.{outcome-fits, strategy-paid, play-against}
 use Rattle.game.proofs.Bounded.{force-answer, answer-force, rank-below}
 use Rattle.game.proofs.Winning.{won-true, table-won, table-paid, table-idles-settled, claimed-won}
 use Rattle.game.proofs.Decidable.{claims?}
@@ -145,6 +145,29 @@ module _ (G : Arena) (proper : Proper (G .structure)) (X : Table) where
       met = λ wins. facts .moves p fits .met (wins-claimed t facts p fits wins);
       best = λ wins. facts .moves p fits .best (wins-claimed t facts p fits wins);
     }
+
+    -- a reply by the ranks is a reply by plays
+    pub reply-by-plays : (p : Position) → IsPosition G p → (m r : ℕ) → Allowed G p m → ReplyIs G X t (Claims G X t) p m r → ReplyIs G X t (CoalitionWins G t) p m r
+    reply-by-plays p fits m r a at = record {
+      won = λ wins. at .won (wins-claimed t facts p fits wins);
+      failed = at .failed;
+      best = λ loses unsettled.
+          let (best, none) = at .best (λ claim. loses (claims-win t facts p fits claim)) unsettled in
+          ((best .0, aim t (wins-claimed t facts) r (best .0) (best .1)), λ k less (reply, aims). none k less (reply, back t (claims-win t facts) k reply aims));
+    }
+      where
+        lands : (k : ℕ) → Reply G p k → IsPosition G (outcome G p m k)
+        lands k reply = outcome-fits G proper p m k fits (a .0) reply
+
+        aim : (t : Objective) → ((x : Position) → IsPosition G x → CoalitionWins G t x → Claims G X t x) → (k : ℕ) → Reply G p k → CounterAim G X t (Claims G X t) p (outcome G p m k) → CounterAim G X t (CoalitionWins G t) p (outcome G p m k)
+        aim (until left right) claimed k reply loses = λ wins. loses (claimed (outcome G p m k) (lands k reply) wins)
+        aim (always left) claimed k reply lower = lower
+        aim (next left) claimed k reply fails = fails
+
+        back : (t : Objective) → ((x : Position) → IsPosition G x → Claims G X t x → CoalitionWins G t x) → (k : ℕ) → Reply G p k → CounterAim G X t (CoalitionWins G t) p (outcome G p m k) → CounterAim G X t (Claims G X t) p (outcome G p m k)
+        back (until left right) wins k reply loses = λ claim. loses (wins (outcome G p m k) (lands k reply) claim)
+        back (always left) wins k reply lower = lower
+        back (next left) wins k reply fails = fails
 
     side : (p : Position) → IsPosition G p → CoalitionWins G t p ⊎ OpponentsWin G t p
     side p fits = go (claims? G X t p)

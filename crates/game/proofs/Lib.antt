@@ -24,5 +24,6 @@ pub mod Same
 pub mod ByNumber
 pub mod Lower
 pub mod Certificate
+pub mod Labels
 pub mod BlockTests
 pub mod Starred

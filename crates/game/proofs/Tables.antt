@@ -2,27 +2,17 @@
 -- claims at full stock. Assumes nothing.
 use mathlib.Core.Logic.{_↔_, Iff·trans}
 use Prim.Native.Nat.{ℕ, _<_}
-use native.Mathlib.Decide.{ℕ-discrete}
-use Rattle.block.specs.Decide.{Bit}
 use Rattle.block.specs.Layout as L
 use Rattle.block.specs.Layout.{Block, Strategic}
 use Rattle.block.specs.Valid.{Valid}
 use Rattle.game.specs.Position.{Position, IsPosition, full}
 use Rattle.game.specs.Table.{Table, Decided}
 use Rattle.game.specs.Facts.{Claims, Facts}
-use Rattle.game.specs.Model.{RowTrue, RowSet, arenaOf, objectiveOf}
+use Rattle.game.specs.Model.{RowTrue, arenaOf, objectiveOf}
 use Rattle.game.proofs.Blocks.{valid-proper}
 use Rattle.game.proofs.Decided.{decided, claims-win, wins-claimed}
 use Rattle.game.proofs.Rows.{row-wins}
 use Rattle.game.proofs.Truth.{full-fits}
-
--- a row whose set is known is decided in every state
-pub row-decidable : (b : Block) (i w : ℕ) → RowSet b i w → (q : ℕ) → q < L.states b → Dec (RowTrue b i q)
-row-decidable b i w set q l = go (ℕ-discrete _ 1)
-  where
-    go : Dec (Bit w q) → Dec (RowTrue b i q)
-    go (yes bit) = yes (set .1 q .0 bit .1)
-    go (no unset) = no (λ true. unset (set .1 q .1 (l, true)))
 
 module _ (b : Block) (valid : Valid b) (i : ℕ) (X : Table) (facts : Facts (arenaOf b i) X (objectiveOf b i)) where
   -- demand 3 for the table of a row

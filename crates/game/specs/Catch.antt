@@ -1,7 +1,9 @@
 -- The job Catch (document 01, "The job Catch"), line by line, and its starred cases.
+use mathlib.Core.Bool.{cond}
 use mathlib.Core.List.{List, [], _∷_, _++_}
 use mathlib.Core.Path.{_≡_}
-use Prim.Native.Nat.{ℕ, zero, suc, _+_, _*_}
+use Prim.Native.Nat.{ℕ, suc, _+_, _*_}
+use lib.Dec.{eqb}
 use lib.ListN.{length, replicate}
 use lib.ListN as N
 use Rattle.block.specs.Layout as L
@@ -85,11 +87,7 @@ catch7 = writtenAll (job 2 1 3 1 7 ∷ row 6 L.alwaysKind 1 0 2 0 ∷ lines) emp
 
 -- a state with a stock of the one resource
 abbrev pub at : ℕ → ℕ → Position
-at q s = record { state = q; stock = stocks }
-  where
-    stocks : ℕ → ℕ
-    stocks zero = s
-    stocks (suc r) = 0
+at q s = record { state = q; stock = λ r. cond (eqb r 0) s 0 }
 
 -- what a case says: a row's set; the rank, the move, or the reply to a move, at a position
 pub data Case : Type 0 where
