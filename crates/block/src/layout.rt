@@ -46,6 +46,57 @@ pub fn place_at(p: usize) -> Place
     Place::Field(q / 8, q % 8)
 }
 
+// The numbers of the places, kind by kind.
+fn mask_place(s: usize) -> usize
+    requires { ⌜ s < maxStates ⌝ }
+    ensures { λ r. ⌜ (r ≡ placeOf (Place.Mask s)) × (r < blockBytes) ⌝ }
+{
+    5 + s
+}
+
+fn count_place(s: usize, a: usize) -> usize
+    requires { ⌜ (s < maxStates) × (a < maxAgents) ⌝ }
+    ensures { λ r. ⌜ (r ≡ placeOf (Place.Count s a)) × (r < blockBytes) ⌝ }
+{
+    29 + 3 * s + a
+}
+
+fn cost_place(s: usize, a: usize, k: usize, j: usize) -> usize
+    requires { ⌜ (s < maxStates) × (a < maxAgents) × (k < maxActions) × (j < maxResources) ⌝ }
+    ensures { λ r. ⌜ (r ≡ placeOf (Place.Cost s a k j)) × (r < blockBytes) ⌝ }
+{
+    101 + 24 * s + 8 * a + 2 * k + j
+}
+
+fn next_place(s: usize, joint: usize) -> usize
+    requires { ⌜ (s < maxStates) × (joint < maxJoint) ⌝ }
+    ensures { λ r. ⌜ (r ≡ placeOf (Place.Next s joint)) × (r < blockBytes) ⌝ }
+{
+    677 + 64 * s + joint
+}
+
+fn field_place(i: usize, f: usize) -> usize
+    requires { ⌜ (i < maxRows) × (f < rowBytes) ⌝ }
+    ensures { λ r. ⌜ (r ≡ placeOf (Place.Field i f)) × (r < blockBytes) ⌝ }
+{
+    2213 + 8 * i + f
+}
+
+// The number of a place.
+pub fn offset(x: Place) -> usize
+    requires { ⌜ InLayout x ⌝ }
+    ensures { λ r. ⌜ (r ≡ placeOf x) × (r < blockBytes) ⌝ }
+{
+    match x {
+        Place::Header(f) => f,
+        Place::Mask(s) => mask_place(s),
+        Place::Count(s, a) => count_place(s, a),
+        Place::Cost(s, a, k, j) => cost_place(s, a, k, j),
+        Place::Next(s, joint) => next_place(s, joint),
+        Place::Field(i, f) => field_place(i, f),
+    }
+}
+
 fn wide(x: u8) -> usize
     ensures { λ r. ⌜ r ≡ x ⌝ }
 {
@@ -105,7 +156,7 @@ pub fn mask(block: &[u8], s: usize) -> usize
     requires { ⌜ s < maxStates ⌝ }
     ensures { λ r. ⌜ r ≡ L.mask (now (block .entry)) s ⌝ }
 {
-    byte_at(block, 5 + s)
+    byte_at(block, mask_place(s))
 }
 
 // How many actions agent a has in state s.
@@ -114,7 +165,7 @@ pub fn count(block: &[u8], s: usize, a: usize) -> usize
     requires { ⌜ (s < maxStates) × (a < maxAgents) ⌝ }
     ensures { λ r. ⌜ r ≡ L.count (now (block .entry)) s a ⌝ }
 {
-    byte_at(block, 29 + 3 * s + a)
+    byte_at(block, count_place(s, a))
 }
 
 // What agent a's action k takes of resource j in state s.
@@ -123,7 +174,7 @@ pub fn cost(block: &[u8], s: usize, a: usize, k: usize, j: usize) -> usize
     requires { ⌜ (s < maxStates) × (a < maxAgents) × (k < maxActions) × (j < maxResources) ⌝ }
     ensures { λ r. ⌜ r ≡ L.cost (now (block .entry)) s a k j ⌝ }
 {
-    byte_at(block, 101 + 24 * s + 8 * a + 2 * k + j)
+    byte_at(block, cost_place(s, a, k, j))
 }
 
 // The next state after a joint action in state s.
@@ -132,7 +183,7 @@ pub fn next(block: &[u8], s: usize, joint: usize) -> usize
     requires { ⌜ (s < maxStates) × (joint < maxJoint) ⌝ }
     ensures { λ r. ⌜ r ≡ L.next (now (block .entry)) s joint ⌝ }
 {
-    byte_at(block, 677 + 64 * s + joint)
+    byte_at(block, next_place(s, joint))
 }
 
 // Field f of row i.
@@ -141,7 +192,7 @@ fn field(block: &[u8], i: usize, f: usize) -> usize
     requires { ⌜ (i < maxRows) × (f < rowBytes) ⌝ }
     ensures { λ r. ⌜ r ≡ at (now (block .entry)) (Place.Field i f) ⌝ }
 {
-    byte_at(block, 2213 + 8 * i + f)
+    byte_at(block, field_place(i, f))
 }
 
 // The kind of row i.

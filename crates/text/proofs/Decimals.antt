@@ -1,0 +1,125 @@
+-- Numbers in base ten (specs' decimal) and the byte after them, by the bytes of the text.
+--     Shape             the bytes of a text that begins with a number below 1000 and sep
+--     shape             a text that begins so has those bytes
+--     begins            a text with those bytes begins so
+--     only-one          it begins so with one number only
+-- Assumes nothing.
+use mathlib.Core.Bool.{Bool, true, false, cond}
+use mathlib.Core.List.{List, [], _∷_, _++_}
+use mathlib.Core.Logic.{_⊎_, inl, inr, ⊎-elim}
+use mathlib.Core.Path.{_≡_, refl, sym, ap, subst, _∙_}
+use Prim.Native.Nat.{ℕ, zero, suc, _+_, _*_, _/_, _%_, _≤_, _<_}
+use native.Mathlib.Omega.{arith}
+use lib.Dec.{ltb}
+use lib.ListN.{length, getD, drop, List·getD-eq-default}
+use borrow.Author.Tests.{lt-ltb, le-ltb, ltb-true, ltb-false}
+use Rattle.text.specs.Numeral.{numeral, decimal, Starts}
+
+-- one number is below another, or not
+pub lt-or-ge : (a b : ℕ) → (a < b) ⊎ (b ≤ a)
+lt-or-ge a b = go (ltb a b) refl
+  where
+    go : (t : Bool) → ltb a b ≡ t → (a < b) ⊎ (b ≤ a)
+    go true e = inl (ltb-true a b e)
+    go false e = inr (ltb-false a b e)
+
+decimal-one : (n : ℕ) → n < 10 → decimal n ≡ numeral n ∷ []
+unfolding decimal
+decimal-one n h = simp (lt-ltb n 10 h)
+
+decimal-two : (n : ℕ) → 10 ≤ n → n < 100 → decimal n ≡ numeral (n / 10) ∷ numeral (n % 10) ∷ []
+unfolding decimal
+decimal-two n l h = simp (le-ltb n 10 l, lt-ltb n 100 h)
+
+decimal-three : (n : ℕ) → 100 ≤ n → decimal n ≡ numeral (n / 100) ∷ numeral (n / 10 % 10) ∷ numeral (n % 10) ∷ []
+unfolding decimal
+decimal-three n l = simp (le-ltb n 10 (omega arith), le-ltb n 100 l)
+
+-- a text with the word's bytes begins with the word
+pub prefix : (w t : List ℕ) → length w ≤ length t → ((i : ℕ) → i < length w → getD t i 0 ≡ getD w i 0) → t ≡ w ++ drop (length w) t
+prefix [] t l h = refl
+prefix (x ∷ w) [] l h = absurd (omega arith)
+prefix (x ∷ w) (y ∷ t) l h =
+    let first : y ≡ x = h 0 (omega arith) in
+    let others : t ≡ w ++ drop (length w) t = prefix w t (omega arith) (λ i k. h (suc i) (omega arith)) in
+    (cc)
+
+pub data Shape (sep n : ℕ) (t : List ℕ) : Type 0 where
+  one : n < 10 → getD t 0 0 ≡ 48 + n → getD t 1 0 ≡ sep → Shape sep n t
+  two : 10 ≤ n → n < 100 → getD t 0 0 ≡ 48 + n / 10 → getD t 1 0 ≡ 48 + n % 10 → getD t 2 0 ≡ sep → Shape sep n t
+  three : 100 ≤ n → getD t 0 0 ≡ 48 + n / 100 → getD t 1 0 ≡ 48 + n / 10 % 10 → getD t 2 0 ≡ 48 + n % 10 → getD t 3 0 ≡ sep → Shape sep n t
+
+pub shape : (sep n : ℕ) (t : List ℕ) → Starts (decimal n ++ sep ∷ []) t → Shape sep n t
+shape sep n t s = ⊎-elim small (λ l. ⊎-elim (middle l) large (lt-or-ge n 100)) (lt-or-ge n 10)
+  where
+    small : n < 10 → Shape sep n t
+    small h =
+        let e : t ≡ numeral n ∷ sep ∷ s .0 = rw (decimal-one n h) at (s .1) in
+        rw e (one h refl refl)
+
+    middle : 10 ≤ n → n < 100 → Shape sep n t
+    middle l h =
+        let e : t ≡ numeral (n / 10) ∷ numeral (n % 10) ∷ sep ∷ s .0 = rw (decimal-two n l h) at (s .1) in
+        rw e (two l h refl refl refl)
+
+    large : 100 ≤ n → Shape sep n t
+    large l =
+        let e : t ≡ numeral (n / 100) ∷ numeral (n / 10 % 10) ∷ numeral (n % 10) ∷ sep ∷ s .0 = rw (decimal-three n l) at (s .1) in
+        rw e (three l refl refl refl refl)
+
+whole : (n : ℕ) → n ≡ 100 * (n / 100) + 10 * (n / 10 % 10) + n % 10
+whole n = omega arith
+
+cancel : {a b : ℕ} → 48 + a ≡ 48 + b → a ≡ b
+cancel e = omega arith
+
+pub only-one : (sep : ℕ) → sep < 48 → (m n : ℕ) → m < 256 → n < 256 → (t : List ℕ) → Starts (decimal m ++ sep ∷ []) t → Starts (decimal n ++ sep ∷ []) t → m ≡ n
+only-one sep p m n hm hn t a b = same (shape sep m t a) (shape sep n t b)
+  where
+    same : Shape sep m t → Shape sep n t → m ≡ n
+    same (one h x y) (one h′ x′ y′) = omega arith
+    same (one h x y) (two l h′ x′ y′ z′) = absurd (omega arith)
+    same (one h x y) (three l x′ y′ z′ w′) = absurd (omega arith)
+    same (two l h x y z) (one h′ x′ y′) = absurd (omega arith)
+    same (two l h x y z) (two l′ h′ x′ y′ z′) = omega arith
+    same (two l h x y z) (three l′ x′ y′ z′ w′) = absurd (omega arith)
+    same (three l x y z w) (one h′ x′ y′) = absurd (omega arith)
+    same (three l x y z w) (two l′ h′ x′ y′ z′) = absurd (omega arith)
+    same (three l x y z w) (three l′ x′ y′ z′ w′) =
+        let hundreds : m / 100 ≡ n / 100 = cancel (sym x ∙ x′) in
+        let tens : m / 10 % 10 ≡ n / 10 % 10 = cancel (sym y ∙ y′) in
+        let units : m % 10 ≡ n % 10 = cancel (sym z ∙ z′) in
+        whole m ∙ (cc) ∙ sym (whole n)
+
+-- a byte that is not 0 lies within the text
+pub within : (t : List ℕ) (i : ℕ) → 0 < getD t i 0 → i < length t
+within t i h = ⊎-elim (λ l. l) (λ g. absurd (let z = List·getD-eq-default t 0 {n = i} g in omega arith)) (lt-or-ge i (length t))
+
+pub begins-one : (sep n : ℕ) (t : List ℕ) → 0 < sep → n < 10 → getD t 0 0 ≡ 48 + n → getD t 1 0 ≡ sep → t ≡ (decimal n ++ sep ∷ []) ++ drop 2 t
+begins-one sep n t p h x y = rw (decimal-one n h) (prefix (numeral n ∷ sep ∷ []) t (within t 1 (omega arith)) bytes)
+  where
+    bytes : (i : ℕ) → i < 2 → getD t i 0 ≡ getD (numeral n ∷ sep ∷ []) i 0
+    bytes zero k = x
+    bytes (suc zero) k = y
+    bytes (suc (suc i)) k = absurd (omega arith)
+
+pub begins-two : (sep n : ℕ) (t : List ℕ) → 0 < sep → 10 ≤ n → n < 100 → getD t 0 0 ≡ 48 + n / 10 → getD t 1 0 ≡ 48 + n % 10 → getD t 2 0 ≡ sep → t ≡ (decimal n ++ sep ∷ []) ++ drop 3 t
+begins-two sep n t p l h x y z =
+    rw (decimal-two n l h) (prefix (numeral (n / 10) ∷ numeral (n % 10) ∷ sep ∷ []) t (within t 2 (omega arith)) bytes)
+  where
+    bytes : (i : ℕ) → i < 3 → getD t i 0 ≡ getD (numeral (n / 10) ∷ numeral (n % 10) ∷ sep ∷ []) i 0
+    bytes zero k = x
+    bytes (suc zero) k = y
+    bytes (suc (suc zero)) k = z
+    bytes (suc (suc (suc i))) k = absurd (omega arith)
+
+pub begins-three : (sep n : ℕ) (t : List ℕ) → 0 < sep → 100 ≤ n → getD t 0 0 ≡ 48 + n / 100 → getD t 1 0 ≡ 48 + n / 10 % 10 → getD t 2 0 ≡ 48 + n % 10 → getD t 3 0 ≡ sep → t ≡ (decimal n ++ sep ∷ []) ++ drop 4 t
+begins-three sep n t p l x y z w =
+    rw (decimal-three n l) (prefix (numeral (n / 100) ∷ numeral (n / 10 % 10) ∷ numeral (n % 10) ∷ sep ∷ []) t (within t 3 (omega arith)) bytes)
+  where
+    bytes : (i : ℕ) → i < 4 → getD t i 0 ≡ getD (numeral (n / 100) ∷ numeral (n / 10 % 10) ∷ numeral (n % 10) ∷ sep ∷ []) i 0
+    bytes zero k = x
+    bytes (suc zero) k = y
+    bytes (suc (suc zero)) k = z
+    bytes (suc (suc (suc zero))) k = w
+    bytes (suc (suc (suc (suc i)))) k = absurd (omega arith)

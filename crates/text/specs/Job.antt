@@ -1,0 +1,173 @@
+-- The text of a job (document 01, "The text"), line kind by line kind. Each line is described once, for the writer and the reader.
+use mathlib.Core.Bool.{Bool, true, false, cond}
+use mathlib.Core.List.{List, [], _∷_, _++_}
+use Prim.Native.Nat.{ℕ, zero, suc, _+_, _^_}
+use lib.Dec.{ltb, leb, eqb}
+use lib.ListN.{getD, set}
+use Rattle.block.specs.Layout.{maxAgents, maxResources, maxStates, maxPropositions, maxRows, maxJoint, unlimited, propKind, orKind, nextKind, untilKind, digit}
+use Rattle.block.specs.declared.layout.Place.{Place}
+use Rattle.block.specs.declared.layout.Place.the-variants.{Header, Mask, Count, Cost, Next, Field}
+use Rattle.block.specs.declared.refusal.Refusal.{Refusal}
+use Rattle.block.specs.declared.refusal.Refusal.the-variants as refusal
+use Rattle.text.specs.declared.sizes.Sizes.{Sizes}
+use Rattle.text.specs.Numeral.{ascii, comma, lineEnd, decimal}
+use Rattle.text.specs.Format.{Spelling, Format, end, exactly, value}
+
+abbrev pub both : Bool → Bool → Bool
+both a b = cond a b false
+
+abbrev pub either : Bool → Bool → Bool
+either a b = cond a true b
+
+-- a number, 0 to 255 by its form, that must be from low to below limit
+abbrev pub number : ℕ → ℕ → ℕ → Refusal → Spelling
+number sep low limit r = record {
+  options = 256;
+  spell = λ n. decimal n ++ sep ∷ [];
+  byte = λ n. n;
+  allowed = λ n. both (leb low n) (ltb n limit);
+  refusal = r;
+  chosen = λ v. v;
+}
+
+-- spelling o of a bound: a number, or, for an unlimited one, inf or nothing
+unfoldable pub boundField : ℕ → List ℕ
+boundField o = cond (ltb o 256) (decimal o) (cond (eqb o 256) (ascii "inf") [])
+
+-- a bound: a number from 0 to 15, or unlimited
+abbrev pub bound : Spelling
+bound = record {
+  options = 258;
+  spell = λ o. boundField o ++ comma ∷ [];
+  byte = λ o. cond (ltb o 256) o unlimited;
+  allowed = λ o. either (ltb o 16) (leb 256 o);
+  refusal = refusal.Row;
+  chosen = λ v. cond (eqb v unlimited) 256 v;
+}
+
+-- the words of the rows, in the order of their kinds
+unfoldable pub kindWord : ℕ → List ℕ
+kindWord k = getD (ascii "prop," ∷ ascii "not," ∷ ascii "or," ∷ ascii "next," ∷ ascii "always," ∷ ascii "until," ∷ []) k []
+
+abbrev pub kindSpelling : Spelling
+kindSpelling = record {
+  options = 6;
+  spell = kindWord;
+  byte = λ k. k;
+  allowed = λ k. true;
+  refusal = refusal.Row;
+  chosen = λ v. v;
+}
+
+-- a number that is known: a state, an agent, an action
+unfoldable pub index : ℕ → Format → Format
+index n f = exactly (decimal n ++ comma ∷ []) f
+
+-- state,s,mask
+unfoldable pub stateLine : Sizes → ℕ → Format → Format
+stateLine z s f = exactly (ascii "state,") (index s (value (number lineEnd 0 (2 ^ z .propositions) refusal.State) (Mask s) (λ m. f)))
+
+-- a cost is 0 to 15, and idle's is 0; the last of its line is followed by the line's end
+abbrev pub costLimit : ℕ → ℕ
+costLimit k = cond (eqb k 0) 1 16
+
+abbrev pub costEnd : ℕ → ℕ
+costEnd left = cond (eqb left 0) lineEnd comma
+
+-- the costs of action k from resource j on: m of them, and then n further actions
+unfoldable pub costs : ℕ → ℕ → ℕ → ℕ → ℕ → ℕ → Format → Format
+costs s a n k zero j f = f
+costs s a n k (suc m) j f = value (number (costEnd (n + m)) 0 (costLimit k) refusal.State) (Cost s a k j) (λ v. costs s a n k m (suc j) f)
+
+-- n actions from action k on
+unfoldable pub actions : Sizes → ℕ → ℕ → ℕ → ℕ → Format → Format
+actions z s a zero k f = f
+actions z s a (suc n) k f = costs s a n k (z .resources) 0 (actions z s a n (suc k) f)
+
+-- acts,s,a,count, and the costs, action by action, resource by resource
+unfoldable pub actsLine : Sizes → ℕ → ℕ → (ℕ → Format) → Format
+actsLine z s a f =
+    exactly (ascii "acts,") (index s (index a (value (number comma 1 5 refusal.State) (Count s a) (λ c. actions z s a c 0 (f c)))))
+
+-- n agents from agent a on; counts are how many actions each agent has
+unfoldable pub agentLines : Sizes → ℕ → ℕ → ℕ → List ℕ → (List ℕ → Format) → Format
+agentLines z s zero a counts f = f counts
+agentLines z s (suc n) a counts f = actsLine z s a (λ c. agentLines z s n (suc a) (set counts a c) f)
+
+-- the joint action can be done with these counts
+unfoldable pub possible : List ℕ → ℕ → Bool
+possible counts joint = both (ltb (digit joint 0) (getD counts 0 0)) (both (ltb (digit joint 1) (getD counts 1 0)) (ltb (digit joint 2) (getD counts 2 0)))
+
+-- the actions of n agents from agent a on
+unfoldable pub jointFields : ℕ → ℕ → ℕ → Format → Format
+jointFields joint zero a f = f
+jointFields joint (suc n) a f = index (digit joint a) (jointFields joint n (suc a) f)
+
+-- go,s, one action per agent, and the next state
+unfoldable pub goLine : Sizes → ℕ → ℕ → Format → Format
+goLine z s joint f =
+    exactly (ascii "go,") (index s (jointFields joint (z .agents) 0 (value (number lineEnd 0 (z .states) refusal.Next) (Next s joint) (λ q. f))))
+
+-- the n joint actions from joint on: a line for each that can be done
+unfoldable pub goLines : Sizes → ℕ → List ℕ → ℕ → ℕ → Format → Format
+goLines z s counts zero joint f = f
+goLines z s counts (suc n) joint f = cond (possible counts joint) (goLine z s joint (goLines z s counts n (suc joint) f)) (goLines z s counts n (suc joint) f)
+
+-- an agent that does not exist can only do 0
+abbrev pub noCounts : List ℕ
+noCounts = 1 ∷ 1 ∷ 1 ∷ []
+
+-- the lines of a state, and of n states from s on
+unfoldable pub stateLines : Sizes → ℕ → Format → Format
+stateLines z s f = stateLine z s (agentLines z s (z .agents) 0 noCounts (λ counts. goLines z s counts maxJoint 0 f))
+
+unfoldable pub states : Sizes → ℕ → ℕ → Format → Format
+states z zero s f = f
+states z (suc n) s f = stateLines z s (states z n (suc s) f)
+
+abbrev pub strategic : ℕ → Bool
+strategic k = leb nextKind k
+
+abbrev pub binary : ℕ → Bool
+binary k = either (eqb k orKind) (eqb k untilKind)
+
+-- n bounds from resource j on
+unfoldable pub boundFields : ℕ → ℕ → ℕ → Format → Format
+boundFields i zero j f = f
+boundFields i (suc n) j f = value bound (Field i (4 + j)) (λ v. boundFields i n (suc j) f)
+
+-- the team and the bounds of a strategic row
+unfoldable pub teamFields : Sizes → ℕ → ℕ → Format → Format
+teamFields z i k f =
+    cond (strategic k) (value (number comma 1 (2 ^ z .agents) refusal.Row) (Field i 3) (λ t. boundFields i (z .resources) 0 f)) f
+
+-- the proposition or lower row, and the right row where the kind has one
+unfoldable pub operandFields : Sizes → ℕ → ℕ → Format → Format
+operandFields z i k f =
+    value (number (cond (binary k) comma lineEnd) 0 (cond (eqb k propKind) (z .propositions) i) refusal.Row) (Field i 1)
+    (λ l. cond (binary k) (value (number lineEnd 0 i refusal.Row) (Field i 2) (λ r. f)) f)
+
+-- a row: its word, team and bounds, operands; and n rows from row i on
+unfoldable pub rowLine : Sizes → ℕ → Format → Format
+rowLine z i f = value kindSpelling (Field i 0) (λ k. teamFields z i k (operandFields z i k f))
+
+unfoldable pub rowLines : Sizes → ℕ → ℕ → Format → Format
+rowLines z zero i f = f
+rowLines z (suc n) i f = rowLine z i (rowLines z n (suc i) f)
+
+-- a size, 1 to high
+unfoldable pub size : ℕ → ℕ → ℕ → (ℕ → Format) → Format
+size sep f high k = value (number sep 1 (suc high) refusal.Sizes) (Header f) k
+
+-- job,N,R,M,P,F, then the states and the rows
+unfoldable pub headerLine : (Sizes → Format) → Format
+headerLine f =
+    exactly (ascii "job,")
+    (size comma 0 maxAgents λ n.
+    size comma 1 maxResources λ r.
+    size comma 2 maxStates λ m.
+    size comma 3 maxPropositions λ p.
+    size lineEnd 4 maxRows λ w. f (record { agents = n; resources = r; states = m; propositions = p; rows = w }))
+
+unfoldable pub job : Format
+job = headerLine (λ z. states z (z .states) 0 (rowLines z (z .rows) 0 end))

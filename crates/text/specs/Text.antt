@@ -1,0 +1,51 @@
+-- The text of a block, reading a text, and what the calls promise.
+use mathlib.Core.Bool.{cond, not}
+use mathlib.Core.List.{List}
+use mathlib.Core.Logic.{_↔_}
+use mathlib.Core.Path.{_≡_}
+use Prim.Native.Nat.{ℕ}
+use lib.Dec.{ltb, eqb}
+use lib.ListN.{length, replicate}
+use Rattle.block.specs.Layout.{Block, blockBytes}
+use Rattle.block.specs.Check.{Verdict}
+use Rattle.block.specs.declared.refusal.Refusal.the-variants.{Length}
+use Rattle.block.specs.declared.refusal.Checked.{Checked}
+use Rattle.block.specs.declared.refusal.Checked.the-variants.{Passed, Refused}
+use Rattle.text.specs.Format.{Outcome, accepted, refused, write, Spells, read}
+use Rattle.text.specs.Job.{either, job}
+
+-- a text is at most this long, and the writer's buffer has this length
+abbrev pub textBytes : ℕ
+textBytes = 32768
+
+-- the text that the writer gives a block
+abbrev pub textOf : Block → List ℕ
+textOf b = write job b
+
+unfoldable pub blank : Block
+blank = replicate blockBytes 0
+
+-- reading a text
+abbrev pub readText : List ℕ → Outcome
+readText t = read job blank t
+
+-- the read call: 1 for a text that is too long or a block of another length, else what reading comes to
+abbrev pub readCall : List ℕ → Block → Outcome
+readCall t b = cond (either (ltb textBytes (length t)) (not (eqb (length b) blockBytes))) (refused Length) (readText t)
+
+-- the answer of a call that comes to an outcome, and the lent block afterwards
+abbrev pub answerTo : Outcome → Checked
+answerTo (accepted b) = Passed
+answerTo (refused r) = Refused r
+
+abbrev pub blockAfter : Block → Outcome → Block
+blockAfter b (accepted c) = c
+blockAfter b (refused r) = b
+
+-- a text is accepted as a block exactly where the block passes and the text is one of its texts
+abbrev pub Exact : List ℕ → Type 0
+Exact t = (b : Block) → (readText t ≡ accepted b) ↔ (Verdict b 0 × Spells job b t)
+
+-- reading what is written for a block that passes gives the same block
+abbrev pub RoundTrip : Block → Type 0
+RoundTrip b = readText (textOf b) ≡ accepted b

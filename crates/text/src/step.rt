@@ -1,0 +1,20 @@
+// How far reading has come.
+use block::refusal::Refusal;
+
+// The next place of the text, or the refusal that ends reading.
+pub enum Step {
+    Next(usize),
+    Refused(Refusal),
+}
+
+// A byte of the block and the next place of the text, or the refusal.
+pub enum Value {
+    At(usize, usize),
+    Refused(Refusal),
+}
+
+// A number and the place after it and its comma or line end.
+pub enum Numeral {
+    Found(usize, usize),
+    Missing,
+}

@@ -1,0 +1,83 @@
+/* rbatl.h: resource-bounded alternating-time temporal logic on small jobs.
+ *
+ * A job is a block of RBATL_BLOCK_BYTES bytes: agents, resources, states,
+ * actions with their costs, next states, and formula rows. Each call answers
+ * a value from 0, or minus the number of a refusal (enum rbatl_refusal).
+ *
+ * What the caller owes, since no call can test it:
+ * - a pointer is not null, also where its length is 0, and is valid for as
+ *   many bytes as the length beside it says;
+ * - a buffer that a call may write overlaps no other buffer of that call;
+ * - nobody else writes a buffer while the call runs.
+ */
+#ifndef RBATL_H
+#define RBATL_H
+
+#include <stddef.h>
+#include <stdint.h>
+
+#ifdef __cplusplus
+extern "C" {
+#endif
+
+/* Length of a block, and of the longest text of a job. */
+#define RBATL_BLOCK_BYTES 2469
+#define RBATL_TEXT_BYTES 32768
+
+/* Largest sizes of a job (N, R, M, P, F); the smallest of each is 1. */
+#define RBATL_MAX_AGENTS 3
+#define RBATL_MAX_RESOURCES 2
+#define RBATL_MAX_STATES 24
+#define RBATL_MAX_PROPOSITIONS 8
+#define RBATL_MAX_ROWS 32
+
+/* Largest number of actions of an agent in a state, the largest cost of one,
+ * the largest limited bound, and the byte of an unlimited bound. */
+#define RBATL_MAX_ACTIONS 4
+#define RBATL_MAX_COST 15
+#define RBATL_MAX_BOUND 15
+#define RBATL_UNLIMITED 255
+
+/* Why a call refuses. A refused call answers minus the number. */
+enum rbatl_refusal {
+    /* A buffer of fixed size has another length, or a text is too long. */
+    RBATL_LENGTH = 1,
+    /* The number of agents, resources, states, propositions or rows is out of
+     * range. */
+    RBATL_SIZES = 2,
+    /* A state has a proposition that does not exist, a count of actions that
+     * is not 1 to 4, a cost above 15, or an idle action with a cost. */
+    RBATL_STATE = 3,
+    /* A next state does not exist. */
+    RBATL_NEXT = 4,
+    /* A row has an unknown kind, names a row that is not lower or a
+     * proposition that does not exist, has an empty coalition or an agent that
+     * does not exist in it, or a bound that is neither 0 to 15 nor unlimited. */
+    RBATL_ROW = 5,
+    /* A place of the block that the job does not use is not 0. */
+    RBATL_UNUSED = 6,
+    /* A text does not have the form of a job. */
+    RBATL_FORM = 7,
+    /* The row asked for does not exist, or is of kind prop, not or or where
+     * more than its set of states is wanted. */
+    RBATL_ROW_CHOICE = 8,
+    /* The state asked for does not exist, or a stock is above its bound, or is
+     * not 0 where it must be. */
+    RBATL_POSITION = 9,
+    /* The coalition's move is asked for where it does not win, or a reply
+     * where it does. */
+    RBATL_WRONG_SIDE = 10,
+    /* The move to reply to is not available or not affordable. */
+    RBATL_MOVE = 11
+};
+
+/* Checks a block: 0 if it holds a job; -RBATL_LENGTH for any other length;
+ * else minus the first of RBATL_SIZES, RBATL_STATE, RBATL_NEXT, RBATL_ROW and
+ * RBATL_UNUSED whose condition holds anywhere in the block. */
+int32_t rbatl_check(const uint8_t *block, size_t block_len);
+
+#ifdef __cplusplus
+}
+#endif
+
+#endif

@@ -1,0 +1,142 @@
+//! Blocks that differ from a job in some bytes, or in their length.
+
+use crate::block::used_places;
+use crate::layout::*;
+use crate::random::Rng;
+
+/// Values at both sides of every border in document 01.
+const BORDERS: [u8; 25] = [
+    0, 1, 2, 3, 4, 5, 6, 7, 8, 9, 14, 15, 16, 17, 23, 24, 25, 31, 32, 33, 127, 128, 253, 254, 255,
+];
+
+/// Lengths near the only right one, and far from it.
+const LENGTHS: [usize; 8] = [0, 1, 5, 2213, 2468, 2470, 4938, 32768];
+
+/// Chooses a place of one sort in a job.
+type Target = fn(&mut Rng, &[u8]) -> usize;
+
+const TARGETS: [(&str, Target); 9] = [
+    ("any place", any_place),
+    ("size", size_place),
+    ("mask", mask_place),
+    ("count", count_place),
+    ("cost", cost_place),
+    ("next state", next_place),
+    ("row field", row_place),
+    ("row kind, operand, coalition or bound", used_row_place),
+    ("unused place", unused_place),
+];
+
+/// Damages a job, or leaves it whole, and says how.
+pub fn damage(rng: &mut Rng, block: &mut Vec<u8>) -> &'static str {
+    match rng.below(16) {
+        0 => "whole",
+        1 => {
+            change_length(rng, block);
+            "length"
+        }
+        2 => {
+            fill_with_noise(rng, block);
+            "noise"
+        }
+        3..=5 => {
+            let places = (0..rng.within(2..=8)).map(|_| any_place(rng, block));
+            let places: Vec<usize> = places.collect();
+            set(rng, block, &places);
+            "several places"
+        }
+        6..=7 => {
+            let places = (0..rng.within(2..=3)).map(|_| rng.pick(&TARGETS).1(rng, block));
+            let places: Vec<usize> = places.collect();
+            set(rng, block, &places);
+            "several targets"
+        }
+        _ => {
+            let (name, target) = rng.pick(&TARGETS);
+            let place = target(rng, block);
+            set(rng, block, &[place]);
+            name
+        }
+    }
+}
+
+/// Sets the places to values that often lie at a border.
+fn set(rng: &mut Rng, block: &mut [u8], places: &[usize]) {
+    for &place in places {
+        let old = block[place];
+        block[place] = match rng.below(5) {
+            0 => rng.byte(),
+            1 => old.wrapping_add(1),
+            2 => old.wrapping_sub(1),
+            3 => old ^ (1 << rng.below(8)),
+            _ => rng.pick(&BORDERS),
+        };
+    }
+}
+
+fn any_place(rng: &mut Rng, _: &[u8]) -> usize {
+    rng.below(BLOCK_BYTES)
+}
+
+fn size_place(rng: &mut Rng, _: &[u8]) -> usize {
+    rng.within(AGENTS..=ROWS)
+}
+
+fn mask_place(rng: &mut Rng, block: &[u8]) -> usize {
+    mask(rng.below(Sizes::of(block).states))
+}
+
+fn count_place(rng: &mut Rng, block: &[u8]) -> usize {
+    let sizes = Sizes::of(block);
+    count(rng.below(sizes.states), rng.below(sizes.agents))
+}
+
+fn cost_place(rng: &mut Rng, block: &[u8]) -> usize {
+    let sizes = Sizes::of(block);
+    let (state, agent) = (rng.below(sizes.states), rng.below(sizes.agents));
+    let action = rng.below(block[count(state, agent)].into());
+    cost(state, agent, action, rng.below(sizes.resources))
+}
+
+fn next_place(rng: &mut Rng, block: &[u8]) -> usize {
+    let state = rng.below(Sizes::of(block).states);
+    let joints: Vec<usize> = joint_actions(block, state).collect();
+    next(state, rng.pick(&joints))
+}
+
+fn used_row_place(rng: &mut Rng, block: &[u8]) -> usize {
+    let used = used_places(block);
+    let rows = row(0, 0)..row(Sizes::of(block).rows, 0);
+    let places: Vec<usize> = rows.filter(|&place| used[place]).collect();
+    rng.pick(&places)
+}
+
+/// Also the fields that the row's kind does not use.
+fn row_place(rng: &mut Rng, block: &[u8]) -> usize {
+    let i = rng.below(Sizes::of(block).rows);
+    row(i, rng.below(ROW_BYTES))
+}
+
+/// Every job has unused places: the padding of its rows.
+fn unused_place(rng: &mut Rng, block: &[u8]) -> usize {
+    let used = used_places(block);
+    let unused: Vec<usize> = (0..BLOCK_BYTES).filter(|&place| !used[place]).collect();
+    rng.pick(&unused)
+}
+
+fn change_length(rng: &mut Rng, block: &mut Vec<u8>) {
+    let length = match rng.below(2) {
+        0 => rng.pick(&LENGTHS),
+        _ => rng.below(2 * BLOCK_BYTES),
+    };
+    block.resize(length, rng.byte());
+}
+
+/// Random bytes, half the time behind sizes that pass.
+fn fill_with_noise(rng: &mut Rng, block: &mut [u8]) {
+    let first = if rng.one_in(2) { AGENTS } else { ROWS + 1 };
+    let largest = rng.pick(&[1, 2, 4, 6, 16, 255]);
+    for byte in &mut block[first..] {
+        *byte = rng.within(0..=largest) as u8;
+    }
+}

@@ -1,0 +1,22 @@
+//! A second implementation, made from document 01 alone, to compare the
+//! library with, and the means to make many jobs and to damage them.
+
+pub mod block;
+pub mod damage;
+pub mod ffi;
+pub mod full;
+pub mod jobs;
+pub mod layout;
+pub mod random;
+pub mod text;
+
+/// Refusal numbers (document 01, "Numbers for what is turned down").
+pub mod refusal {
+    pub const LENGTH: u8 = 1;
+    pub const SIZES: u8 = 2;
+    pub const STATE: u8 = 3;
+    pub const NEXT: u8 = 4;
+    pub const ROW: u8 = 5;
+    pub const UNUSED: u8 = 6;
+    pub const FORM: u8 = 7;
+}

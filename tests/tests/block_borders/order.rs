@@ -1,0 +1,95 @@
+//! Several conditions at once: the first in the order 1, 2, 3, 4, 5, 6 answers,
+//! wherever each of them stands.
+
+use super::*;
+
+/// One change for each of numbers 2 to 6.
+type Damage = [(u8, Change); 5];
+
+fn base() -> Vec<u8> {
+    job(2, 1, 3, 1, 2)
+}
+
+/// The lower the number, the earlier its place.
+fn rising() -> Damage {
+    [
+        (2, (AGENTS, 4)),
+        (3, (mask(0), 2)),
+        (4, (next(0, 0), 3)),
+        (5, (row(0, KIND), 6)),
+        (6, (row(31, PADDING + 1), 1)),
+    ]
+}
+
+/// Within the states, the rows and the block, the lower number later.
+fn falling() -> Damage {
+    [
+        (2, (ROWS, 33)),
+        (3, (cost(2, 1, 0, 0), 1)),
+        (4, (next(1, 0), 255)),
+        (5, (row(1, LEFT), 1)),
+        (6, (mask(3), 255)),
+    ]
+}
+
+/// Every choice of the five changes gives the lowest number chosen.
+fn every_choice(name: &str, damage: Damage) {
+    let mut cases = Cases::default();
+    for choice in 0..1 << damage.len() {
+        let chosen = damage
+            .iter()
+            .enumerate()
+            .filter(|(i, _)| choice >> i & 1 == 1);
+        let (numbers, changes): (Vec<u8>, Vec<Change>) = chosen.map(|(_, &pair)| pair).unzip();
+        let lowest = numbers.iter().min().copied().unwrap_or(0);
+        cases.expect(&format!("{name}: {numbers:?}"), &base(), &changes, lowest);
+    }
+    cases.report();
+}
+
+#[test]
+fn lowest_number_first() {
+    every_choice("rising", rising());
+    every_choice("falling", falling());
+}
+
+#[test]
+fn length_before_all() {
+    let mut cases = Cases::default();
+    let changes = rising().map(|(_, change)| change);
+    for length in [2468, 2470] {
+        let mut block = base();
+        for (place, value) in changes {
+            block[place] = value;
+        }
+        block.resize(length, 1);
+        cases.expect(&format!("length {length}"), &block, &[], 1);
+    }
+    cases.report();
+}
+
+/// A size or count out of range answers before the places that it decides on.
+#[test]
+fn a_bad_size_or_count_answers_first() {
+    let mut cases = Cases::default();
+    let count_5 = (count(0, 0), 5);
+    cases.expect(
+        "count 5 and a bad next state",
+        &base(),
+        &[count_5, (next(0, 4), 9)],
+        3,
+    );
+    cases.expect(
+        "count 0 and a bad next state",
+        &base(),
+        &[(count(0, 0), 0), (next(0, 0), 9)],
+        3,
+    );
+    cases.expect(
+        "M 25 and a bad mask",
+        &base(),
+        &[(STATES, 25), (mask(0), 2)],
+        2,
+    );
+    cases.report();
+}
