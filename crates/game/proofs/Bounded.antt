@@ -35,7 +35,7 @@ module _ (G : Arena) (proper : Proper (G .structure)) where
       let r = answer m a in
       (_, outcome-fits G proper p m (r .0) fits (a .0) (r .1), r .2, w (r .0) (r .1))
 
-module _ (G : Arena) (Attack Defend : Position → (Position → Type 0) → Type 0) (meets : Meets G Attack Defend) (Safe Goal : ℕ → Type 0) (words : ℕ → ℕ) (ranked : Ranked G Attack Defend Safe Goal (λ p. words (number G p))) where
+module _ (G : Arena) (Attack Defend : Position → (Position → Type 0) → Type 0) (meets : Meets G Attack Defend) (Safe Goal : ℕ → Type 0) (words : ℕ → ℕ) (ranked : Ranked G Safe Goal (λ p. words (number G p)) Attack Defend) where
   -- a position of the next smaller rank
   smaller : (p : Position) → IsPosition G p → words (number G p) < never → (x : Position) × IsPosition G x × (words (number G x) ≡ words (number G p) - 1)
   smaller p fits finite = go (ℕ-discrete (words (number G p)) 0)
@@ -44,7 +44,7 @@ module _ (G : Arena) (Attack Defend : Position → (Position → Type 0) → Typ
       go (yes e) = (p, fits, omega arith)
       go (no e) =
           let positive : 0 < words (number G p) = omega arith in
-          let (x, inside, low, high) = meets p fits _ _ (ranked .attack p fits positive finite) (ranked .defend p fits (ranked .safe p fits positive finite) positive) in
+          let (x, inside, low, high) = meets p fits _ _ (ranked .sound .attack p fits positive finite) (ranked .stable p fits (ranked .sound .safe p fits positive finite) positive) in
           (x, inside, omega arith)
 
   module _ (p : Position) (fits : IsPosition G p) (finite : words (number G p) < never) where

@@ -59,14 +59,16 @@ module _ (G : Arena) where
         e : words (number G p) ≡ words (number G x)
         e = ap words (same-number G p x s)
 
-    pub ranked-by-number : ((n : ℕ) → n < positions G → RankedAt Attack Defend Safe Goal words (positionOf G n)) → Ranked G Attack Defend Safe Goal (λ p. words (number G p))
+    pub ranked-by-number : ((n : ℕ) → n < positions G → RankedAt Attack Defend Safe Goal words (positionOf G n)) → Ranked G Safe Goal (λ p. words (number G p)) Attack Defend
     ranked-by-number facts = record {
-      bounded = λ p fits. at p fits .bounded;
-      reached = λ p fits. at p fits .reached;
-      goal = λ p fits. at p fits .goal;
-      safe = λ p fits positive finite. at p fits .attack positive finite .0;
-      attack = λ p fits positive finite. at p fits .attack positive finite .1;
-      defend = λ p fits. at p fits .defend;
+      sound = record {
+        bounded = λ p fits. at p fits .bounded;
+        reached = λ p fits. at p fits .reached;
+        goal = λ p fits. at p fits .goal;
+        safe = λ p fits positive finite. at p fits .attack positive finite .0;
+        attack = λ p fits positive finite. at p fits .attack positive finite .1;
+      };
+      stable = λ p fits. at p fits .defend;
     }
       where
         at : (p : Position) → IsPosition G p → RankedAt Attack Defend Safe Goal words p

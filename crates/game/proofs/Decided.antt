@@ -37,14 +37,14 @@ module _ (G : Arena) (proper : Proper (G .structure)) (X : Table) where
     where
       back : (t : Objective) → Facts G X t → (p : Position) → IsPosition G p → Claims G X t p → Backed G X t p
       back (until left right) facts p fits claim = (
-        (λ e. (facts .ranks .reached p fits e, facts .moves p fits .met claim e)),
-        λ positive. (facts .ranks .safe p fits positive claim, facts .moves p fits .best claim (λ e. omega arith) .0),
+        (λ e. (facts .ranks .sound .reached p fits e, facts .moves p fits .met claim e)),
+        λ positive. (facts .ranks .sound .safe p fits positive claim, facts .moves p fits .best claim (λ e. omega arith) .0),
       )
       back (always left) facts p fits claim = (holds (facts .decided (p .state) (fits .0)), facts .moves p fits .best claim (λ e. e) .0)
         where
           holds : Dec (left (p .state)) → left (p .state)
           holds (yes h) = h
-          holds (no fails) = absurd (omega (arith, facts .ranks .goal p fits fails))
+          holds (no fails) = absurd (omega (arith, facts .ranks .sound .goal p fits fails))
       back (next left) facts p fits claim = facts .moves p fits .best claim (λ e. e) .0
 
   module _ (t : Objective) (facts : Facts G X t) where
@@ -89,7 +89,7 @@ module _ (G : Arena) (proper : Proper (G .structure)) (X : Table) where
           )
       go (no unclaimed) =
           inr (
-            omega (arith, facts .ranks .bounded p fits),
+            omega (arith, facts .ranks .sound .bounded p fits),
             λ k enforces.
                 clash G proper p fits (λ λs. MetWithin left right λs k) (LostOn G X t p) (λ λs (j, _, r, before) lost. lost (j, r, before)) enforces
                 (unclaimed-lost G proper X t (facts .ranks) (facts .decided) p fits unclaimed),
@@ -111,7 +111,7 @@ module _ (G : Arena) (proper : Proper (G .structure)) (X : Table) where
           )
       go (no unclaimed) =
           inl (
-            omega (arith, facts .ranks .bounded p fits),
+            omega (arith, facts .ranks .sound .bounded p fits),
             (
               unclaimed-lost G proper X t (facts .ranks) (facts .decided) p fits unclaimed,
               λ k less forces.

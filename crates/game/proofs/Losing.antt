@@ -26,10 +26,10 @@ module _ (G : Arena) (proper : Proper (G .structure)) (X : Table) where
         × ((P : Play G) → Answers G ρ P → ((i : ℕ) → Affordable G (P .at i) (P .move i)) → (i : ℕ) → left (states G P i) × (0 < rankAt G X (P .at i)) → Kept G X (P .at i) (P .at (suc i)))
     keep-up =
         answered-along G proper (λ p. left (p .state) × (0 < rankAt G X p)) (λ p fits. Dec·and (left? (p .state) (fits .0)) (decLt 0 (rankAt G X p))) (Kept G X)
-        (λ p fits region. ranks .defend p fits (region .0) (region .1))
+        (λ p fits region. ranks .stable p fits (region .0) (region .1))
 
     until-goal : (P : Play G) (i : ℕ) → right (states G P i) → rankAt G X (P .at i) ≡ 0
-    until-goal P i r = ranks .goal (P .at i) (at-fits G proper P i) r
+    until-goal P i r = ranks .sound .goal (P .at i) (at-fits G proper P i) r
 
     until-lost : (p : Position) → IsPosition G p → (rankAt G X p < never → ⊥) → Forces G p (LostOn G X (until left right) p)
     until-lost p fits unclaimed = (keep-up .0, keep-up .1, lost)
@@ -39,7 +39,7 @@ module _ (G : Arena) (proper : Proper (G .structure)) (X : Table) where
             never-reaches never (λ i. left (states G P i)) (λ i. right (states G P i)) (λ i. rankAt G X (P .at i)) (until-goal P) (omega arith) start stays k (k, omega arith, r, before)
           where
             start : rankAt G X (P .at 0) ≡ never
-            start = rw from (omega (arith, ranks .bounded p fits))
+            start = rw from (omega (arith, ranks .sound .bounded p fits))
 
             stays : (i : ℕ) → left (states G P i) → rankAt G X (P .at i) ≡ never → rankAt G X (P .at (suc i)) ≡ never
             stays i l e = keep-up .2 P answers (strategy-paid G proper p F keeps P from follows) i (l, omega arith) .1 e
@@ -71,7 +71,7 @@ module _ (G : Arena) (proper : Proper (G .structure)) (X : Table) where
         × ((P : Play G) → Answers G ρ P → ((i : ℕ) → Affordable G (P .at i) (P .move i)) → (i : ℕ) → (0 < rankAt G X (P .at i)) × (rankAt G X (P .at i) < never) → rankAt G X (P .at (suc i)) < rankAt G X (P .at i))
     lower =
         answered-along G proper (λ p. (0 < rankAt G X p) × (rankAt G X p < never)) (λ p _. Dec·and (decLt 0 (rankAt G X p)) (decLt (rankAt G X p) never)) (λ p x. rankAt G X x < rankAt G X p)
-        (λ p fits region. ranks .attack p fits (region .0) (region .1))
+        (λ p fits region. ranks .sound .attack p fits (region .0) (region .1))
 
     always-lost : (p : Position) → IsPosition G p → (rankAt G X p ≡ never → ⊥) → Forces G p (LostOn G X (always left) p)
     always-lost p fits unclaimed = (lower .0, lower .1, lost)
@@ -79,9 +79,9 @@ module _ (G : Arena) (proper : Proper (G .structure)) (X : Table) where
         lost : (F : Strategy) → KeepsWithin G p F → (P : Play G) → From G p P → Follows G F P → Answers G (lower .0) P → LostOn G X (always left) p (states G P)
         lost F keeps P from follows answers =
             let found = reaches never (λ _. Unit {0}) (λ i. left (states G P i) → ⊥) (λ i. rankAt G X (P .at i))
-            (λ i e. ranks .reached (P .at i) (at-fits G proper P i) e)
+            (λ i e. ranks .sound .reached (P .at i) (at-fits G proper P i) e)
             (λ i positive finite. (tt, lower .2 P answers (strategy-paid G proper p F keeps P from follows) i (positive, finite)))
-            (rw from (omega (arith, ranks .bounded p fits))) in
+            (rw from (omega (arith, ranks .sound .bounded p fits))) in
             (found .0, omega (arith, found .1, ap (rankAt G X) from), found .2)
 
     always-no-sooner : (p : Position) → IsPosition G p → NoSooner G X (always left) p
@@ -89,7 +89,7 @@ module _ (G : Arena) (proper : Proper (G .structure)) (X : Table) where
       where
         -- a strategy that keeps the rank up
         resist : (F : Strategy) × KeepsWithin G p F × ((P : Play G) → From G p P → Follows G F P → (i : ℕ) → 0 < rankAt G X (P .at i) → Kept G X (P .at i) (P .at (suc i)))
-        resist = forced-along G proper (λ x. 0 < rankAt G X x) (λ x _. decLt 0 (rankAt G X x)) (Kept G X) (λ x fits′ positive. ranks .defend x fits′ tt positive) p fits
+        resist = forced-along G proper (λ x. 0 < rankAt G X x) (λ x _. decLt 0 (rankAt G X x)) (Kept G X) (λ x fits′ positive. ranks .stable x fits′ tt positive) p fits
 
         slow : (P : Play G) → From G p P → Follows G (resist .0) P → (k : ℕ) → k < rankAt G X p → left (states G P k)
         slow P from follows k l = go (left? (states G P k) (at-fits G proper P k .0))
@@ -98,7 +98,7 @@ module _ (G : Arena) (proper : Proper (G .structure)) (X : Table) where
             go (yes h) = h
             go (no fails) =
                 absurd (puts-off never (λ _. Unit {0}) (λ i. left (states G P i) → ⊥) (λ i. rankAt G X (P .at i))
-                (λ i f. ranks .goal (P .at i) (at-fits G proper P i) f)
+                (λ i f. ranks .sound .goal (P .at i) (at-fits G proper P i) f)
                 (λ i _ positive. resist .2 P from follows i positive .0)
                 k (rw from l) (k, omega arith, fails, λ j _. tt))
 

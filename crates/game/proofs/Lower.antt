@@ -28,12 +28,14 @@ module _ (G : Arena) (proper : Proper (G .structure)) (X : Table) where
     until-retold : Facts G X (until left′ right′)
     until-retold = record {
       ranks = record {
-        bounded = facts .ranks .bounded;
-        reached = λ p fits e. r (p .state) (fits .0) .0 (facts .ranks .reached p fits e);
-        goal = λ p fits h. facts .ranks .goal p fits (r (p .state) (fits .0) .1 h);
-        safe = λ p fits positive finite. l (p .state) (fits .0) .0 (facts .ranks .safe p fits positive finite);
-        attack = facts .ranks .attack;
-        defend = λ p fits h. facts .ranks .defend p fits (l (p .state) (fits .0) .1 h);
+        sound = record {
+          bounded = facts .ranks .sound .bounded;
+          reached = λ p fits e. r (p .state) (fits .0) .0 (facts .ranks .sound .reached p fits e);
+          goal = λ p fits h. facts .ranks .sound .goal p fits (r (p .state) (fits .0) .1 h);
+          safe = λ p fits positive finite. l (p .state) (fits .0) .0 (facts .ranks .sound .safe p fits positive finite);
+          attack = facts .ranks .sound .attack;
+        };
+        stable = λ p fits h. facts .ranks .stable p fits (l (p .state) (fits .0) .1 h);
       };
       moves = λ p fits. record { lost = facts .moves p fits .lost; met = facts .moves p fits .met; best = facts .moves p fits .best };
       decided = λ q inside. decided-again (l q inside) (facts .decided q inside);
@@ -43,12 +45,14 @@ module _ (G : Arena) (proper : Proper (G .structure)) (X : Table) where
     always-retold : Facts G X (always left) → Facts G X (always left′)
     always-retold facts = record {
       ranks = record {
-        bounded = facts .ranks .bounded;
-        reached = λ p fits e h. facts .ranks .reached p fits e (l (p .state) (fits .0) .1 h);
-        goal = λ p fits fails. facts .ranks .goal p fits (λ h. fails (l (p .state) (fits .0) .0 h));
-        safe = facts .ranks .safe;
-        attack = facts .ranks .attack;
-        defend = facts .ranks .defend;
+        sound = record {
+          bounded = facts .ranks .sound .bounded;
+          reached = λ p fits e h. facts .ranks .sound .reached p fits e (l (p .state) (fits .0) .1 h);
+          goal = λ p fits fails. facts .ranks .sound .goal p fits (λ h. fails (l (p .state) (fits .0) .0 h));
+          safe = facts .ranks .sound .safe;
+          attack = facts .ranks .sound .attack;
+        };
+        stable = facts .ranks .stable;
       };
       moves = λ p fits. record { lost = facts .moves p fits .lost; met = facts .moves p fits .met; best = facts .moves p fits .best };
       decided = λ q inside. decided-again (l q inside) (facts .decided q inside);

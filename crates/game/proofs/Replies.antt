@@ -27,10 +27,10 @@ module _ (G : Arena) (proper : Proper (G .structure)) (X : Table) (Won : Positio
       (won-claims : (x : Position) → IsPosition G x → Won x → Claims G X (until left right) x) (claims-won : (x : Position) → IsPosition G x → Claims G X (until left right) x → Won x)
       (unclaimed : Claims G X (until left right) (P .at 0) → ⊥) where
     start : rankOf 0 ≡ never
-    start = omega (arith, ranks .bounded (P .at 0) (P .start))
+    start = omega (arith, ranks .sound .bounded (P .at 0) (P .start))
 
     goal : (i : ℕ) → right (states G P i) → rankOf i ≡ 0
-    goal i r = ranks .goal (P .at i) (at-fits G proper P i) r
+    goal i r = ranks .sound .goal (P .at i) (at-fits G proper P i) r
 
     stays : (i : ℕ) → left (states G P i) → rankOf i ≡ never → rankOf (suc i) ≡ never
     stays i l e = go (decLt (rankOf (suc i)) never)
@@ -40,7 +40,7 @@ module _ (G : Arena) (proper : Proper (G .structure)) (X : Table) (Won : Positio
 
         go : Dec (rankOf (suc i) < never) → rankOf (suc i) ≡ never
         go (yes h) = absurd (still (claims-won (P .at (suc i)) (at-fits G proper P (suc i)) h))
-        go (no h) = omega (arith, ranks .bounded (P .at (suc i)) (at-fits G proper P (suc i)))
+        go (no h) = omega (arith, ranks .sound .bounded (P .at (suc i)) (at-fits G proper P (suc i)))
 
     until-replies : LeftDecided G (until left right) → LostOn G X (until left right) (P .at 0) (states G P) × ((n : ℕ) → Won (P .at n) → Settled (until left right) (states G P) n)
     until-replies left? = (
@@ -54,14 +54,14 @@ module _ (G : Arena) (proper : Proper (G .structure)) (X : Table) (Won : Positio
       (won-claims : (x : Position) → IsPosition G x → Won x → Claims G X (always left) x)
       (unclaimed : Claims G X (always left) (P .at 0) → ⊥) where
     reached : (i : ℕ) → rankOf i ≡ 0 → left (states G P i) → ⊥
-    reached i e = ranks .reached (P .at i) (at-fits G proper P i) e
+    reached i e = ranks .sound .reached (P .at i) (at-fits G proper P i) e
 
     falls : (i : ℕ) → 0 < rankOf i → rankOf i < never → Unit {0} × (rankOf (suc i) < rankOf i)
     falls i positive finite =
         (tt, counter-aimed (always left) rule i (λ w. omega (arith, won-claims (P .at i) (at-fits G proper P i) w)) (λ f. omega arith))
 
     finite : rankOf 0 < never
-    finite = omega (arith, ranks .bounded (P .at 0) (P .start))
+    finite = omega (arith, ranks .sound .bounded (P .at 0) (P .start))
 
     always-replies : LostOn G X (always left) (P .at 0) (states G P) × ((n : ℕ) → Won (P .at n) → Settled (always left) (states G P) n)
     always-replies =

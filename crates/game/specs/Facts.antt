@@ -1,5 +1,5 @@
 -- Local facts of a table: each speaks of one position and its outcomes. The claims about whole plays follow from them (proofs/Decided.antt).
--- A solver that has come to rest has RankFacts; WinningFacts is the half that a table from elsewhere can be checked for.
+-- A solver keeps Sound and comes to rest at Stable, which together are RankFacts; WinningFacts is the half that a table from elsewhere can be checked for.
 use mathlib.Core.Logic.{_⊎_}
 use mathlib.Core.Path.{_≡_}
 use Prim.Native.Nat.{ℕ, suc, _≤_, _<_}
@@ -17,21 +17,28 @@ module _ (G : Arena) where
   CanAnswer p property = (m : ℕ) → Allowed G p m → (r : ℕ) × Reply G p r × property (outcome G p m r)
 
   -- one side attacks, to come to Goal with Safe before, and the other defends; rank counts the attack's moves
-  pub record Ranked (Attack Defend : Position → (Position → Type 0) → Type 0) (Safe Goal : ℕ → Type 0) (rank : Position → ℕ) : Type 0 where
-    pub bounded : (p : Position) → IsPosition G p → rank p ≤ never
-    pub reached : (p : Position) → IsPosition G p → rank p ≡ 0 → Goal (p .state)
-    pub goal : (p : Position) → IsPosition G p → Goal (p .state) → rank p ≡ 0
-    -- a finite rank is sound
-    pub safe : (p : Position) → IsPosition G p → 0 < rank p → rank p < never → Safe (p .state)
-    pub attack : (p : Position) → IsPosition G p → 0 < rank p → rank p < never → Attack p (λ x. rank x < rank p)
-    -- and nothing does better
-    pub defend :
+  module _ (Safe Goal : ℕ → Type 0) (rank : Position → ℕ) where
+    -- a finite rank is sound: the attack comes nearer
+    pub record Sound (Attack : Position → (Position → Type 0) → Type 0) : Type 0 where
+      pub bounded : (p : Position) → IsPosition G p → rank p ≤ never
+      pub reached : (p : Position) → IsPosition G p → rank p ≡ 0 → Goal (p .state)
+      pub goal : (p : Position) → IsPosition G p → Goal (p .state) → rank p ≡ 0
+      pub safe : (p : Position) → IsPosition G p → 0 < rank p → rank p < never → Safe (p .state)
+      pub attack : (p : Position) → IsPosition G p → 0 < rank p → rank p < never → Attack p (λ x. rank x < rank p)
+
+    -- nothing does better: the defence keeps the rank up
+    abbrev pub Stable : (Position → (Position → Type 0) → Type 0) → Type 0
+    Stable Defend =
         (p : Position) → IsPosition G p → Safe (p .state) → 0 < rank p
         → Defend p (λ x. (rank p ≤ suc (rank x)) × (rank p ≡ never → rank x ≡ never))
 
+    pub record Ranked (Attack Defend : Position → (Position → Type 0) → Type 0) : Type 0 where
+      pub sound : Sound Attack
+      pub stable : Stable Defend
+
   abbrev pub RankFacts : Objective → (Position → ℕ) → Type 0
-  RankFacts (until left right) rank = Ranked CanForce CanAnswer left right rank
-  RankFacts (always left) rank = Ranked CanAnswer CanForce (λ q. Unit {0}) (λ q. left q → ⊥) rank
+  RankFacts (until left right) rank = Ranked left right rank CanForce CanAnswer
+  RankFacts (always left) rank = Ranked (λ q. Unit {0}) (λ q. left q → ⊥) rank CanAnswer CanForce
   RankFacts (next left) rank =
       (p : Position) → IsPosition G p
       → ((rank p ≡ 1) × CanForce p (λ x. left (x .state))) ⊎ ((rank p ≡ never) × CanAnswer p (λ x. left (x .state) → ⊥))
