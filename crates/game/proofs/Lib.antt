@@ -27,3 +27,4 @@ pub mod Certificate
 pub mod Labels
 pub mod BlockTests
 pub mod Starred
+pub mod Counting

@@ -4,5 +4,6 @@ pub mod Position
 pub mod Play
 pub mod Table
 pub mod Facts
+pub mod Sweep
 pub mod Model
 pub mod Catch
