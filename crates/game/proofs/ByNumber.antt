@@ -22,13 +22,13 @@ module _ (G : Arena) where
   every Y p x m s f r reply = same-by Y (outcome G p m r) (outcome G x m r) (same-outcome G p x m r s) (f r (same-reply G x p r (same-sym G p x s) reply))
 
   -- what an attack or a defence does goes by number
-  abbrev Transfers : (Position → (Position → Type 0) → Type 0) → Type 1
+  abbrev pub Transfers : (Position → (Position → Type 0) → Type 0) → Type 1
   Transfers Side = (Y : ℕ → ℕ → Type 0) (p x : Position) → Same G p x → Side p (By Y) → Side x (By Y)
 
-  force-transfers : Transfers (CanForce G)
+  pub force-transfers : Transfers (CanForce G)
   force-transfers Y p x s (m, a, f) = (m, same-allowed G p x m s a, every Y p x m s f)
 
-  answer-transfers : Transfers (CanAnswer G)
+  pub answer-transfers : Transfers (CanAnswer G)
   answer-transfers Y p x s f m a =
       let (r, reply, y) = f m (same-allowed G x p m (same-sym G p x s) a) in
       (r, same-reply G p x r s reply, same-by Y (outcome G p m r) (outcome G x m r) (same-outcome G p x m r s) y)

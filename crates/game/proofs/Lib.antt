@@ -28,3 +28,4 @@ pub mod Labels
 pub mod BlockTests
 pub mod Starred
 pub mod Counting
+pub mod Sweeping

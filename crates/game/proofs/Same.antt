@@ -24,6 +24,9 @@ module _ (G : Arena) where
   pub same-sym : (p x : Position) → Same p x → Same x p
   same-sym p x s = (sym (s .0), λ r l. sym (s .1 r l))
 
+  pub same-trans : (p x y : Position) → Same p x → Same x y → Same p y
+  same-trans p x y s s′ = (s .0 ∙ s′ .0, λ r l. s .1 r l ∙ s′ .1 r l)
+
   same-number-upto : (n : ℕ) (p x : Position) → SameUpTo n p x → numberUpTo G n p ≡ numberUpTo G n x
   same-number-upto zero p x s = s .0
   same-number-upto (suc n) p x s =
