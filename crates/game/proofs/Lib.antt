@@ -29,3 +29,4 @@ pub mod BlockTests
 pub mod Starred
 pub mod Counting
 pub mod Sweeping
+pub mod Exist
