@@ -30,3 +30,5 @@ pub mod Starred
 pub mod Counting
 pub mod Sweeping
 pub mod Exist
+pub mod Sides
+pub mod Solver
