@@ -122,7 +122,7 @@ module _ (G : Arena) where
     met-same (always left) p x s = λ e. e
     met-same (next left) p x s = λ e. e
 
-    move-same : (t : Objective) (p x : Position) → Same G p x → MoveIs G X t (Claims G X t) p (moveAt G X p) → MoveIs G X t (Claims G X t) x (moveAt G X x)
+    pub move-same : (t : Objective) (p x : Position) → Same G p x → MoveIs G X t (Claims G X t) p (moveAt G X p) → MoveIs G X t (Claims G X t) x (moveAt G X x)
     move-same t p x s at = subst (MoveIs G X t (Claims G X t) x) (ap (X .move) (same-number G p x s)) record {
       lost = λ loses. at .lost (λ claim. loses (claims-same t p x s claim));
       met = λ claim met. at .met (claims-same t x p back claim) (met-same t x p back met);

@@ -32,3 +32,5 @@ pub mod Sweeping
 pub mod Exist
 pub mod Sides
 pub mod Solver
+pub mod Determined
+pub mod Rowwise
