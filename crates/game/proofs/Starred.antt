@@ -1,7 +1,7 @@
 -- The starred cases of document 01 hold of the meaning. Each strategic row comes with its table, of which the checker computes that it
 -- has the local facts; truth, rank, move and reply by plays then follow. Assumes nothing.
 use mathlib.Core.List.{List, [], _∷_}
-use mathlib.Core.Path.{_≡_, refl}
+use mathlib.Core.Path.{refl}
 use Prim.Native.Nat.{ℕ}
 use lib.Dec.{T}
 use lib.ListN.{getD}
@@ -14,12 +14,13 @@ use Rattle.game.specs.Table.{Table, RankIs, rankAt, ReplyIs, Decided}
 use Rattle.game.specs.Facts.{Facts}
 use Rattle.game.specs.Model.{structureOf, RowSet, arenaOf, objectiveOf}
 use Rattle.game.specs.Catch.{catch, catch7, at, starred, AllHold}
-use Rattle.game.proofs.Proper.{Proper}
-use Rattle.game.proofs.Decided.{decided, rank-by-plays, reply-by-plays}
-use Rattle.game.proofs.Decidable.{position?, allowed?}
-use Rattle.game.proofs.Certificate.{isYes, from-yes, RowsDecided, reply-is?}
-use Rattle.game.proofs.BlockTests.{tests-proper, row-fits?, strategic?}
-use Rattle.game.proofs.Labels.{decided-by-sets, prop-row, not-row, or-row, claimed?, strategic-row, row-facts}
+use Rattle.game.proofs.Numbers.Decide.{from-yes, isYes}
+use Rattle.game.proofs.Bridge.Proper.{Proper}
+use Rattle.game.proofs.Whole.Decided.{decided, rank-by-plays, reply-by-plays}
+use Rattle.game.proofs.Local.Decidable.{position?, allowed?}
+use Rattle.game.proofs.Local.Certificate.{RowsDecided, reply-is?}
+use Rattle.game.proofs.Blocks.Tests.{tests-proper, row-fits?, strategic?}
+use Rattle.game.proofs.Blocks.Labels.{decided-by-sets, prop-row, not-row, or-row, claimed?, strategic-row, row-facts}
 
 -- a row's meaning by its table
 module _ (b : Block) (proper : Proper (structureOf b)) (i : ℕ) (X : Table) (facts : Facts (arenaOf b i) X (objectiveOf b i)) where

@@ -1,4 +1,4 @@
--- Local facts of a table: each speaks of one position and its outcomes. The claims about whole plays follow from them (proofs/Decided.antt).
+-- Local facts of a table: each speaks of one position and its outcomes. The claims about whole plays follow from them (proofs/Whole/Decided.antt).
 -- A solver keeps Sound and comes to rest at Stable, which together are RankFacts; WinningFacts is the half that a table from elsewhere can be checked for.
 use mathlib.Core.Logic.{_⊎_}
 use mathlib.Core.Path.{_≡_}

@@ -1,9 +1,8 @@
 -- Positions of a strategic row, its moves and replies, what they cost and where they lead (document 01, "The job" and "When a row is true").
 -- Over any structure and any number of resources.
-use mathlib.Core.Bool.{Bool, cond, not}
+use mathlib.Core.Bool.{cond, not}
 use mathlib.Core.Path.{_≡_}
-use Prim.Native.Nat.{ℕ, zero, suc, _+_, _*_, _-_, _^_, _≤_, _<_}
-use lib.Dec.{T}
+use Prim.Native.Nat.{ℕ, zero, suc, _+_, _*_, _-_, _^_, _<_}
 use Rattle.block.specs.Layout.{digit}
 use Rattle.game.specs.Rbatl.{Bound, limit, unlimited, Fits, Coalition, Bounds, Joint, Structure, moveCost}
 

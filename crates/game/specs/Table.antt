@@ -2,7 +2,7 @@
 use mathlib.Core.Bool.{cond}
 use mathlib.Core.Logic.{_⊎_}
 use mathlib.Core.Path.{_≡_}
-use Prim.Native.Nat.{ℕ, _≤_, _<_}
+use Prim.Native.Nat.{ℕ, _<_}
 use lib.Dec.{eqb}
 use Rattle.game.specs.Rbatl.{Computation, Strategy}
 use Rattle.game.specs.Position.{Arena, Position, IsPosition, number, positions, Reply, Allowed, outcome}
