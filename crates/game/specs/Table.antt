@@ -6,7 +6,7 @@ use Prim.Native.Nat.{ℕ, _<_}
 use lib.Dec.{eqb}
 use Rattle.game.specs.Rbatl.{Computation, Strategy}
 use Rattle.game.specs.Position.{Arena, Position, IsPosition, number, positions, Reply, Allowed, outcome}
-use Rattle.game.specs.Play.{Objective, next, always, until, True, MetWithin, FalseWithin, Settled, Play, CounterStrategy, states, From, Follows, Answers, Paid, KeepsWithin, CoalitionWins, OpponentsWin, EnforcesWithin, ForcesWithin}
+use Rattle.game.specs.Play.{Objective, next, always, until, True, MetWithin, FalseWithin, Settled, Play, CounterStrategy, states, From, Follows, Answers, IsCounterStrategy, Paid, KeepsWithin, CoalitionWins, OpponentsWin, EnforcesWithin, ForcesWithin}
 
 -- the rank where nothing is enforced or forced, and the move where the coalition does not win
 abbrev pub never : ℕ
@@ -130,6 +130,11 @@ module _ (G : Arena) where
       pub rank-below : RankBelow t p
       pub no-sooner : NoSooner t p
       pub move-is : MoveIs t (CoalitionWins G t) p (moveAt p)
+      -- the table can be played whatever the replies, and its replies against every strategy within the stock
+      pub table-plays : (ρ : CounterStrategy) → IsCounterStrategy G ρ → (P : Play G) × From G p P × ByTable P × Answers G ρ P
+      pub reply-plays :
+          (ρ : CounterStrategy) → ReplyRule t (CoalitionWins G t) ρ → (F : Strategy) → KeepsWithin G p F
+          → (P : Play G) × From G p P × Follows G F P × Answers G ρ P
       -- where the coalition wins: every play by the table, whatever the replies, is paid and won; it idles only after the row is settled
       pub by-table : CoalitionWins G t p → (P : Play G) → From G p P → ByTable P → Paid G P × WonOn t p (states G P)
       pub idles-settled :

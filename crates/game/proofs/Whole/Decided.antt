@@ -8,15 +8,16 @@ use native.Mathlib.Omega.{arith}
 use Rattle.game.specs.Rbatl.{Computation}
 use Rattle.game.specs.Position.{Arena, Position, IsPosition, Reply, Allowed, outcome}
 use Rattle.game.specs.Play.{Objective, next, always, until, True, MetWithin, FalseWithin, Play, states, From, Enforces, Forces, CoalitionWins, OpponentsWin}
-use Rattle.game.specs.Table.{Table, never, rankAt, moveAt, RankIs, RankBelow, MoveIs, CounterAim, ReplyIs, WonOn, LostOn, Decided}
-use Rattle.game.specs.Facts.{CanForce, CanAnswer, RankFacts, Claims, Backed, WinningFacts, Facts}
+use Rattle.game.specs.Table.{Table, never, rankAt, moveAt, RankIs, RankBelow, MoveIs, Failed, CounterAim, ReplyIs, WonOn, LostOn, Decided}
+use Rattle.game.specs.Facts.{CanForce, CanAnswer, RankFacts, LeftDecided, Claims, Backed, WinningFacts, Facts}
+use Rattle.game.proofs.Numbers.Decide.{eq?, both?, not?}
 use Rattle.game.proofs.Bridge.Proper.{Proper}
 use Rattle.game.proofs.Bridge.Plays.{outcome-fits, strategy-paid, play-against}
 use Rattle.game.proofs.Whole.Bounded.{force-answer, answer-force, rank-below}
-use Rattle.game.proofs.Whole.Winning.{won-true, table-won, table-paid, table-idles-settled, claimed-won}
+use Rattle.game.proofs.Whole.Winning.{won-true, table-won, table-paid, table-idles-settled, table-against, claimed-won}
 use Rattle.game.proofs.Local.Decidable.{claims?}
 use Rattle.game.proofs.Whole.Losing.{unclaimed-lost, no-sooner}
-use Rattle.game.proofs.Whole.Replies.{replies-win}
+use Rattle.game.proofs.Whole.Replies.{replies-win, replies-against}
 
 -- a strategy and a counter-strategy have a play, so their claims cannot contradict each other
 pub clash : (G : Arena) → Proper (G .structure) → (p : Position) → IsPosition G p → (U W : Computation → Type 0) → ((λs : Computation) → U λs → W λs → ⊥) → Enforces G p U → Forces G p W → ⊥
@@ -68,6 +69,16 @@ module _ (G : Arena) (proper : Proper (G .structure)) (X : Table) where
         go : Dec (Claims G X t p) → Claims G X t p
         go (yes claim) = claim
         go (no unclaimed) = absurd (not-both-win p fits wins (unclaimed-opponents p fits unclaimed))
+
+  -- whether a row has failed is read off the rank too
+  has-failed : (t : Objective) → RankFacts G t (rankAt G X) → LeftDecided G t → (x : Position) → IsPosition G x → Dec (Failed G X t x)
+  has-failed (until left right) ranks left? x fits = both? (not? (left? (x .state) (fits .0))) (λ _. go (eq? (rankAt G X x) 0))
+    where
+      go : Dec (rankAt G X x ≡ 0) → Dec (right (x .state) → ⊥)
+      go (yes e) = no (λ fails. fails (ranks .sound .reached x fits e))
+      go (no ne) = yes (λ r. ne (ranks .sound .goal x fits r))
+  has-failed (always left) ranks left? x fits = eq? (rankAt G X x) 0
+  has-failed (next left) ranks left? x fits = no (λ e. e)
 
   -- the rank is what plays say
   until-rank : (left right : ℕ → Type 0) → Facts G X (until left right) → (p : Position) → IsPosition G p → RankIs G (until left right) p (rankAt G X p)
@@ -185,6 +196,8 @@ module _ (G : Arena) (proper : Proper (G .structure)) (X : Table) where
       rank-below = rank-small t (facts .ranks) p fits;
       no-sooner = no-sooner G proper X t (facts .ranks) (facts .decided) p fits;
       move-is = move-by-plays p fits;
+      table-plays = table-against G X proper t (facts-winning t facts) p fits;
+      reply-plays = λ ρ rule. replies-against G proper X t (CoalitionWins G t) ρ rule wins? failed? p fits;
       by-table = λ wins P from by. (
         table-paid G X proper t (facts-winning t facts) P by,
         subst (λ (x : Position). WonOn G X t x (states G P)) from (table-won G X proper t (facts-winning t facts) P by (claimed P from wins)),
@@ -196,5 +209,15 @@ module _ (G : Arena) (proper : Proper (G .structure)) (X : Table) where
           (subst (λ (x : Position). LostOn G X t x (states G P)) from lost, settled);
     }
       where
+        wins? : (x : Position) → IsPosition G x → Dec (CoalitionWins G t x)
+        wins? x inside = go (claims? G X t x)
+          where
+            go : Dec (Claims G X t x) → Dec (CoalitionWins G t x)
+            go (yes claim) = yes (claims-win t facts x inside claim)
+            go (no unclaimed) = no (λ wins. unclaimed (wins-claimed t facts x inside wins))
+
+        failed? : (x : Position) → IsPosition G x → Dec (Failed G X t x)
+        failed? x inside = has-failed t (facts .ranks) (facts .decided) x inside
+
         claimed : (P : Play G) → From G p P → CoalitionWins G t p → Claims G X t (P .at 0)
         claimed P from wins = subst (Claims G X t) (sym from) (wins-claimed t facts p fits wins)

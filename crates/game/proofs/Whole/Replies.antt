@@ -1,17 +1,20 @@
 -- Play against the reply rule: from a position that the coalition does not win, the row comes out false, an always row within the rank,
 -- and a position that the coalition wins comes only after the row is settled. Assumes nothing.
-use mathlib.Core.Path.{_≡_, sym, _∙_, ap, subst}
+use mathlib.Core.Path.{_≡_, refl, sym, _∙_, ap, subst}
 use Prim.Native.Nat.{ℕ, zero, suc, _<_}
 use native.Mathlib.Decide.{decLt}
 use native.Mathlib.Omega.{arith}
-use Rattle.game.specs.Position.{Arena, Position, IsPosition, Affordable, outcome}
-use Rattle.game.specs.Play.{Objective, next, always, until, Settled, Play, CounterStrategy, states, Answers}
+use Rattle.game.specs.Rbatl.{Strategy}
+use Rattle.game.specs.Position.{Arena, Position, IsPosition, Reply, Affordable, Allowed, outcome}
+use Rattle.game.specs.Play.{Objective, next, always, until, Settled, Play, CounterStrategy, states, From, Follows, Answers, IsCounterStrategy, KeepsWithin}
 use Rattle.game.specs.Table.{Table, never, rankAt, Failed, CounterAim, ReplyRule, LostOn}
 use Rattle.game.specs.Facts.{Claims, RankFacts, LeftDecided}
 use Rattle.game.proofs.Bridge.Proper.{Proper}
 use Rattle.game.proofs.Numbers.Ranks.{reaches, unranked-reached, never-reaches, ranked-spoilt}
 use Rattle.game.proofs.Whole.Settled.{spoilt-settled, false-settled, next-false-settled}
-use Rattle.game.proofs.Bridge.Plays.{at-fits}
+use Rattle.game.proofs.Bridge.Plays.{at-fits, strategy-paid, play-against}
+use Rattle.game.proofs.Local.Decidable.{allowed?}
+use Rattle.game.proofs.Whole.Choices.{idle-reply}
 
 module _ (G : Arena) (proper : Proper (G .structure)) (X : Table) (Won : Position → Type 0) (ρ : CounterStrategy) (P : Play G) (answers : Answers G ρ P) (paid : (i : ℕ) → Affordable G (P .at i) (P .move i)) where
   abbrev rankOf : ℕ → ℕ
@@ -89,3 +92,43 @@ module _ (G : Arena) (proper : Proper (G .structure)) (X : Table) (Won : Positio
   replies-win (until left right) ranks left? rule won-claims claims-won unclaimed = until-replies left right ranks rule won-claims claims-won unclaimed left?
   replies-win (always left) ranks left? rule won-claims claims-won unclaimed = always-replies left ranks rule won-claims unclaimed
   replies-win (next left) ranks left? rule won-claims claims-won unclaimed = (fails left rule won-claims unclaimed, next-settled left rule won-claims unclaimed)
+
+-- the reply rule has a play against every strategy within the stock
+module _ (G : Arena) (proper : Proper (G .structure)) (X : Table) (t : Objective) (Won : Position → Type 0) (ρ : CounterStrategy) (rule : ReplyRule G X t Won ρ)
+    (won? : (p : Position) → IsPosition G p → Dec (Won p)) (failed? : (p : Position) → IsPosition G p → Dec (Failed G X t p)) where
+  reply-available : (p : Position) (m : ℕ) → IsPosition G p → Allowed G p m → Reply G p (ρ p m)
+  reply-available p m fits a = go (won? p fits) (failed? p fits)
+    where
+      go : Dec (Won p) → Dec (Failed G X t p) → Reply G p (ρ p m)
+      go (yes wins) d = rw (rule p m fits a .won wins) (idle-reply G proper p fits)
+      go (no loses) (yes over) = rw (rule p m fits a .failed over) (idle-reply G proper p fits)
+      go (no loses) (no unsettled) = rule p m fits a .best loses unsettled .0 .0
+
+  -- as the rule at affordable moves, and idle elsewhere
+  patchedAt : (p : Position) (m : ℕ) → Dec (Allowed G p m) → ℕ
+  patchedAt p m (yes _) = ρ p m
+  patchedAt p m (no _) = 0
+
+  patched : CounterStrategy
+  patched p m = patchedAt p m (allowed? G p m)
+
+  patched-counter : IsCounterStrategy G patched
+  unfolding patched patchedAt
+  patched-counter p m fits _ = go (allowed? G p m)
+    where
+      go : (d : Dec (Allowed G p m)) → Reply G p (patchedAt p m d)
+      go (yes a) = reply-available p m fits a
+      go (no _) = idle-reply G proper p fits
+
+  patched-is : (p : Position) (m : ℕ) → Allowed G p m → patched p m ≡ ρ p m
+  unfolding patched patchedAt
+  patched-is p m a = go (allowed? G p m)
+    where
+      go : (d : Dec (Allowed G p m)) → patchedAt p m d ≡ ρ p m
+      go (yes _) = refl
+      go (no fails) = absurd (fails a)
+
+  pub replies-against : (p : Position) → IsPosition G p → (F : Strategy) → KeepsWithin G p F → (P : Play G) × From G p P × Follows G F P × Answers G ρ P
+  replies-against p fits F keeps =
+      let (P, from, follows, answers) = play-against G proper F (keeps .0) patched patched-counter p fits in
+      (P, from, follows, λ i. answers i ∙ patched-is (P .at i) (P .move i) (P .moved i, strategy-paid G proper p F keeps P from follows i))

@@ -7,15 +7,15 @@ use native.Mathlib.Decide.{ℕ-discrete}
 use native.Mathlib.Nat.{pow-le-pow-right}
 use native.Mathlib.Omega.{arith}
 use lib.Dec.{T, eqb, eqb→eq}
-use Rattle.game.specs.Rbatl.{Computation, Coalition, Structure}
+use Rattle.game.specs.Rbatl.{Computation, Strategy, Coalition, Structure}
 use Rattle.game.specs.Position.{Arena, Position, MoveOf, IsPosition, Allowed, Affordable, outcome}
-use Rattle.game.specs.Play.{Objective, next, always, until, True, Settled, Play, states, From, Follows, Paid, Enforces}
+use Rattle.game.specs.Play.{Objective, next, always, until, True, Settled, Play, CounterStrategy, states, From, Follows, Answers, IsCounterStrategy, Paid, KeepsWithin, Enforces}
 use Rattle.game.specs.Table.{Table, never, noMove, shown, rankAt, moveAt, Aim, Good, ByTable, WonOn}
 use Rattle.game.specs.Facts.{Claims, Backed, WinningFacts}
 use Rattle.game.proofs.Bridge.Proper.{Proper}
 use Rattle.game.proofs.Numbers.Ranks.{reaches, unranked-reached}
 use Rattle.game.proofs.Whole.Settled.{met-settled, next-true-settled}
-use Rattle.game.proofs.Bridge.Plays.{at-fits, within-along}
+use Rattle.game.proofs.Bridge.Plays.{at-fits, within-along, play-against}
 use Rattle.game.proofs.Bridge.Strategies.{asStrategy, keeps, picks}
 use Rattle.game.proofs.Local.Decidable.{claims?}
 use Rattle.game.proofs.Whole.Choices.{idle-allowed}
@@ -120,18 +120,30 @@ module _ (G : Arena) (X : Table) where
     table-idles-settled (next left) facts P by claim zero none = absurd (no-move-unclaimed (next left) facts (P .at 0) (P .start) none claim)
     table-idles-settled (next left) facts P by claim (suc n) none = next-true-settled left (states G P) n (table-won (next left) facts P by claim)
 
-    -- a claimed position is won by the table's moves, and an until row within the rank that it shows
-    pub claimed-won : (t : Objective) → WinningFacts G X t → (p : Position) → IsPosition G p → Claims G X t p → Enforces G p (WonOn G X t p)
-    claimed-won t facts p fits claim =
-        (asStrategy G proper pick allowed (p .stock), keeps G proper pick allowed (p .stock) (p .state) fits, won)
-      where
-        pick : Position → ℕ
-        pick x = shown (moveAt G X x)
+    -- the table read as a strategy, and its play whatever the replies
+    module _ (t : Objective) (facts : WinningFacts G X t) (p : Position) (fits : IsPosition G p) where
+      tableStrategy : Strategy
+      tableStrategy = asStrategy G proper (λ x. shown (moveAt G X x)) (shown-allowed t facts) (p .stock)
 
-        allowed : (x : Position) → IsPosition G x → Allowed G x (pick x)
-        allowed = shown-allowed t facts
+      table-keeps : KeepsWithin G p tableStrategy
+      unfolding tableStrategy
+      table-keeps = keeps G proper (λ x. shown (moveAt G X x)) (shown-allowed t facts) (p .stock) (p .state) fits
 
-        won : (P : Play G) → From G p P → Follows G (asStrategy G proper pick allowed (p .stock)) P → WonOn G X t p (states G P)
-        won P from follows =
-            let by : ByTable G X P = picks G proper pick allowed (p .stock) (fits .1) P (ap (λ (x : Position). x .stock) from) follows in
-            subst (λ (x : Position). WonOn G X t x (states G P)) from (table-won t facts P by (subst (Claims G X t) (sym from) claim))
+      table-follows : (P : Play G) → From G p P → Follows G tableStrategy P → ByTable G X P
+      unfolding tableStrategy
+      table-follows P from follows = picks G proper (λ x. shown (moveAt G X x)) (shown-allowed t facts) (p .stock) (fits .1) P (ap (λ (x : Position). x .stock) from) follows
+
+      pub table-against : (ρ : CounterStrategy) → IsCounterStrategy G ρ → (P : Play G) × From G p P × ByTable G X P × Answers G ρ P
+      table-against ρ counter =
+          let (P, from, follows, answers) = play-against G proper tableStrategy (table-keeps .0) ρ counter p fits in
+          (P, from, table-follows P from follows, answers)
+
+      -- a claimed position is won by the table's moves, and an until row within the rank that it shows
+      pub claimed-won : Claims G X t p → Enforces G p (WonOn G X t p)
+      claimed-won claim = (
+        tableStrategy,
+        table-keeps,
+        λ P from follows.
+            subst (λ (x : Position). WonOn G X t x (states G P)) from
+            (table-won t facts P (table-follows P from follows) (subst (Claims G X t) (sym from) claim)),
+      )
