@@ -1,16 +1,14 @@
 -- The job Catch (document 01, "The job Catch"), line by line, and its starred cases.
-use mathlib.Core.Bool.{cond}
 use mathlib.Core.List.{List, [], _∷_}
 use mathlib.Core.Path.{_≡_}
 use Prim.Native.Nat.{ℕ, suc, _+_, _*_}
-use lib.Dec.{eqb}
 use lib.ListN.{length, replicate}
 use lib.ListN as N
 use Rattle.block.specs.Layout as L
 use Rattle.block.specs.Layout.{Block, blockBytes, placeOf}
 use Rattle.block.specs.declared.layout.Place.{Place}
 use Rattle.block.specs.declared.layout.Place.the-variants.{Header, Mask, Count, Cost, Next, Field}
-use Rattle.game.specs.Position.{Position, IsPosition}
+use Rattle.game.specs.Position.{Position, position, IsPosition}
 use Rattle.game.specs.Play.{CoalitionWins}
 use Rattle.game.specs.Table.{Table, RankIs, ReplyIs, Decided, moveAt}
 use Rattle.game.specs.Model.{RowSet, arenaOf, objectiveOf}
@@ -87,7 +85,7 @@ catch7 = writtenAll (job 2 1 3 1 7 ∷ row 6 L.alwaysKind 1 0 2 0 ∷ lines) emp
 
 -- a state with a stock of the one resource
 abbrev pub at : ℕ → ℕ → Position
-at q s = record { state = q; stock = λ r. cond (eqb r 0) s 0 }
+at q s = position q (s ∷ [])
 
 -- what a case says: a row's set; the rank, the move, or the reply to a move, at a position
 pub data Case : Type 0 where

@@ -1,8 +1,10 @@
 -- Positions of a strategic row, its moves and replies, what they cost and where they lead (document 01, "The job" and "When a row is true").
 -- Over any structure and any number of resources.
 use mathlib.Core.Bool.{cond, not}
+use mathlib.Core.List.{List}
 use mathlib.Core.Path.{_≡_}
 use Prim.Native.Nat.{ℕ, zero, suc, _+_, _*_, _-_, _^_, _<_}
+use lib.ListN.{getD}
 use Rattle.block.specs.Layout.{digit}
 use Rattle.game.specs.Rbatl.{Bound, limit, unlimited, Fits, Coalition, Bounds, Joint, Structure, moveCost}
 
@@ -16,6 +18,10 @@ pub record Arena : Type 0 where
 pub record Position : Type 0 where
   pub state : ℕ
   pub stock : ℕ → ℕ
+
+-- a state with the stocks of a list, resource 0 first, and no other stock
+abbrev pub position : ℕ → List ℕ → Position
+position q stocks = record { state = q; stock = λ r. getD stocks r 0 }
 
 -- the stock places of a resource: a stock is 0 to its bound, and 0 where unlimited
 abbrev pub places : Bound → ℕ

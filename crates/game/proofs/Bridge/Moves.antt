@@ -21,6 +21,13 @@ digit-idle a = rw zero-div
 abbrev pub merge : Coalition → ℕ → ℕ → Joint
 merge A m r a = cond (A a) (digit m a) (digit r a)
 
+pub merge-small : (A : Coalition) (m r a : ℕ) → merge A m r a < 4
+merge-small A m r a = go (A a)
+  where
+    go : (t : Bool) → cond t (digit m a) (digit r a) < 4
+    go true = digit-small m a
+    go false = digit-small r a
+
 part-small : (n : ℕ) (A : Coalition) (σ : Joint) → ((a : ℕ) → a < n → T (A a) → σ a < 4) → (a : ℕ) → a < n → part A σ a < 4
 part-small n A σ h a l = go (A a) (h a l)
   where
@@ -86,11 +93,7 @@ module _ (S : Structure) (proper : Proper S) where
           second a false h = refl
 
       pub together-digit : (a : ℕ) → a < S .agents → digit (m + r) a ≡ merge A m r a
-      together-digit a l = ap (λ (k : ℕ). digit k a) together ∙ digit-joint (S .agents) (merge A m r) (λ c _. small c (A c)) a l
-        where
-          small : (c : ℕ) (t : Bool) → cond t (digit m c) (digit r c) < 4
-          small c true = digit-small m c
-          small c false = digit-small r c
+      together-digit a l = ap (λ (k : ℕ). digit k a) together ∙ digit-joint (S .agents) (merge A m r) (λ c _. merge-small A m r c) a l
 
       pub together-available : Available S q (digit (m + r))
       together-available a l = rw (together-digit a l) (go (A a) (move .1 a l) (reply .1 a l))
