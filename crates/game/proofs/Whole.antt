@@ -7,3 +7,4 @@ pub mod Winning
 pub mod Losing
 pub mod Replies
 pub mod Decided
+pub mod Unique
