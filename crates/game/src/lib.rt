@@ -1,1 +1,2 @@
 // The meaning of a formula row, and the game on positions that decides it.
+pub mod moves;

@@ -1,11 +1,17 @@
 -- What the code reads of a block, as the definitions say it: the next state after a move and a reply stands at their sum. Assumes nothing.
-use mathlib.Core.Path.{_≡_, ap, _∙_, sym}
-use Prim.Native.Nat.{ℕ, _+_, _^_, _<_}
+use mathlib.Core.Bool.{Bool, cond}
+use mathlib.Core.Path.{_≡_, sym, _∙_, ap, subst}
+use Prim.Native.Nat.{ℕ, _+_, _/_, _%_, _^_, _≤_, _<_}
+use native.Mathlib.Nat.{add-zero, div-div-eq-div-mul, pow-suc}
+use native.Mathlib.Numerals.{add-one}
 use native.Mathlib.Omega.{arith}
+use borrow.Author.Tests.{eq-eqb, ne-eqb}
 use Rattle.block.specs.Layout as L
 use Rattle.block.specs.Layout.{Block, digit}
-use Rattle.game.specs.Position.{Position, joint, Move, Reply, outcome}
-use Rattle.game.specs.Model.{structureOf, coalitionOf, arenaOf}
+use Rattle.block.specs.Valid.{Valid}
+use Rattle.game.specs.Rbatl.{costUpTo}
+use Rattle.game.specs.Position.{Position, MoveOf, Move, Reply, outcome}
+use Rattle.game.specs.Model.{bit, structureOf, coalitionOf, arenaOf}
 use Rattle.game.proofs.Numbers.Joint.{joint-below, joint-digit}
 use Rattle.game.proofs.Bridge.Proper.{Proper}
 use Rattle.game.proofs.Bridge.Moves.{merge, merge-small, together}
@@ -17,3 +23,23 @@ module _ (b : Block) (proper : Proper (structureOf b)) (i : ℕ) (p : Position) 
 
   pub outcome-state : outcome (arenaOf b i) p m r .state ≡ L.next b (p .state) (m + r)
   outcome-state = ap (L.next b (p .state)) (joint-digit (L.agents b) (m + r) sum-below)
+
+-- one agent's part of a move's cost
+module _ (b : Block) (valid : Valid b) (team m s j a : ℕ) (state : s < L.states b) (resource : j < L.resources b) (agent : a < L.agents b) where
+  pub cost-member : team / 2 ^ a % 2 ≡ 1 → costUpTo (structureOf b) (bit team) (a + 1) s (digit m) j ≡ costUpTo (structureOf b) (bit team) a s (digit m) j + L.cost b s a (m / 4 ^ a % 4) j
+  cost-member e =
+      ap (λ (n : ℕ). costUpTo (structureOf b) (bit team) n s (digit m) j) (add-one a)
+      ∙ ap (λ (t : Bool). costUpTo (structureOf b) (bit team) a s (digit m) j + cond t (L.cost b s a (digit m a) j) 0) (eq-eqb (team / 2 ^ a % 2) 1 e)
+
+  pub cost-other : (team / 2 ^ a % 2 ≡ 1 → ⊥) → costUpTo (structureOf b) (bit team) (a + 1) s (digit m) j ≡ costUpTo (structureOf b) (bit team) a s (digit m) j
+  cost-other ne =
+      ap (λ (n : ℕ). costUpTo (structureOf b) (bit team) n s (digit m) j) (add-one a)
+      ∙ ap (λ (t : Bool). costUpTo (structureOf b) (bit team) a s (digit m) j + cond t (L.cost b s a (digit m a) j) 0) (ne-eqb (team / 2 ^ a % 2) 1 ne)
+      ∙ add-zero _
+
+  pub cost-small : MoveOf (structureOf b) (bit team) s m → team / 2 ^ a % 2 ≡ 1 → L.cost b s a (m / 4 ^ a % 4) j ≤ 15
+  cost-small move e = valid .cost-fits s a (digit m a) j state agent (subst (λ (t : Bool). cond t (digit m a < L.count b s a) (digit m a ≡ 0)) (eq-eqb (team / 2 ^ a % 2) 1 e) (move .1 a agent)) resource
+
+-- what is left of a number after one more digit
+pub shift : (n d a k : ℕ) → k ≡ n / d ^ a → k / d ≡ n / d ^ (a + 1)
+shift n d a k e = ap (λ (x : ℕ). x / d) e ∙ div-div-eq-div-mul n (d ^ a) d ∙ ap (λ (x : ℕ). n / x) (sym (pow-suc d a) ∙ ap (λ (x : ℕ). d ^ x) (sym (add-one a)))
