@@ -1,6 +1,6 @@
 -- The rows of a block.
-pub mod Passing
 pub mod Reading
+pub mod Passing
 pub mod Formulas
 pub mod Tables
 pub mod Labels

@@ -13,9 +13,10 @@ use Rattle.block.specs.Valid.{Valid, RowFits}
 use Rattle.game.specs.Rbatl.{limit, unlimited, Joint, Available}
 use Rattle.game.specs.Position.{places, joint, positionsUpTo, positions}
 use Rattle.game.specs.Model.{structureOf, boundOf, boundsOf, arenaOf}
-use Rattle.game.proofs.Numbers.Decide.{lt?}
+use Rattle.game.proofs.Numbers.Decide.{eq?}
 use Rattle.game.proofs.Numbers.Joint.{joint-cong, joint-below, digit-joint}
 use Rattle.game.proofs.Bridge.Proper.{Proper}
+use Rattle.game.proofs.Blocks.Reading.{bound-unlimited, bound-limited, bound-small}
 
 digit-beyond : (n m a : ℕ) → m < 4 ^ n → n ≤ a → digit m a ≡ 0
 digit-beyond n m a l h =
@@ -49,24 +50,23 @@ module _ (b : Block) (valid : Valid b) where
 
   -- a bound that passes has at most 16 stock places
   few-places : (i : ℕ) → RowFits b i → Strategic (L.kind b i) → (r : ℕ) → r < L.resources b → places (boundsOf b i r) ≤ 16
-  few-places i row strategic r l =
-      subst (λ (t : Bool). places (cond t (boundOf (L.bound b i r)) unlimited) ≤ 16) (sym (lt-ltb r (L.resources b) l)) (go (ℕ-discrete (L.bound b i r) L.unlimited))
+  few-places i row strategic r l = go (eq? (L.bound b i r) L.unlimited)
     where
-      go : Dec (L.bound b i r ≡ L.unlimited) → places (boundOf (L.bound b i r)) ≤ 16
-      go (yes e) = subst (λ (t : Bool). places (cond t unlimited (limit (L.bound b i r))) ≤ 16) (sym (eq-eqb (L.bound b i r) L.unlimited e)) (omega arith)
-      go (no ne) = subst (λ (t : Bool). places (cond t unlimited (limit (L.bound b i r))) ≤ 16) (sym (ne-eqb (L.bound b i r) L.unlimited ne)) (small (lt? 15 (L.bound b i r)))
-        where
-          small : Dec (15 < L.bound b i r) → suc (L.bound b i r) ≤ 16
-          small (yes h) = absurd (ne (row .bound-fits strategic r l h))
-          small (no h) = omega arith
+      go : Dec (L.bound b i r ≡ L.unlimited) → places (boundsOf b i r) ≤ 16
+      go (yes e) = omega (arith, ap places (bound-unlimited b i r l e))
+      go (no ne) = omega (arith, ap places (bound-limited b i r l ne), bound-small b i r l row strategic ne)
 
-  -- there are at most 6,144 positions
-  pub few-positions : (i : ℕ) → i < L.rows b → Strategic (L.kind b i) → positions (arenaOf b i) ≤ 6144
-  few-positions i inside strategic =
-      let power : 16 ^ L.resources b ≤ 16 ^ 2 = pow-le-pow-right {n = 16} (omega arith) (valid .sized .resources-fit .1) in
-      omega (arith, upto (L.resources b) (omega arith), mul-le-mul-left 24 power)
+  -- there are at most 6,144 positions, and no more over the first resources
+  pub few-upto : (i : ℕ) → i < L.rows b → Strategic (L.kind b i) → (n : ℕ) → n ≤ L.resources b → positionsUpTo (arenaOf b i) n ≤ 6144
+  few-upto i inside strategic n l =
+      let at-most : n ≤ 2 = omega (arith, valid .sized .resources-fit .1) in
+      let power : 16 ^ n ≤ 16 ^ 2 = pow-le-pow-right {n = 16} (omega arith) at-most in
+      omega (arith, upto n l, mul-le-mul-left 24 power)
     where
       upto : (n : ℕ) → n ≤ L.resources b → positionsUpTo (arenaOf b i) n ≤ 24 * 16 ^ n
       upto zero l = omega (arith, valid .sized .states-fit .1)
       upto (suc n) l =
           omega (arith, mul-le-mul (upto n (omega arith)) (few-places i (valid .row-fits i inside) strategic n (omega arith)), pow-succ' 16 n)
+
+  pub few-positions : (i : ℕ) → i < L.rows b → Strategic (L.kind b i) → positions (arenaOf b i) ≤ 6144
+  few-positions i inside strategic = few-upto i inside strategic (L.resources b) (omega arith)

@@ -5,13 +5,14 @@ use Prim.Native.Nat.{ℕ, _+_, _/_, _%_, _^_, _≤_, _<_}
 use native.Mathlib.Nat.{add-zero, div-div-eq-div-mul, pow-suc}
 use native.Mathlib.Numerals.{add-one}
 use native.Mathlib.Omega.{arith}
-use borrow.Author.Tests.{eq-eqb, ne-eqb}
+use borrow.Author.Tests.{eq-eqb, ne-eqb, lt-ltb}
 use Rattle.block.specs.Layout as L
-use Rattle.block.specs.Layout.{Block, digit}
-use Rattle.block.specs.Valid.{Valid}
-use Rattle.game.specs.Rbatl.{costUpTo}
+use Rattle.block.specs.Layout.{Block, digit, Strategic}
+use Rattle.block.specs.Valid.{Valid, RowFits}
+use Rattle.game.specs.Rbatl.{limit, unlimited, costUpTo}
 use Rattle.game.specs.Position.{Position, MoveOf, Move, Reply, outcome}
-use Rattle.game.specs.Model.{bit, structureOf, coalitionOf, arenaOf}
+use Rattle.game.specs.Model.{bit, structureOf, boundOf, coalitionOf, boundsOf, arenaOf}
+use Rattle.game.proofs.Numbers.Decide.{lt?}
 use Rattle.game.proofs.Numbers.Joint.{joint-below, joint-digit}
 use Rattle.game.proofs.Bridge.Proper.{Proper}
 use Rattle.game.proofs.Bridge.Moves.{merge, merge-small, together}
@@ -43,3 +44,21 @@ module _ (b : Block) (valid : Valid b) (team m s j a : ℕ) (state : s < L.state
 -- what is left of a number after one more digit
 pub shift : (n d a k : ℕ) → k ≡ n / d ^ a → k / d ≡ n / d ^ (a + 1)
 shift n d a k e = ap (λ (x : ℕ). x / d) e ∙ div-div-eq-div-mul n (d ^ a) d ∙ ap (λ (x : ℕ). n / x) (sym (pow-suc d a) ∙ ap (λ (x : ℕ). d ^ x) (sym (add-one a)))
+
+-- the bound of a resource that the job has
+module _ (b : Block) (i j : ℕ) (resource : j < L.resources b) where
+  bound-here : boundsOf b i j ≡ boundOf (L.bound b i j)
+  bound-here = ap (λ (t : Bool). cond t (boundOf (L.bound b i j)) unlimited) (lt-ltb j (L.resources b) resource)
+
+  pub bound-unlimited : L.bound b i j ≡ L.unlimited → boundsOf b i j ≡ unlimited
+  bound-unlimited e = bound-here ∙ ap (λ (t : Bool). cond t unlimited (limit (L.bound b i j))) (eq-eqb (L.bound b i j) L.unlimited e)
+
+  pub bound-limited : (L.bound b i j ≡ L.unlimited → ⊥) → boundsOf b i j ≡ limit (L.bound b i j)
+  bound-limited ne = bound-here ∙ ap (λ (t : Bool). cond t unlimited (limit (L.bound b i j))) (ne-eqb (L.bound b i j) L.unlimited ne)
+
+  pub bound-small : RowFits b i → Strategic (L.kind b i) → (L.bound b i j ≡ L.unlimited → ⊥) → L.bound b i j ≤ 15
+  bound-small row strategic ne = go (lt? 15 (L.bound b i j))
+    where
+      go : Dec (15 < L.bound b i j) → L.bound b i j ≤ 15
+      go (yes h) = absurd (ne (row .bound-fits strategic j resource h))
+      go (no h) = omega arith

@@ -1,0 +1,37 @@
+// Positions of a strategic row: how many stock places each resource has, and how many positions there are.
+use block::layout;
+ghost use mathlib.Core.Path.{_≡_};
+ghost use Prim.Native.Nat.{_≤_, _<_};
+ghost use Rattle.block.specs.Layout as L;
+ghost use Rattle.block.specs.Valid.{Valid};
+ghost use Rattle.game.specs.Position as P;
+ghost use Rattle.game.specs.Model.{boundsOf, arenaOf};
+
+// The stock places of resource j in row i.
+pub fn places(block: &[u8], i: usize, j: usize) -> usize
+    requires { ⌜ Valid (now block) ⌝ }
+    requires { ⌜ (i < L.rows (now block)) × (j < L.resources (now block)) × L.Strategic (L.kind (now block) i) ⌝ }
+    ensures { λ r. ⌜ r ≡ P.places (boundsOf (now (block .entry)) i j) ⌝ }
+{
+    let bound = layout::bound(block, i, j);
+    if bound == 255 {
+        return 1;
+    }
+    bound + 1
+}
+
+// How many positions row i has.
+pub fn count(block: &[u8], i: usize) -> usize
+    requires { ⌜ Valid (now block) ⌝ }
+    requires { ⌜ (i < L.rows (now block)) × L.Strategic (L.kind (now block) i) ⌝ }
+    ensures { λ r. ⌜ (r ≡ P.positions (arenaOf (now (block .entry)) i)) × (r ≤ 6144) ⌝ }
+{
+    let n = layout::resources(block);
+    let mut c = layout::states(block);
+    let mut j = 0;
+    while j < n {
+        c = c * places(block, i, j);
+        j += 1;
+    }
+    c
+}
