@@ -5,7 +5,7 @@ use mathlib.Core.List.{List}
 use mathlib.Core.Path.{_≡_}
 use Prim.Native.Nat.{ℕ, zero, suc, _+_, _*_, _-_, _^_, _<_}
 use lib.ListN.{getD}
-use Rattle.block.specs.Layout.{digit}
+use Rattle.block.specs.Layout.{digit, maxAgents}
 use Rattle.game.specs.Rbatl.{Bound, limit, unlimited, Fits, Coalition, Bounds, Joint, Structure, moveCost}
 
 -- where a strategic row is played: by whom and with what bound
@@ -54,6 +54,10 @@ opponents A a = not (A a)
 -- a joint action with 0 for the agents outside A
 abbrev pub part : Coalition → Joint → Joint
 part A σ a = cond (A a) (σ a) 0
+
+-- A's part of the joint action with number m: the digits of A's agents, and 0 for the others
+abbrev pub partOf : Coalition → ℕ → ℕ
+partOf A m = joint maxAgents (part A (digit m))
 
 -- an action of agent a for an agent of A, and 0 for another
 abbrev pub ActsFor : Structure → Coalition → ℕ → ℕ → ℕ → Type 0

@@ -1,12 +1,29 @@
-// Moves of a coalition: what they cost.
+// Moves of a coalition: its part of a joint action, and what a move costs.
 use block::layout;
 ghost use mathlib.Core.Path.{_≡_};
 ghost use Prim.Native.Nat.{_<_};
 ghost use Rattle.block.specs.Layout.{states, resources, digit};
 ghost use Rattle.block.specs.Valid.{Valid};
 ghost use Rattle.game.specs.Rbatl.{moveCost};
-ghost use Rattle.game.specs.Position.{MoveOf};
+ghost use Rattle.game.specs.Position.{partOf, MoveOf};
 ghost use Rattle.game.specs.Model.{bit, structureOf};
+
+// A team's part of a joint action: the digits of its agents, and 0 for the others.
+pub fn part(team: usize, joint: usize) -> usize
+    ensures { λ r. ⌜ r ≡ partOf (bit team) joint ⌝ }
+{
+    let mut r = 0;
+    if team % 2 == 1 {
+        r += joint % 4;
+    }
+    if team / 2 % 2 == 1 {
+        r += joint / 4 % 4 * 4;
+    }
+    if team / 4 % 2 == 1 {
+        r += joint / 16 % 4 * 16;
+    }
+    r
+}
 
 // What the move m of a team takes of resource j in state s: the sum over the team's agents.
 pub fn cost(block: &[u8], s: usize, team: usize, m: usize, j: usize) -> usize
