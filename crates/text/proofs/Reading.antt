@@ -14,6 +14,9 @@ use Rattle.block.specs.declared.refusal.Refusal.the-variants.{Form}
 use Rattle.text.specs.Numeral.{ascii, comma, decimal, Starts, Found, found, missing, after, search}
 use Rattle.text.specs.Format.{Spelling, Format, exactly, value, Outcome, refused, store, onFound, read}
 use Rattle.text.specs.Job.{both, either, number, bound, boundField, kindWord, index}
+use Rattle.text.specs.Step.{resume, resumeWith, pastValue, valueOr, Ranged, Inside, InsideWith}
+use Rattle.text.specs.declared.step.Value.{Value}
+use Rattle.text.specs.declared.step.Value.the-variants as value-at
 use Rattle.text.proofs.Search.{after-found, after-other, search-step, search-same}
 
 module _ (n : ℕ) (t : List ℕ) (f : Format) (b : Block) where
@@ -87,3 +90,17 @@ byte-none h = simp (le-ltb _ _ h)
 
 pub bound-large : {o : ℕ} → 16 ≤ o → o < 256 → either (ltb o 16) (leb 256 o) ≡ false
 bound-large l h = simp (le-ltb _ _ l, lt-leb _ _ h)
+
+-- past a value, reading goes on from the step past it
+pub past-inside : (t : List ℕ) (v : Value) → InsideWith t v → Inside t (pastValue v)
+past-inside t (value-at.At n next) h = h .1
+past-inside t (value-at.Refused r) h = tt
+
+pub with-law : (t : List ℕ) (v : Value) (d : ℕ) (g : ℕ → List ℕ → Outcome) → resumeWith t v g ≡ resume t (pastValue v) (g (valueOr d v))
+with-law t (value-at.At n next) d g = refl
+with-law t (value-at.Refused r) d g = refl
+
+-- the number stands in for a value that is not there
+pub ranged-or : (low limit d : ℕ) (v : Value) → low ≤ d → d < limit → Ranged low limit v → (low ≤ valueOr d v) × (valueOr d v < limit)
+ranged-or low limit d (value-at.At n next) l h r = r
+ranged-or low limit d (value-at.Refused x) l h r = (l, h)

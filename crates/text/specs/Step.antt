@@ -4,6 +4,8 @@ use Prim.Native.Nat.{ℕ, _≤_, _<_}
 use lib.ListN.{length, drop}
 use Rattle.text.specs.Numeral.{Found, found, missing}
 use Rattle.text.specs.Format.{Outcome, refused}
+use Rattle.block.specs.Layout.{maxAgents, maxResources, maxStates, maxPropositions, maxRows}
+use Rattle.text.specs.declared.sizes.Sizes.{Sizes}
 use Rattle.text.specs.declared.step.Step.{Step}
 use Rattle.text.specs.declared.step.Step.the-variants as step
 use Rattle.text.specs.declared.step.Value.{Value}
@@ -19,6 +21,21 @@ resume t (step.Refused r) f = refused r
 abbrev pub resumeWith : List ℕ → Value → (ℕ → List ℕ → Outcome) → Outcome
 resumeWith t (value.At v next) f = f v (drop next t)
 resumeWith t (value.Refused r) f = refused r
+
+-- the step past a value
+abbrev pub pastValue : Value → Step
+pastValue (value.At v next) = step.Next next
+pastValue (value.Refused r) = step.Refused r
+
+-- a value, or another number where there is none
+abbrev pub valueOr : ℕ → Value → ℕ
+valueOr d (value.At v next) = v
+valueOr d (value.Refused r) = d
+
+-- a value, where there is one, is from low to below limit
+abbrev pub Ranged : ℕ → ℕ → Value → Type 0
+Ranged low limit (value.At v next) = (low ≤ v) × (v < limit)
+Ranged low limit (value.Refused r) = Unit {0}
 
 -- the number found in the text, as a search finds it
 abbrev pub foundAt : List ℕ → Numeral → Found
@@ -38,7 +55,10 @@ abbrev pub InsideNumeral : List ℕ → Numeral → Type 0
 InsideNumeral t (numeral.Found n next) = (n < 258) × (next ≤ length t)
 InsideNumeral t numeral.Missing = Unit {0}
 
--- a kind is 0 to 5
-abbrev pub KindInside : Value → Type 0
-KindInside (value.At v next) = v < 6
-KindInside (value.Refused r) = Unit {0}
+-- the sizes are in range
+pub record Fitting (z : Sizes) : Type 0 where
+  pub agents-fit : (1 ≤ z .agents) × (z .agents ≤ maxAgents)
+  pub resources-fit : (1 ≤ z .resources) × (z .resources ≤ maxResources)
+  pub states-fit : (1 ≤ z .states) × (z .states ≤ maxStates)
+  pub propositions-fit : (1 ≤ z .propositions) × (z .propositions ≤ maxPropositions)
+  pub rows-fit : (1 ≤ z .rows) × (z .rows ≤ maxRows)

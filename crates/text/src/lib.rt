@@ -1,6 +1,5 @@
 // The text of a job: reader and writer.
-mod fields;
-mod numeral;
+mod joint;
+mod read;
 pub mod sizes;
 mod step;
-mod words;

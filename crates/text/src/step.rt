@@ -13,6 +13,12 @@ pub enum Value {
     Refused(Refusal),
 }
 
+// A byte of the block, or what stands in for it after a refusal, and the step past it.
+pub struct Valued {
+    pub value: usize,
+    pub next: Step,
+}
+
 // A number and the place after it and its comma or line end.
 pub enum Numeral {
     Found(usize, usize),

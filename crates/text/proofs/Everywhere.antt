@@ -1,0 +1,211 @@
+-- The fields of a block's text, line kind by line kind: what holds of every field of the format (Formats' Every) holds of each by its name, and the other way round.
+-- Assumes nothing.
+use mathlib.Core.Bool.{Bool, true, false, cond}
+use mathlib.Core.List.{List}
+use mathlib.Core.Logic.{⊎-elim, _↔_, Iff·rfl}
+use mathlib.Core.Path.{_≡_, refl, subst}
+use Prim.Native.Nat.{ℕ, zero, suc, _+_, _-_, _^_, _≤_, _<_}
+use native.Mathlib.Nat.{eq-or-lt-of-le}
+use native.Mathlib.Omega.{arith}
+use lib.Dec.{T, eqb}
+use lib.ListN.{set}
+use Rattle.block.specs.Layout.{Block, maxJoint, maxAgents, maxResources, maxStates, maxPropositions, maxRows, agents, resources, states, propositions, rows, count, kind, propKind}
+use Rattle.block.specs.declared.layout.Place.{Place}
+use Rattle.block.specs.declared.layout.Place.the-variants.{Header, Mask, Count, Cost, Next, Field}
+use Rattle.block.specs.declared.refusal.Refusal.the-variants as refusal
+use Rattle.text.specs.declared.sizes.Sizes.{Sizes}
+use Rattle.text.specs.Numeral.{comma, lineEnd}
+use Rattle.text.specs.Format.{Spelling, Format, end, value}
+use Rattle.text.specs.Job.{number, bound, kindSpelling, index, stateLine, costLimit, costEnd, costs, actions, actsLine, agentLines, possible, jointFields, goLine, goLines, noCounts, stateLines, states as allStates, strategic, binary, boundFields, teamFields, operandFields, rowLine, rowLines, size, headerLine, job}
+use Rattle.text.proofs.Formats.{Every}
+
+-- Q holds of each number from j to below e
+abbrev pub Between : ℕ → ℕ → (ℕ → Type 0) → Type 0
+Between j e Q = (i : ℕ) → j ≤ i → i < e → Q i
+
+loop-end : {j e : ℕ} {Q : ℕ → Type 0} {R : Type 0} → e ≤ j → R ↔ (Between j e Q × R)
+loop-end l = (λ r. (λ i h g. absurd (omega arith), r), λ p. p .1)
+
+loop-step : {j e : ℕ} {Q : ℕ → Type 0} {X B R : Type 0} → j < e → X ↔ (Q j × B) → B ↔ (Between (suc j) e Q × R) → X ↔ (Between j e Q × R)
+loop-step {j} {e} {Q} {X} {R = R} l body rest = (there, back)
+  where
+    there : X → Between j e Q × R
+    there x =
+        let (q, b) = body .0 x in
+        let (f, r) = rest .0 b in
+        (λ i h g. ⊎-elim (λ s. subst Q s q) (λ s. f i s g) (eq-or-lt-of-le h), r)
+
+    back : Between j e Q × R → X
+    back p = body .1 (p .0 j (omega arith) l, rest .1 (λ i h g. p .0 i (omega arith) g, p .1))
+
+-- how many actions each agent has, as told by the lines of n agents from agent a on
+abbrev pub told : Block → ℕ → ℕ → ℕ → List ℕ → List ℕ
+told b s zero a counts = counts
+told b s (suc n) a counts = told b s n (suc a) (set counts a (count b s a))
+
+-- the sizes as told by the first line
+abbrev pub sizesOf : Block → Sizes
+sizesOf b = record { agents = agents b; resources = resources b; states = states b; propositions = propositions b; rows = rows b }
+
+module _ (P : Spelling → Place → Type 0) (b : Block) where
+  -- the cost of action k in resource j, where left further actions and resources up to r follow
+  abbrev CostField : ℕ → ℕ → ℕ → ℕ → ℕ → ℕ → Type 0
+  CostField s a left r k j = P (number (costEnd (left + (r - suc j))) 0 (costLimit k) refusal.State) (Cost s a k j)
+
+  abbrev CountFields : ℕ → ℕ → ℕ → Type 0
+  CountFields r s a =
+      P (number comma 1 5 refusal.State) (Count s a) × Between 0 (count b s a) (λ k. Between 0 r (CostField s a (count b s a - suc k) r k))
+
+  costs-every : (s a left k r m j : ℕ) (f : Format) → j + m ≡ r → Every P (costs s a left k m j f) b ↔ (Between j r (CostField s a left r k) × Every P f b)
+  unfolding costs
+  costs-every s a left k r zero j f e = loop-end (omega arith)
+  costs-every s a left k r (suc m) j f e =
+      let last : m ≡ r - suc j = omega arith in
+      loop-step (omega arith) (rw last Iff·rfl) (costs-every s a left k r m (suc j) f (omega arith))
+
+  actions-every : (z : Sizes) (s a c left k : ℕ) (f : Format) → k + left ≡ c →
+      Every P (actions z s a left k f) b ↔ (Between k c (λ i. Between 0 (z .resources) (CostField s a (c - suc i) (z .resources) i)) × Every P f b)
+  unfolding actions
+  actions-every z s a c zero k f e = loop-end (omega arith)
+  actions-every z s a c (suc left) k f e =
+      let last : left ≡ c - suc k = omega arith in
+      loop-step (omega arith)
+      (rw last (costs-every s a (c - suc k) k (z .resources) (z .resources) 0 _ (omega arith)))
+      (actions-every z s a c left (suc k) f (omega arith))
+
+  agents-every : (z : Sizes) (s n left a : ℕ) (counts : List ℕ) (f : List ℕ → Format) → a + left ≡ n →
+      Every P (agentLines z s left a counts f) b ↔ (Between a n (CountFields (z .resources) s) × Every P (f (told b s left a counts)) b)
+  unfolding agentLines actsLine index
+  agents-every z s n zero a counts f e = loop-end (omega arith)
+  agents-every z s n (suc left) a counts f e =
+      let c = count b s a in
+      let acts = actions-every z s a c c 0 (agentLines z s left (suc a) (set counts a c) f) (omega arith) in
+      loop-step (omega arith)
+      (λ x. ((x .0, acts .0 (x .1) .0), acts .0 (x .1) .1), λ y. (y .0 .0, acts .1 (y .0 .1, y .1)))
+      (agents-every z s n left (suc a) (set counts a c) f (omega arith))
+
+  joint-every : (joint left a : ℕ) (f : Format) → Every P (jointFields joint left a f) b ↔ Every P f b
+  unfolding jointFields index
+  joint-every joint zero a f = Iff·rfl
+  joint-every joint (suc left) a f = joint-every joint left (suc a) f
+
+  -- the next state, where the joint action can be done with the counts
+  abbrev NextField : Sizes → List ℕ → ℕ → ℕ → Type 0
+  NextField z counts s joint = T (possible counts joint) → P (number lineEnd 0 (z .states) refusal.Next) (Next s joint)
+
+  -- what stands there only where a test holds
+  test-every : (t : Bool) (f g : Format) {Q : Type 0} → Every P f b ↔ (Q × Every P g b) → Every P (cond t f g) b ↔ ((T t → Q) × Every P g b)
+  test-every true f g h = (λ x. (λ _. h .0 x .0, h .0 x .1), λ y. h .1 (y .0 tt, y .1))
+  test-every false f g h = (λ x. (λ q. absurd q, x), λ y. y .1)
+
+  go-every : (z : Sizes) (s joint : ℕ) (f : Format) →
+      Every P (goLine z s joint f) b ↔ (P (number lineEnd 0 (z .states) refusal.Next) (Next s joint) × Every P f b)
+  unfolding goLine index
+  go-every z s joint f = joint-every joint (z .agents) 0 (value (number lineEnd 0 (z .states) refusal.Next) (Next s joint) (λ q. f))
+
+  gos-every : (z : Sizes) (s : ℕ) (counts : List ℕ) (n left joint : ℕ) (f : Format) → joint + left ≡ n →
+      Every P (goLines z s counts left joint f) b ↔ (Between joint n (NextField z counts s) × Every P f b)
+  unfolding goLines
+  gos-every z s counts n zero joint f e = loop-end (omega arith)
+  gos-every z s counts n (suc left) joint f e =
+      let rest = goLines z s counts left (suc joint) f in
+      loop-step (omega arith) (test-every (possible counts joint) (goLine z s joint rest) rest (go-every z s joint rest)) (gos-every z s counts n left (suc joint) f (omega arith))
+
+  abbrev StateFields : Sizes → ℕ → Type 0
+  StateFields z s =
+      P (number lineEnd 0 (2 ^ z .propositions) refusal.State) (Mask s)
+      × Between 0 (z .agents) (CountFields (z .resources) s)
+      × Between 0 maxJoint (NextField z (told b s (z .agents) 0 noCounts) s)
+
+  state-every : (z : Sizes) (s : ℕ) (f : Format) → Every P (stateLines z s f) b ↔ (StateFields z s × Every P f b)
+  unfolding stateLines stateLine index
+  state-every z s f =
+      let acts = agents-every z s (z .agents) (z .agents) 0 noCounts (λ counts. goLines z s counts maxJoint 0 f) (omega arith) in
+      let gos = gos-every z s (told b s (z .agents) 0 noCounts) maxJoint maxJoint 0 f refl in (
+        λ x. let (h, g) = acts .0 (x .1) in let (n, r) = gos .0 g in ((x .0, h, n), r),
+        λ y. (y .0 .0, acts .1 (y .0 .1, gos .1 (y .0 .2, y .1))),
+      )
+
+  states-every : (z : Sizes) (n left s : ℕ) (f : Format) → s + left ≡ n → Every P (allStates z left s f) b ↔ (Between s n (StateFields z) × Every P f b)
+  unfolding allStates
+  states-every z n zero s f e = loop-end (omega arith)
+  states-every z n (suc left) s f e = loop-step (omega arith) (state-every z s _) (states-every z n left (suc s) f (omega arith))
+
+  bounds-every : (i r left j : ℕ) (f : Format) → j + left ≡ r → Every P (boundFields i left j f) b ↔ (Between j r (λ j. P bound (Field i (4 + j))) × Every P f b)
+  unfolding boundFields
+  bounds-every i r zero j f e = loop-end (omega arith)
+  bounds-every i r (suc left) j f e = loop-step (omega arith) Iff·rfl (bounds-every i r left (suc j) f (omega arith))
+
+  abbrev TeamFields : Sizes → ℕ → Type 0
+  TeamFields z i = P (number comma 1 (2 ^ z .agents) refusal.Row) (Field i 3) × Between 0 (z .resources) (λ j. P bound (Field i (4 + j)))
+
+  team-every : (z : Sizes) (i k : ℕ) (f : Format) → Every P (teamFields z i k f) b ↔ ((T (strategic k) → TeamFields z i) × Every P f b)
+  unfolding teamFields
+  team-every z i k f =
+      let bounds = bounds-every i (z .resources) (z .resources) 0 f (omega arith) in
+      test-every (strategic k) _ f (λ x. ((x .0, bounds .0 (x .1) .0), bounds .0 (x .1) .1), λ y. (y .0 .0, bounds .1 (y .0 .1, y .1)))
+
+  abbrev LeftField : Sizes → ℕ → ℕ → Type 0
+  LeftField z i k = P (number (cond (binary k) comma lineEnd) 0 (cond (eqb k propKind) (z .propositions) i) refusal.Row) (Field i 1)
+
+  abbrev RightField : ℕ → Type 0
+  RightField i = P (number lineEnd 0 i refusal.Row) (Field i 2)
+
+  operands-every : (z : Sizes) (i k : ℕ) (f : Format) →
+      Every P (operandFields z i k f) b ↔ (LeftField z i k × (T (binary k) → RightField i) × Every P f b)
+  unfolding operandFields
+  operands-every z i k f =
+      let right = test-every (binary k) (value (number lineEnd 0 i refusal.Row) (Field i 2) (λ r. f)) f {Q = RightField i} Iff·rfl in
+      (λ x. (x .0, right .0 (x .1) .0, right .0 (x .1) .1), λ y. (y .0, right .1 (y .1, y .2)))
+
+  abbrev RowFields : Sizes → ℕ → Type 0
+  RowFields z i =
+      P kindSpelling (Field i 0)
+      × (T (strategic (kind b i)) → TeamFields z i)
+      × LeftField z i (kind b i)
+      × (T (binary (kind b i)) → RightField i)
+
+  rows-every : (z : Sizes) (n left i : ℕ) (f : Format) → i + left ≡ n → Every P (rowLines z left i f) b ↔ (Between i n (RowFields z) × Every P f b)
+  unfolding rowLines rowLine
+  rows-every z n zero i f e = loop-end (omega arith)
+  rows-every z n (suc left) i f e =
+      let k = kind b i in
+      let rest = rowLines z left (suc i) f in
+      let team = team-every z i k (operandFields z i k rest) in
+      let operands = operands-every z i k rest in
+      loop-step (omega arith) (
+        λ x. let (t, o) = team .0 (x .1) in let (l, r, g) = operands .0 o in ((x .0, t, l, r), g),
+        λ y. (y .0 .0, team .1 (y .0 .1, operands .1 (y .0 .2, y .0 .3, y .1))),
+      )
+      (rows-every z n left (suc i) f (omega arith))
+
+  abbrev SizeField : ℕ → ℕ → ℕ → Type 0
+  SizeField sep f high = P (number sep 1 (suc high) refusal.Sizes) (Header f)
+
+  -- what holds of each field of a block's text
+  pub record Everywhere : Type 0 where
+    pub agents-field : SizeField comma 0 maxAgents
+    pub resources-field : SizeField comma 1 maxResources
+    pub states-field : SizeField comma 2 maxStates
+    pub propositions-field : SizeField comma 3 maxPropositions
+    pub rows-field : SizeField lineEnd 4 maxRows
+    pub state-fields : Between 0 (states b) (StateFields (sizesOf b))
+    pub row-fields : Between 0 (rows b) (RowFields (sizesOf b))
+
+  pub job-every : Every P job b ↔ Everywhere
+  unfolding job headerLine size
+  job-every =
+      let z = sizesOf b in
+      let body = states-every z (states b) (states b) 0 (rowLines z (rows b) 0 end) (omega arith) in
+      let lines = rows-every z (rows b) (rows b) 0 end (omega arith) in (
+        λ x. let (s, g) = body .0 (x .1 .1 .1 .1 .1) in record {
+          agents-field = x .0;
+          resources-field = x .1 .0;
+          states-field = x .1 .1 .0;
+          propositions-field = x .1 .1 .1 .0;
+          rows-field = x .1 .1 .1 .1 .0;
+          state-fields = s;
+          row-fields = lines .0 g .0;
+        },
+        λ y. (y .agents-field, (y .resources-field, (y .states-field, (y .propositions-field, (y .rows-field, body .1 (y .state-fields, lines .1 (y .row-fields, tt))))))),
+      )

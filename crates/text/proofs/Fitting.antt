@@ -1,0 +1,186 @@
+-- The fields of a block's text fit exactly where the block keeps to the conditions of numbers 2 to 5, and they are the places that it uses.
+--     fits-valid, valid-fits        every field fits, and every other byte is 0, exactly where the block is valid
+--     used-avoided, unused-avoided  a number that is none of the fields' places is that of no place in use, and the other way round
+-- Assumes nothing.
+use mathlib.Core.Bool.{Bool, true, false, cond}
+use mathlib.Core.Logic.{inl, inr, ⊎-elim}
+use mathlib.Core.Path.{_≡_, refl}
+use Prim.Native.Nat.{ℕ, zero, suc, _+_, _-_, _^_, _≤_, _<_, zero-le}
+use native.Mathlib.Omega.{arith}
+use lib.Dec.{T, eqb, eqb→eq, leb→le, le→leb, lit<}
+use lib.ListN.{length}
+use lib.Pow.{pow-mono}
+use borrow.Author.Tests.{eq-eqb, ne-eqb}
+use Rattle.block.specs.Layout.{Block, blockBytes, placeOf, InUse, Used, UsesField, byteAt, at, agents, resources, states, propositions, rows, count, cost, left, bound, kind, nextKind, propKind, orKind, untilKind, Binary, Strategic}
+use Rattle.block.specs.Valid.{Counted, RowFits, Valid}
+use Rattle.block.specs.declared.layout.Place.{Place}
+use Rattle.block.specs.declared.layout.Place.the-variants.{Header, Mask, Count, Cost, Next, Field}
+use Rattle.text.specs.Job.{costLimit, binary}
+use Rattle.text.proofs.Decimals.{lt-or-ge}
+use Rattle.text.proofs.Spellings.{Fits, either-case, number-range, number-fits, bound-range, bound-fits, kind-range, kind-fits}
+use Rattle.text.proofs.Everywhere.{Everywhere}
+use Rattle.text.proofs.Told.{possible-acts}
+
+binary-true : (k : ℕ) → Binary k → T (binary k)
+binary-true k (inl e) = rw e tt
+binary-true k (inr e) = rw e tt
+
+binary-case : (k : ℕ) → T (binary k) → Binary k
+binary-case k h = ⊎-elim (λ x. inl (eqb→eq k orKind x)) (λ x. inr (eqb→eq k untilKind x)) (either-case (eqb k orKind) (eqb k untilKind) h)
+
+-- the limit of a field that depends on whether a number is 0
+on-zero : (k p q : ℕ) → k ≡ 0 → cond (eqb k 0) p q ≡ p
+on-zero k p q e = simp (eq-eqb k 0 e)
+
+on-other : (k p q : ℕ) → 0 < k → cond (eqb k 0) p q ≡ q
+on-other k p q h = simp (ne-eqb k 0 (λ e. omega arith))
+
+either-le : (t : Bool) (p q n : ℕ) → p ≤ n → q ≤ n → cond t p q ≤ n
+either-le true p q n h g = h
+either-le false p q n h g = g
+
+cost-limit : (k : ℕ) → costLimit k ≤ 16
+cost-limit k = either-le (eqb k 0) 1 16 16 (omega arith) (omega arith)
+
+from-four : (f r : ℕ) → 4 ≤ f → f < 4 + r → (f - 4 < r) × (4 + (f - 4) ≡ f)
+from-four f r h g = omega arith
+
+module _ (b : Block) where
+  abbrev FitsEverywhere : Type 0
+  FitsEverywhere = Everywhere (λ x p. Fits x (at b p)) b
+
+  row-valid : FitsEverywhere → (i : ℕ) → i < rows b → RowFits b i
+  row-valid e i hi =
+      let (k, t, l, r) = e .row-fields i zero-le hi in
+      let limit = cond (eqb (kind b i) propKind) (propositions b) i in
+      let below : left b i < limit = number-range 0 limit l .1 in
+      record {
+        known = omega (arith, kind-range k);
+        prop-fits = λ q. omega (arith, below, on-zero (kind b i) (propositions b) i q);
+        left-lower = λ q. omega (arith, below, on-other (kind b i) (propositions b) i q);
+        right-lower = λ q. number-range 0 i (r (binary-true (kind b i) q)) .1;
+        team-some = λ q. number-range 1 (2 ^ agents b) (t (le→leb nextKind (kind b i) (q .0)) .0) .0;
+        team-fits = λ q. number-range 1 (2 ^ agents b) (t (le→leb nextKind (kind b i) (q .0)) .0) .1;
+        bound-fits = λ q j hj g. ⊎-elim (λ x. absurd (omega arith)) (λ x. x) (bound-range (t (le→leb nextKind (kind b i) (q .0)) .1 j zero-le hj));
+      }
+
+  pub fits-valid : FitsEverywhere → length b ≡ blockBytes → ((p : ℕ) → p < blockBytes → (Used b p → ⊥) → byteAt b p ≡ 0) → Valid b
+  fits-valid e l u =
+      let c : Counted b = λ s a hs ha. omega (arith, number-range 1 5 (e .state-fields s zero-le hs .1 a zero-le ha .0)) in
+      record {
+        sized = record {
+          bytes = l;
+          agents-fit = omega (arith, number-range 1 4 (e .agents-field));
+          resources-fit = omega (arith, number-range 1 3 (e .resources-field));
+          states-fit = omega (arith, number-range 1 25 (e .states-field));
+          propositions-fit = omega (arith, number-range 1 9 (e .propositions-field));
+          rows-fit = omega (arith, number-range 1 33 (e .rows-field));
+        };
+        counted = c;
+        mask-fits = λ s hs. number-range 0 (2 ^ propositions b) (e .state-fields s zero-le hs .0) .1;
+        cost-fits = λ s a k j hs ha hk hj. omega (arith, cost-limit k, number-range 0 (costLimit k) (e .state-fields s zero-le hs .1 a zero-le ha .1 k zero-le hk j zero-le hj) .1);
+        idle-free = λ s a j hs ha hj. omega (arith, number-range 0 1 (e .state-fields s zero-le hs .1 a zero-le ha .1 0 zero-le (c s a hs ha .0) j zero-le hj) .1);
+        next-fits = λ s joint hs av. number-range 0 (states b) (e .state-fields s zero-le hs .2 joint zero-le (av .0) (possible-acts b s joint .1 (av .1))) .1;
+        row-fits = row-valid e;
+        unused-zero = u;
+      }
+
+  cost-valid : Valid b → (s a k j : ℕ) → s < states b → a < agents b → k < count b s a → j < resources b → cost b s a k j < costLimit k
+  cost-valid v s a zero j hs ha hk hj = omega (arith, v .idle-free s a j hs ha hj)
+  cost-valid v s a (suc k) j hs ha hk hj = omega (arith, on-other (suc k) 1 16 (omega arith), v .cost-fits s a (suc k) j hs ha hk hj)
+
+  left-valid : (i : ℕ) → RowFits b i → left b i < cond (eqb (kind b i) propKind) (propositions b) i
+  left-valid i r = ⊎-elim
+      (λ q. let e : kind b i ≡ 0 = omega arith in rw (on-zero (kind b i) (propositions b) i e) (r .prop-fits e))
+      (λ q. rw (on-other (kind b i) (propositions b) i q) (r .left-lower q))
+      (lt-or-ge (kind b i) 1)
+
+  -- a mask of a few bits is a byte
+  mask-byte : (m n : ℕ) → n ≤ 8 → m < 2 ^ n → m < 256
+  mask-byte m n h l = omega (arith, pow-mono h)
+
+  pub valid-fits : Valid b → FitsEverywhere
+  valid-fits v =
+      let z = v .sized in
+      record {
+        agents-field = number-fits 1 4 (z .agents-fit .0) (omega arith) (omega arith);
+        resources-field = number-fits 1 3 (z .resources-fit .0) (omega arith) (omega arith);
+        states-field = number-fits 1 25 (z .states-fit .0) (omega arith) (omega arith);
+        propositions-field = number-fits 1 9 (z .propositions-fit .0) (omega arith) (omega arith);
+        rows-field = number-fits 1 33 (z .rows-fit .0) (omega arith) (omega arith);
+        state-fields = λ s _ hs. (
+          number-fits 0 (2 ^ propositions b) zero-le (v .mask-fits s hs) (mask-byte _ (propositions b) (z .propositions-fit .1) (v .mask-fits s hs)),
+          λ a _ ha. let c = v .counted s a hs ha in (
+            number-fits 1 5 (c .0) (omega arith) (omega arith),
+            λ k _ hk j _ hj. let l = cost-valid v s a k j hs ha hk hj in number-fits 0 (costLimit k) zero-le l (omega (arith, cost-limit k)),
+          ),
+          λ joint _ hj t. let l = v .next-fits s joint hs (hj, possible-acts b s joint .0 t) in number-fits 0 (states b) zero-le l (omega arith),
+        );
+        row-fields = λ i _ hi.
+            let r = v .row-fits i hi in (
+              kind-fits (omega (arith, r .known)),
+              λ t. let q : Strategic (kind b i) = (leb→le nextKind (kind b i) t, r .known) in (
+                number-fits 1 (2 ^ agents b) (r .team-some q) (r .team-fits q) (mask-byte _ (agents b) (omega arith) (r .team-fits q)),
+                λ j _ hj. bound-fits (⊎-elim inl (λ g. inr (r .bound-fits q j hj g)) (lt-or-ge (bound b i j) 16)),
+              ),
+              number-fits 0 _ zero-le (left-valid i r) (omega (arith, left-valid i r, either-le (eqb (kind b i) propKind) (propositions b) i 255 (omega arith) (omega arith))),
+              λ t. let l = r .right-lower (binary-case (kind b i) t) in number-fits 0 i zero-le l (omega arith),
+            );
+      }
+
+  -- no field's place has the number n
+  abbrev AvoidsEverywhere : ℕ → Type 0
+  AvoidsEverywhere n = Everywhere (λ x p. placeOf p ≡ n → ⊥) b
+
+  pub used-avoided : (n : ℕ) → AvoidsEverywhere n → Used b n → ⊥
+  used-avoided n e u = place (u .0) (u .2) (u .1)
+    where
+      field : (i f : ℕ) → i < rows b → UsesField b (kind b i) f → placeOf (Field i f) ≡ n → ⊥
+      field i f hi (inl h) q = ⊎-elim
+          (λ z. e .row-fields i zero-le hi .0 (omega arith))
+          (λ z. e .row-fields i zero-le hi .2 (omega arith))
+          (lt-or-ge f 1)
+      field i f hi (inr (inl h)) q = e .row-fields i zero-le hi .3 (binary-true (kind b i) (h .1)) (omega arith)
+      field i f hi (inr (inr h)) q =
+          let (t, bs) = e .row-fields i zero-le hi .1 (le→leb nextKind (kind b i) (h .0 .0)) in
+          ⊎-elim
+          (λ z. t (omega arith))
+          (λ z. let (l, s) = from-four f (resources b) z (h .1 .1) in bs (f - 4) zero-le l (rw s q))
+          (lt-or-ge f 4)
+
+      place : (x : Place) → InUse b x → placeOf x ≡ n → ⊥
+      place (Header zero) h q = e .agents-field q
+      place (Header (suc zero)) h q = e .resources-field q
+      place (Header (suc (suc zero))) h q = e .states-field q
+      place (Header (suc (suc (suc zero)))) h q = e .propositions-field q
+      place (Header (suc (suc (suc (suc zero))))) h q = e .rows-field q
+      place (Header (suc (suc (suc (suc (suc f)))))) h q = omega arith
+      place (Mask s) h q = e .state-fields s zero-le h .0 q
+      place (Count s a) h q = e .state-fields s zero-le (h .0) .1 a zero-le (h .1) .0 q
+      place (Cost s a k j) h q = e .state-fields s zero-le (h .0) .1 a zero-le (h .1) .1 k zero-le (h .2) j zero-le (h .3) q
+      place (Next s joint) h q = e .state-fields s zero-le (h .0) .2 joint zero-le (h .1 .0) (possible-acts b s joint .1 (h .1 .1)) q
+      place (Field i f) h q = field i f (h .0) (h .1) q
+
+  pub unused-avoided : (n : ℕ) → FitsEverywhere → (Used b n → ⊥) → AvoidsEverywhere n
+  unused-avoided n e u = record {
+    agents-field = λ q. u (Header 0, q, lit< tt);
+    resources-field = λ q. u (Header 1, q, lit< tt);
+    states-field = λ q. u (Header 2, q, lit< tt);
+    propositions-field = λ q. u (Header 3, q, lit< tt);
+    rows-field = λ q. u (Header 4, q, lit< tt);
+    state-fields = λ s _ hs. (
+      λ q. u (Mask s, q, hs),
+      λ a _ ha. (λ q. u (Count s a, q, (hs, ha)), λ k _ hk j _ hj q. u (Cost s a k j, q, (hs, ha, hk, hj))),
+      λ joint _ hj t q. u (Next s joint, q, (hs, (hj, possible-acts b s joint .0 t))),
+    );
+    row-fields = λ i _ hi.
+        let k : kind b i ≤ untilKind = omega (arith, kind-range (e .row-fields i zero-le hi .0)) in (
+          λ q. u (Field i 0, q, (hi, inl (omega arith))),
+          λ t. let str : Strategic (kind b i) = (leb→le nextKind (kind b i) t, k) in (
+            λ q. u (Field i 3, q, (hi, inr (inr (str, (omega arith, omega arith))))),
+            λ j _ hj q. u (Field i (4 + j), q, (hi, inr (inr (str, (omega arith, omega arith))))),
+          ),
+          λ q. u (Field i 1, q, (hi, inl (omega arith))),
+          λ t q. u (Field i 2, q, (hi, inr (inl (refl, binary-case (kind b i) t)))),
+        );
+  }

@@ -1,0 +1,79 @@
+-- A valid block passes the check: the converse of block's Passing.
+-- Assumes nothing.
+use mathlib.Core.List.{List, [], _∷_}
+use mathlib.Core.Logic.{inl, inr}
+use mathlib.Core.Path.{refl}
+use Prim.Native.Nat.{ℕ, _<_, _^_}
+use native.Mathlib.Nat.{div-eq-of-lt}
+use native.Mathlib.Omega.{arith}
+use Rattle.block.specs.Decide.{Outside, BitFrom}
+use Rattle.block.specs.Refusal.{First, none, later}
+use Rattle.block.specs.Layout.{Block, agents, resources, states, cost, count, kind, Strategic}
+use Rattle.block.specs.Check.{BadSizes, agents-range, resources-range, states-range, propositions-range, rows-range, BadCost, BadActions, BadState, BadOperands, BadTeam, BadRow, kind-unknown, operands, coalition, prop-range, left-range, right-range, team-empty, team-absent, bound-range, Broken, blockOrder, Verdict}
+use Rattle.block.specs.Valid.{Range, RowFits, Valid}
+use Rattle.block.specs.declared.refusal.Refusal.{Refusal}
+use Rattle.block.specs.declared.refusal.Refusal.the-variants.{Length, Sizes, State, Next, Row, Unused, Form, RowChoice, Position, WrongSide, Move}
+use Rattle.block.proofs.Masks.{no-bit-above}
+
+not-outside : (low high n : ℕ) → Range low high n → Outside low high n → ⊥
+not-outside low high n r (inl h) = omega arith
+not-outside low high n r (inr h) = omega arith
+
+no-bit : (p m : ℕ) → m < 2 ^ p → BitFrom p m → ⊥
+no-bit p m h = no-bit-above p m (div-eq-of-lt h)
+
+module _ (b : Block) (v : Valid b) where
+  sizes-pass : BadSizes b → ⊥
+  sizes-pass (agents-range h) = not-outside _ _ _ (v .sized .agents-fit) h
+  sizes-pass (resources-range h) = not-outside _ _ _ (v .sized .resources-fit) h
+  sizes-pass (states-range h) = not-outside _ _ _ (v .sized .states-fit) h
+  sizes-pass (propositions-range h) = not-outside _ _ _ (v .sized .propositions-fit) h
+  sizes-pass (rows-range h) = not-outside _ _ _ (v .sized .rows-fit) h
+
+  cost-passes : (s a k j : ℕ) → s < states b → a < agents b → k < count b s a → j < resources b → BadCost b s a k j → ⊥
+  cost-passes s a k j hs ha hk hj (inl h) = omega (arith, v .cost-fits s a k j hs ha hk hj)
+  cost-passes s a k j hs ha hk hj (inr h) = let f : 0 < cost b s a 0 j = rw (h .0) at (h .1) in omega (arith, v .idle-free s a j hs ha hj)
+
+  actions-pass : (s a : ℕ) → s < states b → a < agents b → BadActions b s a → ⊥
+  actions-pass s a hs ha (inl h) = not-outside _ _ _ (v .counted s a hs ha) h
+  actions-pass s a hs ha (inr h) = cost-passes s a (h .0) (h .2 .0) hs ha (h .1) (h .2 .1) (h .2 .2)
+
+  state-passes : (s : ℕ) → s < states b → BadState b s → ⊥
+  state-passes s hs (inl h) = no-bit _ _ (v .mask-fits s hs) h
+  state-passes s hs (inr h) = actions-pass s (h .0) hs (h .1) (h .2)
+
+  operands-pass : (i : ℕ) → RowFits b i → BadOperands b i → ⊥
+  operands-pass i r (prop-range e h) = omega (arith, r .prop-fits e)
+  operands-pass i r (left-range k h) = omega (arith, r .left-lower k)
+  operands-pass i r (right-range k h) = omega (arith, r .right-lower k)
+
+  team-passes : (i : ℕ) → RowFits b i → Strategic (kind b i) → BadTeam b i → ⊥
+  team-passes i r s (team-empty h) = omega (arith, r .team-some s)
+  team-passes i r s (team-absent h) = no-bit _ _ (r .team-fits s) h
+  team-passes i r s (bound-range h) = h .2 .1 (r .bound-fits s (h .0) (h .1) (h .2 .0))
+
+  row-passes : (i : ℕ) → RowFits b i → BadRow b i → ⊥
+  row-passes i r (kind-unknown h) = omega (arith, r .known)
+  row-passes i r (operands h) = operands-pass i r h
+  row-passes i r (coalition s h) = team-passes i r s h
+
+  -- none of the conditions holds
+  passes : (r : Refusal) → Broken b r → ⊥
+  passes Length h = h (v .sized .bytes)
+  passes Sizes h = sizes-pass h
+  passes State h = state-passes (h .0) (h .1) (h .2)
+  passes Next h = omega (arith, v .next-fits (h .0) (h .2 .0) (h .1) (h .2 .2 .0), h .2 .2 .1)
+  passes Row h = row-passes (h .0) (v .row-fits (h .0) (h .1)) (h .2)
+  passes Unused h = h .2 .1 (v .unused-zero (h .0) (h .1) (h .2 .0))
+  passes Form h = h
+  passes RowChoice h = h
+  passes Position h = h
+  passes WrongSide h = h
+  passes Move h = h
+
+  pub valid-passes : Verdict b 0
+  valid-passes = every blockOrder
+    where
+      every : (rs : List Refusal) → First (Broken b) rs 0
+      every [] = none refl
+      every (r ∷ rs) = later (passes r) (every rs)

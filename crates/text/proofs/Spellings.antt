@@ -1,0 +1,170 @@
+-- How the bytes of a block are spelled (specs' Spelling): which bytes fit a field, and that no text begins with two spellings of one field.
+--     Fits x v          v is the byte of a spelling that may stand there
+--     Clear x           a text begins with one spelling only, and the one that the writer uses for a byte that fits means that byte
+-- Assumes nothing.
+use mathlib.Core.Bool.{Bool, true, false, cond}
+use mathlib.Core.List.{List, [], _∷_, _++_}
+use mathlib.Core.Logic.{_⊎_, inl, inr, ⊎-elim}
+use mathlib.Core.Path.{_≡_, refl, sym, _∙_}
+use Prim.Native.Nat.{ℕ, zero, suc, _≤_, _<_}
+use native.Mathlib.Omega.{arith}
+use lib.Dec.{T, ltb, leb, eqb, leb→le, le→leb, ltb→lt, lt→ltb, lit<}
+use lib.ListN.{getD}
+use borrow.Author.Tests.{lt-ltb, le-ltb, ne-eqb}
+use Rattle.block.specs.declared.refusal.Refusal.{Refusal}
+use Rattle.block.specs.declared.refusal.Refusal.the-variants.{Form}
+use Rattle.text.specs.Numeral.{ascii, comma, decimal, Starts}
+use Rattle.text.specs.Format.{Spelling}
+use Rattle.text.specs.Job.{both, either, number, boundField, bound, kindWord, kindSpelling}
+use Rattle.text.proofs.Decimals.{lt-or-ge, shape, Shape, one, two, three, only-one}
+
+abbrev pub Fits : Spelling → ℕ → Type 0
+Fits x v = (o : ℕ) × (o < x .options) × T (x .allowed o) × (x .byte o ≡ v)
+
+pub record Clear (x : Spelling) : Type 0 where
+  pub only : (t : List ℕ) (o o′ : ℕ) → o < x .options → o′ < x .options → Starts (x .spell o) t → Starts (x .spell o′) t → o ≡ o′
+  pub meant : (v : ℕ) → Fits x v → (x .chosen v < x .options) × T (x .allowed (x .chosen v)) × (x .byte (x .chosen v) ≡ v)
+
+-- a number
+both-true : (a b : Bool) → T a → T b → T (both a b)
+both-true true b p q = q
+both-true false b p q = p
+
+both-left : (a b : Bool) → T (both a b) → T a
+both-left true b p = tt
+both-left false b p = p
+
+both-right : (a b : Bool) → T (both a b) → T b
+both-right true b p = p
+both-right false b p = absurd p
+
+-- what fits does not depend on the byte after the number, nor on the refusal
+module _ (low limit : ℕ) where
+  abbrev pub FitsNumber : ℕ → Type 0
+  FitsNumber v = Fits (number comma low limit Form) v
+
+  pub number-range : {v : ℕ} → FitsNumber v → (low ≤ v) × (v < limit) × (v < 256)
+  number-range f =
+      let l = leb→le low (f .0) (both-left (leb low (f .0)) (ltb (f .0) limit) (f .2)) in
+      let g = ltb→lt (f .0) limit (both-right (leb low (f .0)) (ltb (f .0) limit) (f .2)) in
+      omega arith
+
+  pub number-fits : {v : ℕ} → low ≤ v → v < limit → v < 256 → FitsNumber v
+  number-fits {v} l g h = (v, h, both-true (leb low v) (ltb v limit) (le→leb low v l) (lt→ltb v limit g), refl)
+
+  pub number-clear : (sep : ℕ) (r : Refusal) → sep < 48 → Clear (number sep low limit r)
+  unfolding number-fits
+  number-clear sep r h = record {
+    only = λ t o o′ l l′ s s′. only-one sep h o o′ l l′ t s s′;
+    meant = λ v f. let g = number-range f in let n = number-fits (g .0) (g .1) (g .2) in (n .1, n .2, n .3);
+  }
+
+-- a bound: the spelling that a text begins with shows in its first byte
+pub either-true : (a b : Bool) → T a ⊎ T b → T (either a b)
+either-true true b p = tt
+either-true false b (inl p) = absurd p
+either-true false b (inr q) = q
+
+pub either-case : (a b : Bool) → T (either a b) → T a ⊎ T b
+either-case true b p = inl p
+either-case false b p = inr p
+
+bound-small : (o : ℕ) → o < 256 → boundField o ≡ decimal o
+unfolding boundField
+bound-small o h = simp (lt-ltb o 256 h)
+
+bound-inf : boundField 256 ≡ ascii "inf"
+unfolding boundField
+bound-inf = refl
+
+bound-none : boundField 257 ≡ []
+unfolding boundField
+bound-none = refl
+
+data BoundShape (o : ℕ) (t : List ℕ) : Type 0 where
+  small : o < 256 → Starts (decimal o ++ comma ∷ []) t → 48 ≤ getD t 0 0 → getD t 0 0 < 58 → BoundShape o t
+  inf : o ≡ 256 → getD t 0 0 ≡ 105 → BoundShape o t
+  none : o ≡ 257 → getD t 0 0 ≡ 44 → BoundShape o t
+
+bound-shape : (o : ℕ) (t : List ℕ) → o < 258 → Starts (boundField o ++ comma ∷ []) t → BoundShape o t
+bound-shape o t h s = ⊎-elim below (λ l. ⊎-elim (λ k. at-inf (omega arith)) (λ k. at-none (omega arith)) (lt-or-ge o 257)) (lt-or-ge o 256)
+  where
+    first : o < 256 → Shape comma o t → (48 ≤ getD t 0 0) × (getD t 0 0 < 58)
+    first l (one k x y) = omega arith
+    first l (two k k′ x y z) = omega arith
+    first l (three k x y z w) = omega arith
+
+    below : o < 256 → BoundShape o t
+    below l = let d : Starts (decimal o ++ comma ∷ []) t = rw (bound-small o l) at s in let f = first l (shape comma o t d) in small l d (f .0) (f .1)
+
+    at-inf : o ≡ 256 → BoundShape o t
+    at-inf e = let d : t ≡ (ascii "inf" ++ comma ∷ []) ++ s .0 = rw (e, bound-inf) at (s .1) in inf e (rw d)
+
+    at-none : o ≡ 257 → BoundShape o t
+    at-none e = let d : t ≡ comma ∷ s .0 = rw (e, bound-none) at (s .1) in none e (rw d)
+
+bound-only : (t : List ℕ) (o o′ : ℕ) → o < 258 → o′ < 258 → Starts (boundField o ++ comma ∷ []) t → Starts (boundField o′ ++ comma ∷ []) t → o ≡ o′
+bound-only t o o′ l l′ s s′ = same (bound-shape o t l s) (bound-shape o′ t l′ s′)
+  where
+    same : BoundShape o t → BoundShape o′ t → o ≡ o′
+    same (small h d x y) (small h′ d′ x′ y′) = only-one comma (lit< tt) o o′ h h′ t d d′
+    same (small h d x y) (inf e c) = absurd (omega arith)
+    same (small h d x y) (none e c) = absurd (omega arith)
+    same (inf e c) (small h′ d′ x′ y′) = absurd (omega arith)
+    same (inf e c) (inf e′ c′) = omega arith
+    same (inf e c) (none e′ c′) = absurd (omega arith)
+    same (none e c) (small h′ d′ x′ y′) = absurd (omega arith)
+    same (none e c) (inf e′ c′) = absurd (omega arith)
+    same (none e c) (none e′ c′) = omega arith
+
+pub bound-range : {v : ℕ} → Fits bound v → (v < 16) ⊎ (v ≡ 255)
+bound-range {v} f = ⊎-elim
+    (λ h. inl (let l = ltb→lt (f .0) 16 h in let e : cond (ltb (f .0) 256) (f .0) 255 ≡ f .0 = simp (lt-ltb (f .0) 256 (omega arith)) in omega (arith, sym (f .3) ∙ e)))
+    (λ h. inr (let l = leb→le 256 (f .0) h in let e : cond (ltb (f .0) 256) (f .0) 255 ≡ 255 = simp (le-ltb (f .0) 256 l) in sym (f .3) ∙ e))
+    (either-case (ltb (f .0) 16) (leb 256 (f .0)) (f .2))
+
+pub bound-fits : {v : ℕ} → (v < 16) ⊎ (v ≡ 255) → Fits bound v
+bound-fits {v} (inl h) = (v, omega arith, either-true (ltb v 16) (leb 256 v) (inl (lt→ltb v 16 h)), simp (lt-ltb v 256 (omega arith)))
+bound-fits {v} (inr e) = (256, lit< tt, tt, sym e)
+
+pub bound-clear : Clear bound
+unfolding bound-fits
+bound-clear = record {
+  only = bound-only;
+  meant = λ v f. meant v (bound-range f);
+}
+  where
+    meant : (v : ℕ) → (v < 16) ⊎ (v ≡ 255) → (bound .chosen v < 258) × T (bound .allowed (bound .chosen v)) × (bound .byte (bound .chosen v) ≡ v)
+    meant v (inl h) = let n = bound-fits (inl h) in rw (ne-eqb v 255 (omega arith)) (n .1, n .2, n .3)
+    meant v (inr e) = rw e (lit< tt, tt, refl)
+
+-- a kind: the word that a text begins with shows in its first two bytes
+wordOf : List ℕ → ℕ
+wordOf t =
+    cond (eqb (getD t 0 0) 112) 0
+    (cond (eqb (getD t 0 0) 111) 2
+    (cond (eqb (getD t 0 0) 97) 4
+    (cond (eqb (getD t 0 0) 117) 5
+    (cond (eqb (getD t 1 0) 111) 1 3))))
+
+word-of : (t : List ℕ) (k : ℕ) → k < 6 → Starts (kindWord k) t → wordOf t ≡ k
+unfolding kindWord wordOf
+word-of t zero h s = rw (s .1)
+word-of t (suc zero) h s = rw (s .1)
+word-of t (suc (suc zero)) h s = rw (s .1)
+word-of t (suc (suc (suc zero))) h s = rw (s .1)
+word-of t (suc (suc (suc (suc zero)))) h s = rw (s .1)
+word-of t (suc (suc (suc (suc (suc zero))))) h s = rw (s .1)
+word-of t (suc (suc (suc (suc (suc (suc k)))))) h s = absurd (omega arith)
+
+pub kind-range : {v : ℕ} → Fits kindSpelling v → v < 6
+kind-range f = omega arith
+
+pub kind-fits : {v : ℕ} → v < 6 → Fits kindSpelling v
+kind-fits {v} h = (v, h, tt, refl)
+
+pub kind-clear : Clear kindSpelling
+kind-clear = record {
+  only = λ t o o′ l l′ s s′. sym (word-of t o l s) ∙ word-of t o′ l′ s′;
+  meant = λ v f. (kind-range f, tt, refl);
+}

@@ -1,0 +1,20 @@
+-- `digit` is an agent's action in a joint action. Assumes nothing.
+use mathlib.Core.Path.{_≡_, refl, sym}
+use native.Mathlib.Omega.{arith}
+use Rattle.block.proofs.Digits.{digit-zero}
+use Rattle.text.proofs.joint.digit.Statement.{statement}
+use Rattle.text.proofs.joint.digit.Tie as tie
+
+returns : tie.Need-returns
+returns c = rw (c .if1 .taken) (sym (digit-zero _), omega arith)
+
+returns-2 : tie.Need-returns-2
+returns-2 c = rw (c .if2 .taken) (refl, omega arith)
+
+returns-3 : tie.Need-returns-3
+returns-3 c =
+    let last : c .before .before .args .a ≡ 2 = omega arith in
+    rw last (refl, omega arith)
+
+pub digit-spec : {M : Type 1} → statement M
+digit-spec = tie.close (tie.spec returns returns-2 returns-3)

@@ -1,0 +1,33 @@
+// Joint actions and the counts of the agents' actions.
+ghost use mathlib.Core.Path.{_≡_};
+ghost use Prim.Native.Nat.{_<_};
+ghost use Rattle.block.specs.Layout as L;
+ghost use Rattle.block.specs.Layout.{maxAgents};
+ghost use Rattle.text.specs.Job as J;
+
+// Agent a's action in a joint action.
+pub fn digit(joint: usize, a: usize) -> usize
+    requires { ⌜ a < maxAgents ⌝ }
+    ensures { λ r. ⌜ (r ≡ L.digit joint a) × (r < 4) ⌝ }
+{
+    if a == 0 {
+        return joint % 4;
+    }
+    if a == 1 {
+        return joint / 4 % 4;
+    }
+    joint / 16 % 4
+}
+
+// Whether a joint action can be done with these counts.
+pub fn possible(counts: [usize; 3], joint: usize) -> bool
+    ensures { λ r. ⌜ r ≡ J.possible counts joint ⌝ }
+{
+    if counts[0] <= joint % 4 {
+        return false;
+    }
+    if counts[1] <= joint / 4 % 4 {
+        return false;
+    }
+    joint / 16 % 4 < counts[2]
+}
