@@ -1,7 +1,8 @@
-// Positions of a strategic row: how many stock places each resource has, and how many positions there are.
+// Positions of a strategic row: how many stock places each resource has, how many positions there are, and their numbers.
 use block::layout;
 ghost use mathlib.Core.Path.{_≡_};
 ghost use Prim.Native.Nat.{_≤_, _<_};
+ghost use lib.ListN.{length};
 ghost use Rattle.block.specs.Layout as L;
 ghost use Rattle.block.specs.Valid.{Valid};
 ghost use Rattle.game.specs.Position as P;
@@ -34,4 +35,27 @@ pub fn count(block: &[u8], i: usize) -> usize
         j += 1;
     }
     c
+}
+
+fn wide(x: u8) -> usize
+    ensures { λ r. ⌜ r ≡ x ⌝ }
+{
+    x as usize
+}
+
+// The number of the position with state s and the stocks of the list, resource 0 first.
+pub fn number(block: &[u8], i: usize, s: usize, stocks: &[u8]) -> usize
+    requires { ⌜ Valid (now block) ⌝ }
+    requires { ⌜ (i < L.rows (now block)) × L.Strategic (L.kind (now block) i) × (L.resources (now block) ≤ length (now stocks)) ⌝ }
+    requires { ⌜ P.IsPosition (arenaOf (now block) i) (P.position s (now stocks)) ⌝ }
+    ensures { λ r. ⌜ r ≡ P.number (arenaOf (now (block .entry)) i) (P.position s (now (stocks .entry))) ⌝ }
+{
+    let n = layout::resources(block);
+    let mut x = s;
+    let mut j = 0;
+    while j < n {
+        x = x * places(block, i, j) + wide(stocks[j]);
+        j += 1;
+    }
+    x
 }

@@ -14,15 +14,14 @@ places-positive : (b : Bound) → 0 < places b
 places-positive (limit n) = omega arith
 places-positive unlimited = omega arith
 
--- a position has a number below the number of positions
+-- a position has a number below the number of positions, also over the first n resources
+pub number-below-upto : (G : Arena) (p : Position) → IsPosition G p → (n : ℕ) → n ≤ G .structure .resources → numberUpTo G n p < positionsUpTo G n
+number-below-upto G p fits zero l = fits .0
+number-below-upto G p fits (suc n) l =
+    omega (arith, mul-le-mul-right (places (G .bounds n)) (number-below-upto G p fits n (omega arith)), fits .1 n (omega arith))
+
 pub number-below : (G : Arena) (p : Position) → IsPosition G p → number G p < positions G
-number-below G p fits = go (G .structure .resources) (omega arith)
-  where
-    go : (n : ℕ) → n ≤ G .structure .resources → numberUpTo G n p < positionsUpTo G n
-    go zero l = fits .0
-    go (suc n) l =
-        let before : numberUpTo G n p < positionsUpTo G n = go n (omega arith) in
-        omega (arith, mul-le-mul-right (places (G .bounds n)) before, fits .1 n (omega arith))
+number-below G p fits = number-below-upto G p fits (G .structure .resources) (omega arith)
 
 module _ (G : Arena) where
   abbrev pub SameUpTo : ℕ → Position → Position → Type 0
