@@ -7,8 +7,8 @@ use Rattle.block.specs.Decide.{Bit}
 use Rattle.block.specs.Layout as L
 use Rattle.block.specs.Layout.{Block}
 use Rattle.game.specs.Rbatl as R
-use Rattle.game.specs.Rbatl.{Bound, limit, unlimited, Bounds, Coalition, Formula, Structure, Sat}
-use Rattle.game.specs.Position.{Arena, joint}
+use Rattle.game.specs.Rbatl.{Bound, limit, unlimited, Fits, Bounds, Coalition, Formula, Structure, moveCost, Sat}
+use Rattle.game.specs.Position.{Arena, joint, stockBound}
 use Rattle.game.specs.Play as P
 use Rattle.game.specs.Play.{Objective}
 
@@ -81,3 +81,7 @@ objectiveOf b i =
     let left = RowTrue b (L.left b i) in
     let right = RowTrue b (L.right b i) in
     cond (eqb (L.kind b i) L.nextKind) (P.next left) (cond (eqb (L.kind b i) L.alwaysKind) (P.always left) (P.until left right))
+
+-- a stock of resource j pays for the move m of row i's coalition in state s
+abbrev pub Pays : Block → ℕ → ℕ → ℕ → ℕ → ℕ → Type 0
+Pays b i s m j stock = Fits (moveCost (structureOf b) (coalitionOf b i) s (L.digit m) j) (stockBound (boundsOf b i j) stock)

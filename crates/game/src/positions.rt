@@ -1,12 +1,14 @@
 // Positions of a strategic row: how many stock places each resource has, how many positions there are, and their numbers.
+use crate::moves;
 use block::layout;
 ghost use mathlib.Core.Path.{_≡_};
 ghost use Prim.Native.Nat.{_≤_, _<_};
 ghost use lib.ListN.{length};
+ghost use Rattle.block.specs.Decide.{Decides};
 ghost use Rattle.block.specs.Layout as L;
 ghost use Rattle.block.specs.Valid.{Valid};
 ghost use Rattle.game.specs.Position as P;
-ghost use Rattle.game.specs.Model.{boundsOf, arenaOf};
+ghost use Rattle.game.specs.Model.{structureOf, coalitionOf, boundsOf, arenaOf, Pays};
 
 // The stock places of resource j in row i.
 pub fn places(block: &[u8], i: usize, j: usize) -> usize
@@ -58,4 +60,17 @@ pub fn number(block: &[u8], i: usize, s: usize, stocks: &[u8]) -> usize
         j += 1;
     }
     x
+}
+
+// Whether a stock of resource j pays for the move m of row i's team in state s; an unlimited resource binds nothing.
+pub fn pays(block: &[u8], i: usize, s: usize, m: usize, j: usize, stock: usize) -> bool
+    requires { ⌜ Valid (now block) ⌝ }
+    requires { ⌜ (i < L.rows (now block)) × (s < L.states (now block)) × (j < L.resources (now block)) ⌝ }
+    requires { ⌜ P.MoveOf (structureOf (now block)) (coalitionOf (now block) i) s m ⌝ }
+    ensures { λ r. ⌜ Decides (Pays (now (block .entry)) i s m j stock) r ⌝ }
+{
+    if layout::bound(block, i, j) == 255 {
+        return true;
+    }
+    moves::cost(block, s, layout::team(block, i), m, j) <= stock
 }
