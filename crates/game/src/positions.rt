@@ -74,3 +74,21 @@ pub fn pays(block: &[u8], i: usize, s: usize, m: usize, j: usize, stock: usize) 
     }
     moves::cost(block, s, layout::team(block, i), m, j) <= stock
 }
+
+// Whether the move m of row i's team is affordable in state s with the stocks of the list.
+pub fn affordable(block: &[u8], i: usize, s: usize, stocks: &[u8], m: usize) -> bool
+    requires { ⌜ Valid (now block) ⌝ }
+    requires { ⌜ (i < L.rows (now block)) × (s < L.states (now block)) × (L.resources (now block) ≤ length (now stocks)) ⌝ }
+    requires { ⌜ P.MoveOf (structureOf (now block)) (coalitionOf (now block) i) s m ⌝ }
+    ensures { λ r. ⌜ Decides (P.Affordable (arenaOf (now (block .entry)) i) (P.position s (now (stocks .entry))) m) r ⌝ }
+{
+    let n = layout::resources(block);
+    let mut j = 0;
+    while j < n {
+        if !pays(block, i, s, m, j, wide(stocks[j])) {
+            return false;
+        }
+        j += 1;
+    }
+    true
+}
