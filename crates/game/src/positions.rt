@@ -7,6 +7,7 @@ ghost use lib.ListN.{length};
 ghost use Rattle.block.specs.Decide.{Decides};
 ghost use Rattle.block.specs.Layout as L;
 ghost use Rattle.block.specs.Valid.{Valid};
+ghost use Rattle.game.specs.Rbatl.{moveCost};
 ghost use Rattle.game.specs.Position as P;
 ghost use Rattle.game.specs.Model.{structureOf, coalitionOf, boundsOf, arenaOf, Pays};
 
@@ -91,4 +92,36 @@ pub fn affordable(block: &[u8], i: usize, s: usize, stocks: &[u8], m: usize) -> 
         j += 1;
     }
     true
+}
+
+// What remains of a stock of resource j after the move m of row i's team in state s.
+pub fn remaining(block: &[u8], i: usize, s: usize, m: usize, j: usize, stock: usize) -> usize
+    requires { ⌜ Valid (now block) ⌝ }
+    requires { ⌜ (i < L.rows (now block)) × (s < L.states (now block)) × (j < L.resources (now block)) ⌝ }
+    requires { ⌜ P.MoveOf (structureOf (now block)) (coalitionOf (now block) i) s m ⌝ }
+    requires { ⌜ Pays (now block) i s m j stock ⌝ }
+    ensures { λ r. ⌜ r ≡ P.remaining (boundsOf (now (block .entry)) i j) stock (moveCost (structureOf (now (block .entry))) (coalitionOf (now (block .entry)) i) s (L.digit m) j) ⌝ }
+{
+    if layout::bound(block, i, j) == 255 {
+        return 0;
+    }
+    stock - moves::cost(block, s, layout::team(block, i), m, j)
+}
+
+// The number of the position where the move m and the reply r lead from state s with the stocks of the list.
+pub fn outcome(block: &[u8], i: usize, s: usize, stocks: &[u8], m: usize, r: usize) -> usize
+    requires { ⌜ Valid (now block) ⌝ }
+    requires { ⌜ (i < L.rows (now block)) × L.Strategic (L.kind (now block) i) × (L.resources (now block) ≤ length (now stocks)) ⌝ }
+    requires { ⌜ P.IsPosition (arenaOf (now block) i) (P.position s (now stocks)) ⌝ }
+    requires { ⌜ P.Allowed (arenaOf (now block) i) (P.position s (now stocks)) m × P.Reply (arenaOf (now block) i) (P.position s (now stocks)) r ⌝ }
+    ensures { λ n. ⌜ n ≡ P.number (arenaOf (now (block .entry)) i) (P.outcome (arenaOf (now (block .entry)) i) (P.position s (now (stocks .entry))) m r) ⌝ }
+{
+    let n = layout::resources(block);
+    let mut x = layout::next(block, s, m + r);
+    let mut j = 0;
+    while j < n {
+        x = x * places(block, i, j) + remaining(block, i, s, m, j, wide(stocks[j]));
+        j += 1;
+    }
+    x
 }

@@ -1,17 +1,18 @@
 -- What the code reads of a block, as the definitions say it: the next state after a move and a reply stands at their sum. Assumes nothing.
 use mathlib.Core.Bool.{Bool, cond}
-use mathlib.Core.Path.{_≡_, sym, _∙_, ap, subst}
-use Prim.Native.Nat.{ℕ, _+_, _/_, _%_, _^_, _≤_, _<_}
-use native.Mathlib.Nat.{add-zero, div-div-eq-div-mul, pow-suc}
+use mathlib.Core.Logic.{_↔_}
+use mathlib.Core.Path.{_≡_, sym, _∙_, ap, subst, transport}
+use Prim.Native.Nat.{ℕ, _+_, _-_, _/_, _%_, _^_, _≤_, _<_}
+use native.Mathlib.Nat.{add-zero, div-div-eq-div-mul, pow-suc, pow-le-pow-right}
 use native.Mathlib.Numerals.{add-one}
 use native.Mathlib.Omega.{arith}
 use borrow.Author.Tests.{eq-eqb, ne-eqb, lt-ltb}
 use Rattle.block.specs.Layout as L
 use Rattle.block.specs.Layout.{Block, digit, Strategic}
 use Rattle.block.specs.Valid.{Valid, RowFits}
-use Rattle.game.specs.Rbatl.{limit, unlimited, costUpTo}
-use Rattle.game.specs.Position.{Position, MoveOf, Move, Reply, outcome}
-use Rattle.game.specs.Model.{bit, structureOf, boundOf, coalitionOf, boundsOf, arenaOf}
+use Rattle.game.specs.Rbatl.{Bound, limit, unlimited, Fits, costUpTo, moveCost}
+use Rattle.game.specs.Position.{Position, stockBound, remaining, MoveOf, Move, Reply, outcome}
+use Rattle.game.specs.Model.{bit, structureOf, boundOf, coalitionOf, boundsOf, arenaOf, Pays}
 use Rattle.game.proofs.Numbers.Decide.{lt?}
 use Rattle.game.proofs.Numbers.Joint.{joint-below, joint-digit}
 use Rattle.game.proofs.Bridge.Proper.{Proper}
@@ -21,6 +22,9 @@ module _ (b : Block) (proper : Proper (structureOf b)) (i : ℕ) (p : Position) 
   sum-below : m + r < 4 ^ L.agents b
   sum-below =
       omega (arith, together (structureOf b) proper (coalitionOf b i) (p .state) m r move reply, joint-below (L.agents b) (merge (coalitionOf b i) m r) (λ a _. merge-small (coalitionOf b i) m r a))
+
+  pub sum-small : m + r < 64
+  sum-small = omega (arith, sum-below, pow-le-pow-right {n = 4} (omega arith) (proper .few-agents))
 
   pub outcome-state : outcome (arenaOf b i) p m r .state ≡ L.next b (p .state) (m + r)
   outcome-state = ap (L.next b (p .state)) (joint-digit (L.agents b) (m + r) sum-below)
@@ -62,3 +66,18 @@ module _ (b : Block) (i j : ℕ) (resource : j < L.resources b) where
       go : Dec (15 < L.bound b i j) → L.bound b i j ≤ 15
       go (yes h) = absurd (ne (row .bound-fits strategic j resource h))
       go (no h) = omega arith
+
+  -- an unlimited resource pays for everything, and a limited one for what is at most its stock
+  pub pays-unlimited : (s m stock : ℕ) → L.bound b i j ≡ L.unlimited → Pays b i s m j stock
+  pays-unlimited s m stock e = subst (λ (x : Bound). Fits (moveCost (structureOf b) (coalitionOf b i) s (digit m) j) (stockBound x stock)) (sym (bound-unlimited e)) tt
+
+  pub pays-limited : (s m stock : ℕ) → (L.bound b i j ≡ L.unlimited → ⊥) → Pays b i s m j stock ↔ (moveCost (structureOf b) (coalitionOf b i) s (digit m) j ≤ stock)
+  pays-limited s m stock ne =
+      let same = ap (λ (x : Bound). Fits (moveCost (structureOf b) (coalitionOf b i) s (digit m) j) (stockBound x stock)) (bound-limited ne) in
+      ((λ h. transport same h), λ h. transport (sym same) h)
+
+  pub remaining-unlimited : (stock c : ℕ) → L.bound b i j ≡ L.unlimited → remaining (boundsOf b i j) stock c ≡ 0
+  remaining-unlimited stock c e = ap (λ (x : Bound). remaining x stock c) (bound-unlimited e)
+
+  pub remaining-limited : (stock c : ℕ) → (L.bound b i j ≡ L.unlimited → ⊥) → remaining (boundsOf b i j) stock c ≡ stock - c
+  remaining-limited stock c ne = ap (λ (x : Bound). remaining x stock c) (bound-limited ne)

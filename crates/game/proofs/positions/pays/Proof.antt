@@ -9,20 +9,9 @@ use Rattle.block.proofs.Decide as D
 use Rattle.game.specs.Rbatl.{Bound, Fits, moveCost}
 use Rattle.game.specs.Position.{stockBound, MoveOf}
 use Rattle.game.specs.Model.{bit, structureOf, Pays}
-use Rattle.game.proofs.Blocks.Reading.{bound-unlimited, bound-limited}
+use Rattle.game.proofs.Blocks.Reading.{pays-unlimited, pays-limited}
 use Rattle.game.proofs.positions.pays.Statement.{statement}
 use Rattle.game.proofs.positions.pays.Tie as tie
-
--- an unlimited resource pays for everything, and a limited one for what is at most its stock
-module _ (b : Block) (i s m j stock : ℕ) (resource : j < L.resources b) where
-  free : L.bound b i j ≡ L.unlimited → Pays b i s m j stock
-  free e = subst (λ (x : Bound). Fits (moveCost (structureOf b) (bit (L.team b i)) s (digit m) j) (stockBound x stock)) (sym (bound-unlimited b i j resource e)) tt
-
-  limited : (L.bound b i j ≡ L.unlimited → ⊥) → moveCost (structureOf b) (bit (L.team b i)) s (digit m) j ≤ stock → Pays b i s m j stock
-  limited ne h = subst (λ (x : Bound). Fits (moveCost (structureOf b) (bit (L.team b i)) s (digit m) j) (stockBound x stock)) (sym (bound-limited b i j resource ne)) h
-
-  limited-back : (L.bound b i j ≡ L.unlimited → ⊥) → Pays b i s m j stock → moveCost (structureOf b) (bit (L.team b i)) s (digit m) j ≤ stock
-  limited-back ne h = subst (λ (x : Bound). Fits (moveCost (structureOf b) (bit (L.team b i)) s (digit m) j) (stockBound x stock)) (bound-limited b i j resource ne) h
 
 bound-requires : tie.Need-bound-requires
 bound-requires c κs = search needs
@@ -30,7 +19,7 @@ bound-requires c κs = search needs
 returns : tie.Need-returns
 returns c =
     let start = c .before .before .before in
-    holds (free (start .args .block .now) (start .args .i) (start .args .s) (start .args .m) (start .args .j) (start .args .stock) (start .pre .1 .0 .2) (sym (c .before .bound .ensures) ∙ c .if1 .taken))
+    holds (pays-unlimited (start .args .block .now) (start .args .i) (start .args .j) (start .pre .1 .0 .2) (start .args .s) (start .args .m) (start .args .stock) (sym (c .before .bound .ensures) ∙ c .if1 .taken))
 
 team-requires : tie.Need-team-requires
 team-requires c κs = search needs
@@ -52,9 +41,10 @@ returns-2 c =
     let ne : L.bound b (start .args .i) (start .args .j) ≡ L.unlimited → ⊥ = λ e. c .before .before .if1 .left (c .before .before .before .bound .ensures ∙ e) in
     let same : c .cost .result ≡ moveCost (structureOf b) (bit (L.team b (start .args .i))) (start .args .s) (digit (start .args .m)) (start .args .j) =
     c .cost .ensures ∙ ap (λ (t : ℕ). moveCost (structureOf b) (bit t) (start .args .s) (digit (start .args .m)) (start .args .j)) (c .before .team .ensures) in
+    let either = pays-limited b (start .args .i) (start .args .j) (start .pre .1 .0 .2) (start .args .s) (start .args .m) (start .args .stock) ne in
     D.same (D.at-most (c .cost .result) (start .args .stock))
-    (λ h. limited b (start .args .i) (start .args .s) (start .args .m) (start .args .j) (start .args .stock) (start .pre .1 .0 .2) ne (subst (λ (k : ℕ). k ≤ start .args .stock) same h))
-    (λ h. subst (λ (k : ℕ). k ≤ start .args .stock) (sym same) (limited-back b (start .args .i) (start .args .s) (start .args .m) (start .args .j) (start .args .stock) (start .pre .1 .0 .2) ne h))
+    (λ h. either .1 (subst (λ (k : ℕ). k ≤ start .args .stock) same h))
+    (λ h. subst (λ (k : ℕ). k ≤ start .args .stock) (sym same) (either .0 h))
 
 pub pays-spec : {M : Type 1} → statement M
 pays-spec = tie.close (tie.spec bound-requires returns team-requires cost-requires returns-2)
