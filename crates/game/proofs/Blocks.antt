@@ -1,6 +1,7 @@
 -- The rows of a block.
 pub mod Reading
 pub mod Passing
+pub mod Numbering
 pub mod Formulas
 pub mod Tables
 pub mod Labels

@@ -1,8 +1,7 @@
 -- `outcome` goes over the resources as `numberUpTo` does, from the next state. Assumes nothing.
 use mathlib.Core.List.{List}
-use mathlib.Core.Path.{_≡_, refl, sym, _∙_, ap, ap₂, subst}
+use mathlib.Core.Path.{_≡_, refl, sym, _∙_, ap, subst}
 use Prim.Native.Nat.{ℕ, _+_, _*_, _-_, _≤_, _<_}
-use native.Mathlib.Numerals.{add-one}
 use native.Mathlib.Omega.{arith}
 use lib.ListN.{getD}
 use Rattle.block.specs.Layout as L
@@ -12,9 +11,9 @@ use Rattle.game.specs.Position as P
 use Rattle.game.specs.Position.{Position, position, places, IsPosition, numberUpTo}
 use Rattle.game.specs.Model.{boundsOf, arenaOf, Pays}
 use Rattle.game.proofs.Bridge.Plays.{outcome-fits}
-use Rattle.game.proofs.Local.Same.{number-below-upto}
 use Rattle.game.proofs.Blocks.Reading.{sum-small, outcome-state}
-use Rattle.game.proofs.Blocks.Passing.{valid-proper, few-upto}
+use Rattle.game.proofs.Blocks.Passing.{valid-proper}
+use Rattle.game.proofs.Blocks.Numbering.{goes-on, stays-small}
 use Rattle.game.proofs.positions.outcome.Statement.{statement}
 use Rattle.game.proofs.positions.outcome.Tie as tie
 
@@ -51,15 +50,6 @@ loop-holds : tie.Need-loop-holds Inv-loop μ-loop
 loop-holds c =
     let start = c .before .before .before .before in
     (omega arith, c .next .ensures ∙ sym (outcome-state (start .args .block .now) (valid-proper (start .args .block .now) (start .pre .0)) (start .args .i) (position (start .args .s) (start .args .stocks .now)) (start .args .m) (start .args .r) (start .pre .1 .1 .1 .0 .0) (start .pre .1 .1 .1 .1)))
-
--- one more resource: the number goes on, and stays small
-module _ (b : Block) (valid : Valid b) (i j x w v : ℕ) (y : Position) (row : i < L.rows b) (strategic : L.Strategic (L.kind b i)) (fits : IsPosition (arenaOf b i) y) (resource : j < L.resources b)
-    (so-far : x ≡ numberUpTo (arenaOf b i) j y) (places-are : w ≡ places (boundsOf b i j)) where
-  goes-on : v ≡ y .stock j → x * w + v ≡ numberUpTo (arenaOf b i) (j + 1) y
-  goes-on stock = ap₂ (λ (x w : ℕ). x * w + v) so-far places-are ∙ ap (λ (v : ℕ). numberUpTo (arenaOf b i) j y * places (boundsOf b i j) + v) stock ∙ sym (ap (λ (n : ℕ). numberUpTo (arenaOf b i) n y) (add-one j))
-
-  stays-small : v ≡ y .stock j → x * w + v < 6144
-  stays-small stock = omega (arith, goes-on stock, number-below-upto (arenaOf b i) y fits (j + 1) (omega arith), few-upto b valid i row strategic (j + 1) (omega arith))
 
 resource-at : (c : tie.In-loop Inv-loop μ-loop) → c .before .loop .j < L.resources (c .before .before .before .before .before .before .args .block .now)
 resource-at c = omega (arith, c .before .before .before .resources .ensures, c .loop-test .taken)
