@@ -125,3 +125,20 @@ pub fn outcome(block: &[u8], i: usize, s: usize, stocks: &[u8], m: usize, r: usi
     }
     x
 }
+
+// The number of state s at full stock.
+pub fn full(block: &[u8], i: usize, s: usize) -> usize
+    requires { ⌜ Valid (now block) ⌝ }
+    requires { ⌜ (i < L.rows (now block)) × L.Strategic (L.kind (now block) i) × (s < L.states (now block)) ⌝ }
+    ensures { λ r. ⌜ r ≡ P.number (arenaOf (now (block .entry)) i) (P.full (arenaOf (now (block .entry)) i) s) ⌝ }
+{
+    let n = layout::resources(block);
+    let mut x = s;
+    let mut j = 0;
+    while j < n {
+        let c = places(block, i, j);
+        x = x * c + (c - 1);
+        j += 1;
+    }
+    x
+}

@@ -1,18 +1,16 @@
 -- A block that passes holds a proper structure, and its rows have few positions. Assumes nothing.
-use mathlib.Core.Bool.{Bool, cond}
 use mathlib.Core.Logic.{inl, inr}
-use mathlib.Core.Path.{_≡_, sym, ap, subst}
+use mathlib.Core.Path.{_≡_, ap}
 use Prim.Native.Nat.{ℕ, zero, suc, _*_, _/_, _^_, _≤_, _<_}
-use native.Mathlib.Decide.{decLt, ℕ-discrete}
+use native.Mathlib.Decide.{decLt}
 use native.Mathlib.Nat.{div-eq-of-lt, mul-le-mul, mul-le-mul-left, pow-le-pow-right, pow-succ'}
 use native.Mathlib.Omega.{arith}
 use Rattle.block.specs.Layout as L
 use Rattle.block.specs.Layout.{Block, digit, Acts, Strategic}
-use borrow.Author.Tests.{eq-eqb, ne-eqb, lt-ltb}
 use Rattle.block.specs.Valid.{Valid, RowFits}
-use Rattle.game.specs.Rbatl.{limit, unlimited, Joint, Available}
+use Rattle.game.specs.Rbatl.{unlimited, Joint, Available}
 use Rattle.game.specs.Position.{places, joint, positionsUpTo, positions}
-use Rattle.game.specs.Model.{structureOf, boundOf, boundsOf, arenaOf}
+use Rattle.game.specs.Model.{structureOf, boundsOf, arenaOf}
 use Rattle.game.proofs.Numbers.Decide.{eq?}
 use Rattle.game.proofs.Numbers.Joint.{joint-cong, joint-below, digit-joint}
 use Rattle.game.proofs.Bridge.Proper.{Proper}

@@ -1,13 +1,13 @@
 -- Decided leaves no choice: two tables that are decided at every position show the same ranks and moves there, and have the same replies.
 -- Assumes nothing.
 use mathlib.Core.Logic.{_⊎_, inl, inr}
-use mathlib.Core.Path.{_≡_, sym, _∙_, subst}
+use mathlib.Core.Path.{_≡_, sym, _∙_}
 use Prim.Native.Nat.{ℕ, _<_}
 use native.Mathlib.Omega.{arith}
 use Rattle.game.specs.Position.{Arena, Position, IsPosition, Reply, Allowed, outcome}
 use Rattle.game.specs.Play.{Objective, next, always, until, CoalitionWins, OpponentsWin}
-use Rattle.game.specs.Table.{Table, never, rankAt, moveAt, Smallest, Fewest, RankIs, Aim, Good, Met, MoveIs, Failed, CounterAim, ReplyIs, Decided}
-use Rattle.game.proofs.Numbers.Decide.{lt?, eq?}
+use Rattle.game.specs.Table.{Table, rankAt, moveAt, Smallest, Fewest, RankIs, Aim, Good, Met, Failed, CounterAim, ReplyIs, Decided}
+use Rattle.game.proofs.Numbers.Decide.{lt?}
 use Rattle.game.proofs.Bridge.Proper.{Proper}
 use Rattle.game.proofs.Bridge.Plays.{outcome-fits}
 use Rattle.game.proofs.Local.Certificate.{met?}

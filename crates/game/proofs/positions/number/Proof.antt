@@ -1,15 +1,10 @@
 -- `number` goes over the resources as `numberUpTo` does. Assumes nothing.
-use mathlib.Core.List.{List}
-use mathlib.Core.Path.{_≡_, refl, sym, _∙_, ap, ap₂}
-use Prim.Native.Nat.{ℕ, _+_, _*_, _-_, _≤_, _<_}
-use native.Mathlib.Numerals.{add-one}
+use mathlib.Core.Path.{_≡_, refl, _∙_, ap}
+use Prim.Native.Nat.{ℕ, _-_, _≤_, _<_}
 use native.Mathlib.Omega.{arith}
-use lib.ListN.{getD}
 use Rattle.block.specs.Layout as L
-use Rattle.block.specs.Layout.{Block}
-use Rattle.block.specs.Valid.{Valid}
-use Rattle.game.specs.Position.{position, places, IsPosition, numberUpTo}
-use Rattle.game.specs.Model.{boundsOf, arenaOf}
+use Rattle.game.specs.Position.{position, places, numberUpTo}
+use Rattle.game.specs.Model.{arenaOf}
 use Rattle.game.proofs.Blocks.Numbering.{goes-on, stays-small}
 use Rattle.game.proofs.positions.number.Statement.{statement}
 use Rattle.game.proofs.positions.number.Tie as tie

@@ -1,12 +1,10 @@
 -- `outcome` goes over the resources as `numberUpTo` does, from the next state. Assumes nothing.
 use mathlib.Core.List.{List}
 use mathlib.Core.Path.{_≡_, refl, sym, _∙_, ap, subst}
-use Prim.Native.Nat.{ℕ, _+_, _*_, _-_, _≤_, _<_}
+use Prim.Native.Nat.{ℕ, _+_, _-_, _≤_, _<_}
 use native.Mathlib.Omega.{arith}
-use lib.ListN.{getD}
 use Rattle.block.specs.Layout as L
 use Rattle.block.specs.Layout.{Block}
-use Rattle.block.specs.Valid.{Valid}
 use Rattle.game.specs.Position as P
 use Rattle.game.specs.Position.{Position, position, places, IsPosition, numberUpTo}
 use Rattle.game.specs.Model.{boundsOf, arenaOf, Pays}

@@ -1,14 +1,14 @@
 -- `pays` compares the move's cost with the stock, unless the resource is unlimited. Assumes nothing.
 use mathlib.Core.Path.{_≡_, sym, _∙_, ap, subst}
-use Prim.Native.Nat.{ℕ, _≤_, _<_}
+use Prim.Native.Nat.{ℕ, _≤_}
 use borrow.Author.Needs.{needs}
 use Rattle.block.specs.Decide.{holds}
 use Rattle.block.specs.Layout as L
-use Rattle.block.specs.Layout.{Block, digit}
+use Rattle.block.specs.Layout.{digit}
 use Rattle.block.proofs.Decide as D
-use Rattle.game.specs.Rbatl.{Bound, Fits, moveCost}
-use Rattle.game.specs.Position.{stockBound, MoveOf}
-use Rattle.game.specs.Model.{bit, structureOf, Pays}
+use Rattle.game.specs.Rbatl.{moveCost}
+use Rattle.game.specs.Position.{MoveOf}
+use Rattle.game.specs.Model.{bit, structureOf}
 use Rattle.game.proofs.Blocks.Reading.{pays-unlimited, pays-limited}
 use Rattle.game.proofs.positions.pays.Statement.{statement}
 use Rattle.game.proofs.positions.pays.Tie as tie
