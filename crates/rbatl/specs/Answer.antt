@@ -1,10 +1,32 @@
 -- The number that a C caller is handed back: a value from 0, or minus document 01's number of a refusal.
+use mathlib.Core.List.{List}
 use mathlib.Core.Path.{_≡_}
 use Prim.Native.Nat.{ℕ}
 use lib.IntN.{ℤ, pos, negℤ}
 use Rattle.block.specs.Layout.{Block}
+use Rattle.block.specs.Refusal.{numberOf, answerOf}
 use Rattle.block.specs.Check.{Verdict}
+use Rattle.text.specs.Text.{readCall, answerTo, WriteCall}
+use Rattle.text.specs.declared.written.Written.{Written}
+use Rattle.text.specs.declared.written.Written.the-variants as written
+
+-- minus the number of a refusal, and 0 for none
+abbrev pub minus : ℕ → ℤ
+minus n = negℤ (pos n)
 
 -- r is 0 where the block passes, or minus the number of its refusal
 abbrev pub CheckAnswer : Block → ℤ → Type 0
-CheckAnswer b r = (n : ℕ) × Verdict b n × (r ≡ negℤ (pos n))
+CheckAnswer b r = (n : ℕ) × Verdict b n × (r ≡ minus n)
+
+-- what the read call answers
+abbrev pub readAnswer : List ℕ → Block → ℤ
+readAnswer t b = minus (answerOf (answerTo (readCall t b)))
+
+-- what an answer of the write call is handed back as: the length, or minus the number of the refusal
+abbrev pub writtenCode : Written → ℤ
+writtenCode (written.Length n) = pos n
+writtenCode (written.Refused r) = minus (numberOf r)
+
+-- what the write call promises of its answer and of the text buffer, t before it and u after it
+abbrev pub WriteAnswer : Block → List ℕ → List ℕ → ℤ → Type 0
+WriteAnswer b t u r = (a : Written) × WriteCall b t u a × (r ≡ writtenCode a)

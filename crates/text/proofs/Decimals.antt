@@ -23,15 +23,15 @@ lt-or-ge a b = go (ltb a b) refl
     go true e = inl (ltb-true a b e)
     go false e = inr (ltb-false a b e)
 
-decimal-one : (n : ℕ) → n < 10 → decimal n ≡ numeral n ∷ []
+pub decimal-one : (n : ℕ) → n < 10 → decimal n ≡ numeral n ∷ []
 unfolding decimal
 decimal-one n h = simp (lt-ltb n 10 h)
 
-decimal-two : (n : ℕ) → 10 ≤ n → n < 100 → decimal n ≡ numeral (n / 10) ∷ numeral (n % 10) ∷ []
+pub decimal-two : (n : ℕ) → 10 ≤ n → n < 100 → decimal n ≡ numeral (n / 10) ∷ numeral (n % 10) ∷ []
 unfolding decimal
 decimal-two n l h = simp (le-ltb n 10 l, lt-ltb n 100 h)
 
-decimal-three : (n : ℕ) → 100 ≤ n → decimal n ≡ numeral (n / 100) ∷ numeral (n / 10 % 10) ∷ numeral (n % 10) ∷ []
+pub decimal-three : (n : ℕ) → 100 ≤ n → decimal n ≡ numeral (n / 100) ∷ numeral (n / 10 % 10) ∷ numeral (n % 10) ∷ []
 unfolding decimal
 decimal-three n l = simp (le-ltb n 10 (omega arith), le-ltb n 100 l)
 

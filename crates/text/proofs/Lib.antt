@@ -14,3 +14,5 @@ pub mod Beginnings
 pub mod Reading
 pub mod Loops
 pub mod Repeats
+pub mod Writing
+pub mod Calls

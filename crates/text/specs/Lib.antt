@@ -4,3 +4,4 @@ pub mod Format
 pub mod Job
 pub mod Text
 pub mod Step
+pub mod Writing

@@ -1,4 +1,4 @@
-// Joint actions and the counts of the agents' actions.
+// Joint actions: the action of each agent, and whether the agents have them.
 ghost use mathlib.Core.Path.{_≡_};
 ghost use Prim.Native.Nat.{_<_};
 ghost use Rattle.block.specs.Layout as L;
@@ -19,15 +19,15 @@ pub fn digit(joint: usize, a: usize) -> usize
     joint / 16 % 4
 }
 
-// Whether a joint action can be done with these counts.
+// Whether the joint action can be done with these counts.
 pub fn possible(counts: [usize; 3], joint: usize) -> bool
     ensures { λ r. ⌜ r ≡ J.possible counts joint ⌝ }
 {
-    if counts[0] <= joint % 4 {
+    if counts[0] <= digit(joint, 0) {
         return false;
     }
-    if counts[1] <= joint / 4 % 4 {
+    if counts[1] <= digit(joint, 1) {
         return false;
     }
-    joint / 16 % 4 < counts[2]
+    digit(joint, 2) < counts[2]
 }

@@ -1,12 +1,14 @@
--- `digit` is an agent's action in a joint action. Assumes nothing.
-use mathlib.Core.Path.{_≡_, refl, sym}
+-- `digit` takes a digit of a joint action by the powers of 4. Assumes nothing.
+use mathlib.Core.Path.{_≡_, refl}
 use native.Mathlib.Omega.{arith}
 use Rattle.block.proofs.Digits.{digit-zero}
 use Rattle.text.proofs.joint.digit.Statement.{statement}
 use Rattle.text.proofs.joint.digit.Tie as tie
 
 returns : tie.Need-returns
-returns c = rw (c .if1 .taken) (sym (digit-zero _), omega arith)
+returns c =
+    let joint = c .before .args .joint in
+    rw (c .if1 .taken, digit-zero) (refl, omega arith)
 
 returns-2 : tie.Need-returns-2
 returns-2 c = rw (c .if2 .taken) (refl, omega arith)

@@ -1,0 +1,115 @@
+-- Steps of writing (specs' Adds and Past): one byte, a word, a loop.
+-- Assumes nothing.
+use mathlib.Core.List.{List, [], _∷_, _++_, append-assoc, append-nil}
+use mathlib.Core.Path.{_≡_, refl, sym, ap, _∙_}
+use Prim.Native.Nat.{ℕ, suc, _+_, _-_, _≤_, _<_}
+use native.Mathlib.Nat.{add-zero, sub-zero}
+use native.Mathlib.Numerals.{add-one}
+use native.Mathlib.Omega.{arith}
+use lib.ListN.{length, getD, take, set, replicate, replicate-append-replicate}
+use lib.Seq.{take-suc, take-suc-set, take-all}
+use borrow.Author.Tests.{lt-ltb, ne-eqb}
+use Rattle.block.specs.Layout as L
+use Rattle.block.specs.Layout.{Block, unlimited}
+use Rattle.text.specs.declared.sizes.Sizes.{Sizes}
+use Rattle.text.specs.Numeral.{comma, decimal}
+use Rattle.text.specs.Format.{Format, write}
+use Rattle.text.specs.Job.{bound, boundField, actsLine, agentLines, noCounts}
+use Rattle.text.specs.Writing.{Adds, Past, countsTo}
+use Rattle.text.proofs.Loops.{Loop, left-more, turn, finish}
+
+-- a byte stored at a place
+pub byte-added : (t : List ℕ) (place x : ℕ) → place < length t → Adds (x ∷ []) t place (set t place x) (place + 1)
+byte-added t place x h rest = rw (add-one, take-suc-set t place x, append-assoc) refl
+
+-- i bytes of a word have been stored
+pub record Begun (w t : List ℕ) (place : ℕ) (u : List ℕ) (i : ℕ) : Type 0 where
+  pub so : take (place + i) u ≡ take place t ++ take i w
+
+pub begun-none : {w t : List ℕ} {place : ℕ} → Begun w t place t 0
+begun-none {w} {t} {place} = record { so = rw (add-zero, append-nil) refl }
+
+module _ {w t u : List ℕ} {place i : ℕ} (b : Begun w t place u i) where
+  pub begun-more : i < length w → place + i < length u → Begun w t place (set u (place + i) (getD w i 0)) (i + 1)
+  begun-more h l =
+      let next : place + (i + 1) ≡ suc (place + i) = omega arith in
+      record { so = rw (next, take-suc-set u (place + i) (getD w i 0), add-one, take-suc w i 0, ← append-assoc) (ap (λ (l : List ℕ). l ++ getD w i 0 ∷ []) (b .so)) }
+
+  pub begun-all : length w ≤ i → Adds w t place u (place + i)
+  begun-all h rest = rw (b .so, take-all i w h, append-assoc) refl
+
+-- the writer's loop has written j turns
+pub record Written (loop : ℕ → ℕ → Format → Format) (count : ℕ) (b : Block) (t : List ℕ) (place : ℕ) (u : List ℕ) (next j : ℕ) : Type 0 where
+  pub so : (f : Format) → take next u ++ write (loop (count - j) j f) b ≡ take place t ++ write (loop count 0 f) b
+
+pub written-none : {loop : ℕ → ℕ → Format → Format} {count : ℕ} {b : Block} {t : List ℕ} {place : ℕ} → Written loop count b t place t place 0
+written-none = record { so = λ f. rw sub-zero }
+
+module _ {loop body : ℕ → ℕ → Format → Format} {count j : ℕ} {b : Block} {t u : List ℕ} {place next : ℕ} (l : Loop loop body) (r : Written loop count b t place u next j) where
+  pub written-more : {v : List ℕ} {after : ℕ} → j < count → Past b (body (count - (j + 1)) j) u next v after → Written loop count b t place v after (j + 1)
+  written-more {v} {after} h p = record {
+    so = λ f.
+        p (loop (count - (j + 1)) (j + 1) f)
+        ∙ ap (λ (g : Format). take next u ++ write g b) (sym (turn l count j f h))
+        ∙ r .so f;
+  }
+
+  pub written-all : count ≤ j → Past b (loop count 0) t place u next
+  written-all h f = ap (λ (g : Format). take next u ++ write g b) (sym (finish l count j f h)) ∙ r .so f
+
+-- a bound that is not unlimited is written as a number
+pub bound-number : (v : ℕ) → v < 256 → (v ≡ unlimited → ⊥) → bound .spell (bound .chosen v) ≡ decimal v ++ comma ∷ []
+unfolding boundField
+bound-number v h n = simp (ne-eqb v 255 n, lt-ltb v 256 h)
+
+-- the acts lines of a agents have been written; what follows all of them depends on their counts
+pub record Acted (z : Sizes) (s count : ℕ) (b : Block) (t : List ℕ) (place : ℕ) (u : List ℕ) (next a : ℕ) : Type 0 where
+  pub so : (f : List ℕ → Format) → take next u ++ write (agentLines z s (count - a) a (countsTo b s a) f) b ≡ take place t ++ write (agentLines z s count 0 noCounts f) b
+
+pub acted-none : {z : Sizes} {s count : ℕ} {b : Block} {t : List ℕ} {place : ℕ} → Acted z s count b t place t place 0
+acted-none = record { so = λ f. rw sub-zero }
+
+agents-turn : (z : Sizes) (s count a : ℕ) (counts : List ℕ) (f : List ℕ → Format) → a < count → agentLines z s (count - a) a counts f ≡ actsLine z s a (λ c. agentLines z s (count - suc a) (suc a) (set counts a c) f)
+unfolding agentLines
+agents-turn z s count a counts f h = rw (left-more count a h, add-one a) refl
+
+agents-done : (z : Sizes) (s count a : ℕ) (counts : List ℕ) (f : List ℕ → Format) → count ≤ a → agentLines z s (count - a) a counts f ≡ f counts
+unfolding agentLines
+agents-done z s count a counts f h = let none : count - a ≡ 0 = omega arith in rw none refl
+
+module _ {z : Sizes} {s count a : ℕ} {b : Block} {t u : List ℕ} {place next : ℕ} (r : Acted z s count b t place u next a) where
+  pub acted-more : {v : List ℕ} {after : ℕ} → a < count → ((f : ℕ → Format) → take after v ++ write (f (L.count b s a)) b ≡ take next u ++ write (actsLine z s a f) b) → Acted z s count b t place v after (a + 1)
+  acted-more {v} {after} h p = record {
+    so = λ f. rw (add-one a) (
+        p (λ c. agentLines z s (count - suc a) (suc a) (set (countsTo b s a) a c) f)
+        ∙ ap (λ (g : Format). take next u ++ write g b) (sym (agents-turn z s count a (countsTo b s a) f h))
+        ∙ r .so f);
+  }
+
+  pub acted-all : count ≡ a → (f : List ℕ → Format) → take next u ++ write (f (countsTo b s count)) b ≡ take place t ++ write (agentLines z s count 0 noCounts f) b
+  acted-all e f =
+      ap (λ (n : ℕ). take next u ++ write (f (countsTo b s n)) b) e
+      ∙ ap (λ (g : Format). take next u ++ write g b) (sym (agents-done z s count a (countsTo b s a) f (omega arith)))
+      ∙ r .so f
+
+-- zeros have been stored from a place up to i
+pub record Zeroed (t : List ℕ) (place : ℕ) (u : List ℕ) (i : ℕ) : Type 0 where
+  pub so : take i u ≡ take place t ++ replicate (i - place) 0
+
+pub zeroed-none : {t : List ℕ} {place : ℕ} → Zeroed t place t place
+zeroed-none {t} {place} =
+    let none : place - place ≡ 0 = omega arith in
+    record { so = rw (none, append-nil) refl }
+
+module _ {t u : List ℕ} {place i : ℕ} (z : Zeroed t place u i) (h : place ≤ i) where
+  pub zeroed-more : i < length u → Zeroed t place (set u i 0) (i + 1)
+  zeroed-more l =
+      let more : i + 1 - place ≡ i - place + 1 = omega arith in
+      record {
+        so =
+            rw (more, ← replicate-append-replicate {A = ℕ} (i - place) 1 0, ← append-assoc, add-one i, take-suc-set u i 0)
+            (ap (λ (l : List ℕ). l ++ 0 ∷ []) (z .so));
+      }
+
+  pub zeroed-all : length u ≤ i → i ≡ length t → u ≡ take place t ++ replicate (length t - place) 0
+  zeroed-all l e = sym (take-all i u l) ∙ z .so ∙ ap (λ (n : ℕ). take place t ++ replicate (n - place) 0) e

@@ -1,0 +1,24 @@
+-- `cost` reads one cost. Assumes nothing.
+use borrow.Author.Needs.{needs}
+use Rattle.text.proofs.reader.actions.cost.Statement.{statement}
+use Rattle.text.proofs.reader.actions.cost.Tie as tie
+
+cost-end-requires : tie.Need-cost-end-requires
+cost-end-requires c κs = search needs
+
+cost-limit-requires : tie.Need-cost-limit-requires
+cost-limit-requires c κs = search needs
+
+past-field-requires : tie.Need-past-field-requires
+past-field-requires c κs = search needs
+
+same-length : tie.Need-same-length
+same-length c = search needs
+
+returns : tie.Need-returns
+returns c = rw (← c .before .before .before .before .before .cost-end .ensures .0, ← c .before .before .before .before .cost-limit .ensures) (c .before .before .past-field .ensures)
+
+pub cost-spec : {M : Type 1} → statement M
+cost-spec =
+    tie.close
+    (tie.spec cost-end-requires cost-limit-requires past-field-requires same-length returns)

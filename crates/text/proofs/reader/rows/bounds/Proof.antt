@@ -1,0 +1,63 @@
+-- `bounds` reads the bounds of a row, resource by resource. Assumes nothing.
+use mathlib.Core.Path.{_≡_, sym, _∙_}
+use Prim.Native.Nat.{_≤_, _-_}
+use native.Mathlib.Omega.{arith}
+use lib.ListN.{length}
+use Rattle.block.specs.Layout.{blockBytes}
+use Rattle.text.specs.Job as J
+use Rattle.text.specs.Step.{Inside}
+use Rattle.text.proofs.Loops.{Reached, reached-none, reached-more, reached-all}
+use Rattle.text.proofs.Repeats.{bounds-loop}
+use borrow.Author.Needs.{needs}
+use Rattle.text.proofs.reader.rows.bounds.Statement.{statement}
+use Rattle.text.proofs.reader.rows.bounds.Tie as tie
+
+abbrev Inv-loop : tie.InvT-loop
+Inv-loop text job₀ i count next₀ j₀ job next j = Inside text next × (length job ≡ blockBytes) × (j ≤ count) × Reached (J.boundFields i) text count next₀ job₀ next job j
+
+abbrev μ-loop : tie.MeasureT-loop
+μ-loop text job₀ i count next₀ j₀ job next j = count - j
+
+loop-holds : tie.Need-loop-holds Inv-loop μ-loop
+loop-holds c = (search needs, search needs, search needs, reached-none)
+
+add-t11 : tie.Need-add-t11 Inv-loop μ-loop
+add-t11 c = omega arith
+
+past-bound-requires : tie.Need-past-bound-requires Inv-loop μ-loop
+past-bound-requires c κs =
+    let inv = c .before .before .loop .inv in
+    (inv .0, (inv .1, omega arith))
+
+add-j : tie.Need-add-j Inv-loop μ-loop
+add-j c = omega arith
+
+loop-less : tie.Need-loop-less Inv-loop μ-loop
+loop-less c = omega arith
+
+loop-again : tie.Need-loop-again Inv-loop μ-loop
+loop-again c =
+    let inv = c .before .before .before .before .before .loop .inv in
+    let call = c .before .before .past-bound in
+    (call .ensures .1, call .kept .1 .1 .0 ∙ inv .1, omega arith, reached-more (bounds-loop _) (inv .3) (c .before .before .before .before .loop-test .taken) (call .ensures .0))
+
+same-length : tie.Need-same-length Inv-loop μ-loop
+same-length c = c .before .loop .inv .1 ∙ sym (c .before .before .before .before .pre .0 .1)
+
+returns : tie.Need-returns Inv-loop μ-loop
+returns c = (reached-all (bounds-loop _) (c .before .loop .inv .3) (c .loop-test .left), c .before .loop .inv .0)
+
+pub bounds-spec : {M : Type 1} → statement M
+bounds-spec =
+    tie.close
+    (tie.spec
+    Inv-loop
+    μ-loop
+    loop-holds
+    add-t11
+    past-bound-requires
+    add-j
+    loop-less
+    loop-again
+    same-length
+    returns)

@@ -1,0 +1,59 @@
+-- `rows` reads the lines of the rows. Assumes nothing.
+use mathlib.Core.Path.{_≡_, sym, _∙_}
+use Prim.Native.Nat.{_≤_, _-_}
+use native.Mathlib.Omega.{arith}
+use lib.ListN.{length}
+use Rattle.block.specs.Layout.{blockBytes}
+use Rattle.text.specs.Job as J
+use Rattle.text.specs.Step.{Inside}
+use Rattle.text.proofs.Loops.{Reached, reached-none, reached-more, reached-all}
+use Rattle.text.proofs.Repeats.{rows-loop}
+use borrow.Author.Needs.{needs}
+use Rattle.text.proofs.reader.rows.rows.Statement.{statement}
+use Rattle.text.proofs.reader.rows.rows.Tie as tie
+
+abbrev Inv-loop : tie.InvT-loop
+Inv-loop text job₀ z count next₀ i₀ job next i = Inside text next × (length job ≡ blockBytes) × (i ≤ count) × Reached (J.rowLines z) text count next₀ job₀ next job i
+
+abbrev μ-loop : tie.MeasureT-loop
+μ-loop text job₀ z count next₀ i₀ job next i = count - i
+
+loop-holds : tie.Need-loop-holds Inv-loop μ-loop
+loop-holds c = (search needs, search needs, search needs, reached-none)
+
+row-requires : tie.Need-row-requires Inv-loop μ-loop
+row-requires c κs =
+    let inv = c .before .before .loop .inv in
+    ((inv .0, inv .1), (search needs, omega arith))
+
+add-i : tie.Need-add-i Inv-loop μ-loop
+add-i c = omega arith
+
+loop-less : tie.Need-loop-less Inv-loop μ-loop
+loop-less c = omega arith
+
+loop-again : tie.Need-loop-again Inv-loop μ-loop
+loop-again c =
+    let inv = c .before .before .before .before .before .loop .inv in
+    let call = c .before .before .row in
+    (call .ensures .1, call .kept .1 .1 .0 ∙ inv .1, omega arith, reached-more (rows-loop _) (inv .3) (c .before .before .before .before .loop-test .taken) (call .ensures .0))
+
+same-length : tie.Need-same-length Inv-loop μ-loop
+same-length c = c .before .loop .inv .1 ∙ sym (c .before .before .before .before .pre .0 .1)
+
+returns : tie.Need-returns Inv-loop μ-loop
+returns c = (reached-all (rows-loop _) (c .before .loop .inv .3) (c .loop-test .left), c .before .loop .inv .0)
+
+pub rows-spec : {M : Type 1} → statement M
+rows-spec =
+    tie.close
+    (tie.spec
+    Inv-loop
+    μ-loop
+    loop-holds
+    row-requires
+    add-i
+    loop-less
+    loop-again
+    same-length
+    returns)

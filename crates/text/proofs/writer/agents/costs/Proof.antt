@@ -1,0 +1,93 @@
+-- `costs` writes the costs of an action, resource by resource. Assumes nothing.
+use mathlib.Core.Path.{_≡_, refl}
+use Prim.Native.Nat.{_+_, _-_, _*_, _≤_}
+use native.Mathlib.Omega.{arith}
+use lib.ListN.{length}
+use Rattle.block.specs.Layout.{placeOf}
+use Rattle.block.specs.declared.layout.Place.the-variants.{Cost}
+use Rattle.text.specs.Format.{write}
+use Rattle.text.specs.Job as J
+use Rattle.text.proofs.Repeats.{costs-loop}
+use Rattle.text.proofs.Writing.{Written, written-none, written-more, written-all}
+use Rattle.text.proofs.writer.agents.costs.Statement.{statement}
+use Rattle.text.proofs.writer.agents.costs.Tie as tie
+
+abbrev Inv-loop : tie.InvT-loop
+Inv-loop block text₀ at s a n k resources next₀ j₀ text next j = (j ≤ resources) × ((length text ≡ length text₀) × ((next ≤ at + 4 * j) × Written (J.costs s a n k) resources block text₀ at text next j))
+
+abbrev μ-loop : tie.MeasureT-loop
+μ-loop block text₀ at s a n k resources next₀ j₀ text next j = resources - j
+
+resources-requires : tie.Need-resources-requires Inv-loop μ-loop
+resources-requires c κs = omega arith
+
+loop-holds : tie.Need-loop-holds Inv-loop μ-loop
+loop-holds c = (omega arith, (refl, (omega arith, written-none)))
+
+add-cost-end : tie.Need-add-cost-end Inv-loop μ-loop
+add-cost-end c = omega arith
+
+sub-cost-end : tie.Need-sub-cost-end Inv-loop μ-loop
+sub-cost-end c = omega arith
+
+add-cost-end-2 : tie.Need-add-cost-end-2 Inv-loop μ-loop
+add-cost-end-2 c = omega arith
+
+cost-end-requires : tie.Need-cost-end-requires Inv-loop μ-loop
+cost-end-requires c κs = tt
+
+cost-requires : tie.Need-cost-requires Inv-loop μ-loop
+cost-requires c κs = omega arith
+
+number-requires : tie.Need-number-requires Inv-loop μ-loop
+number-requires c κs =
+    let g = c .before .before .before .before .before .before .before .before .args in
+    let known = c .before .before .before .before .before .before .before .shared-slice-known .given in
+    let now = c .before .before .before .before .loop in
+    omega (arith, known (placeOf (Cost (g .s) (g .a) (g .k) (now .j))))
+
+add-j : tie.Need-add-j Inv-loop μ-loop
+add-j c = omega arith
+
+loop-less : tie.Need-loop-less Inv-loop μ-loop
+loop-less c = omega arith
+
+loop-again : tie.Need-loop-again Inv-loop μ-loop
+loop-again c =
+    let g = c .before .before .before .before .before .before .before .before .before .before .before .args in
+    let inv = c .before .before .before .before .before .before .before .loop .inv in
+    let cost-end = c .before .before .before .before .before .cost-end .ensures in
+    let cost = c .before .before .before .cost .ensures in
+    let number = c .before .before .number .ensures in
+    let b = g .block .now in
+    (omega arith, (omega arith, (omega arith, written-more (costs-loop (g .s) (g .a) (g .n) (g .k)) (inv .1 .1 .1) (omega arith) (λ f. rw (cost, cost-end) at (number .0 (write f b))))))
+
+same-length : tie.Need-same-length Inv-loop μ-loop
+same-length c = omega arith
+
+returns : tie.Need-returns Inv-loop μ-loop
+returns c =
+    let g = c .before .before .before .before .before .args in
+    let resources = c .before .before .resources .ensures in
+    let inv = c .before .loop .inv in
+    (written-all (costs-loop (g .s) (g .a) (g .n) (g .k)) (rw resources at (inv .1 .1 .1)) (omega arith), omega arith)
+
+pub costs-spec : {M : Type 1} → statement M
+costs-spec =
+    tie.close
+    (tie.spec
+    Inv-loop
+    μ-loop
+    resources-requires
+    loop-holds
+    add-cost-end
+    sub-cost-end
+    add-cost-end-2
+    cost-end-requires
+    cost-requires
+    number-requires
+    add-j
+    loop-less
+    loop-again
+    same-length
+    returns)

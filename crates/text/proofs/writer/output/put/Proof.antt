@@ -1,0 +1,21 @@
+-- `put` stores a byte. Assumes nothing.
+use mathlib.Core.Path.{refl}
+use Rattle.text.proofs.Writing.{byte-added}
+use borrow.Author.Needs.{needs}
+use Rattle.text.proofs.writer.output.put.Statement.{statement}
+use Rattle.text.proofs.writer.output.put.Tie as tie
+
+slice-write-text : tie.Need-slice-write-text
+slice-write-text c = search needs
+
+add-result : tie.Need-add-result
+add-result c = search needs
+
+same-length : tie.Need-same-length
+same-length c = search needs
+
+returns : tie.Need-returns
+returns c = (byte-added _ _ _ (c .pre), refl)
+
+pub put-spec : {M : Type 1} → statement M
+put-spec = tie.close (tie.spec slice-write-text add-result same-length returns)

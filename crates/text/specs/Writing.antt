@@ -1,0 +1,31 @@
+-- What the steps of the writer do: each goes on from a place of the text, and what stands before that place stays.
+use mathlib.Core.List.{List, _++_}
+use mathlib.Core.Path.{_≡_}
+use Prim.Native.Nat.{ℕ, zero, suc, _<_}
+use lib.ListN.{length, take, set}
+use Rattle.block.specs.Layout as L
+use Rattle.block.specs.Layout.{Block}
+use Rattle.text.specs.declared.sizes.Sizes.{Sizes}
+use Rattle.text.specs.Format.{Format, write}
+use Rattle.text.specs.Job.{noCounts}
+use Rattle.text.specs.Text.{textBytes}
+
+-- from the text t up to a place, to the text u up to the next place: the word has been added
+abbrev pub Adds : List ℕ → List ℕ → ℕ → List ℕ → ℕ → Type 0
+Adds w t place u next = (rest : List ℕ) → take next u ++ rest ≡ take place t ++ (w ++ rest)
+
+-- the same for a part of a format, whatever follows it
+abbrev pub Past : Block → (Format → Format) → List ℕ → ℕ → List ℕ → ℕ → Type 0
+Past b part t place u next = (f : Format) → take next u ++ write f b ≡ take place t ++ write (part f) b
+
+-- the writer's buffer has room up to a place, and a byte to spare
+abbrev pub Room : List ℕ → ℕ → Type 0
+Room t n = (length t ≡ textBytes) × (n < textBytes)
+
+abbrev pub sizesOf : Block → Sizes
+sizesOf b = record { agents = L.agents b; resources = L.resources b; states = L.states b; propositions = L.propositions b; rows = L.rows b }
+
+-- how many actions each agent has in state s, as far as the first a agents tell
+abbrev pub countsTo : Block → ℕ → ℕ → List ℕ
+countsTo b s zero = noCounts
+countsTo b s (suc a) = set (countsTo b s a) a (L.count b s a)

@@ -1,0 +1,45 @@
+// The acts lines of a state.
+use crate::reader::actions::actions;
+use crate::reader::steps::past_index;
+use crate::reader::steps::past_value;
+use crate::reader::steps::past_word;
+use crate::reader::steps::value_at;
+use crate::reader::steps::value_or;
+use crate::sizes::Sizes;
+use crate::step::Step;
+use crate::step::Valued;
+use block::layout::Place;
+use block::refusal::Refusal;
+ghost use mathlib.Core.List.{List};
+ghost use mathlib.Core.Path.{_≡_};
+ghost use Prim.Native.Nat.{ℕ, _≤_, _<_};
+ghost use lib.ListN.{length};
+ghost use Rattle.block.specs.Layout.{blockBytes, maxStates, maxAgents, maxActions};
+ghost use Rattle.text.specs.Format.{Format, read};
+ghost use Rattle.text.specs.Job as J;
+ghost use Rattle.text.specs.Step.{resume, Inside, Fitting};
+
+// How many actions an agent has, and the step past its line.
+pub fn acts(text: &[u8], at: Step, job: &mut [u8], z: Sizes, s: usize, a: usize) -> Valued
+    requires { ⌜ Inside (now text) at × (length (now job) ≡ blockBytes) ⌝ }
+    requires { ⌜ Fitting z × ((s < maxStates) × (a < maxAgents)) ⌝ }
+    ensures { λ r. ⌜ ((f : ℕ → Format) → resume (now (text .entry)) at (read (J.actsLine z s a f) (now (job .entry))) ≡ resume (now (text .entry)) (r .next) (read (f (r .value)) (now (job .exit)))) ⌝ }
+    ensures { λ r. ⌜ Inside (now (text .entry)) (r .next) ⌝ }
+{
+    let named = past_word(text, at, b"acts,");
+    let state = past_index(text, named, s);
+    let agent = past_index(text, state, a);
+    let v = value_at(
+        text,
+        agent,
+        job,
+        Place::Count(s, a),
+        44,
+        1,
+        5,
+        Refusal::State,
+    );
+    let value = value_or(1, v);
+    let next = actions(text, past_value(v), job, z, s, a, value);
+    Valued { value, next }
+}

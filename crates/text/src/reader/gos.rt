@@ -1,0 +1,90 @@
+// The go lines of a state.
+use crate::joint::digit;
+use crate::joint::possible;
+use crate::reader::steps::past_field;
+use crate::reader::steps::past_index;
+use crate::reader::steps::past_word;
+use crate::sizes::Sizes;
+use crate::step::Step;
+use block::layout::Place;
+use block::refusal::Refusal;
+ghost use mathlib.Core.Bool.{cond};
+ghost use mathlib.Core.Path.{_≡_};
+ghost use Prim.Native.Nat.{ℕ, _≤_, _<_};
+ghost use lib.ListN.{length};
+ghost use Rattle.block.specs.Layout.{Block, blockBytes, maxStates, maxAgents, maxJoint};
+ghost use Rattle.text.specs.Format.{Format, read};
+ghost use Rattle.text.specs.Job as J;
+ghost use Rattle.text.specs.Step.{resume, Inside, Fitting};
+
+// The actions of a joint action, one for each of n agents.
+fn joint_fields(text: &[u8], at: Step, joint: usize, n: usize) -> Step
+    requires { ⌜ Inside (now text) at × (n ≤ maxAgents) ⌝ }
+    ensures { λ r. ⌜ ((f : Format) (b : Block) → resume (now (text .entry)) at (read (J.jointFields joint n 0 f) b) ≡ resume (now (text .entry)) r (read f b)) ⌝ }
+    ensures { λ r. ⌜ Inside (now (text .entry)) r ⌝ }
+{
+    let mut next = at;
+    let mut a = 0;
+    while a < n {
+        next = past_index(text, next, digit(joint, a));
+        a += 1;
+    }
+    next
+}
+
+fn go_line(text: &[u8], at: Step, job: &mut [u8], z: Sizes, s: usize, joint: usize) -> Step
+    requires { ⌜ Inside (now text) at × (length (now job) ≡ blockBytes) ⌝ }
+    requires { ⌜ Fitting z × ((s < maxStates) × (joint < maxJoint)) ⌝ }
+    ensures { λ r. ⌜ ((f : Format) → resume (now (text .entry)) at (read (J.goLine z s joint f) (now (job .entry))) ≡ resume (now (text .entry)) r (read f (now (job .exit)))) ⌝ }
+    ensures { λ r. ⌜ Inside (now (text .entry)) r ⌝ }
+{
+    let named = past_word(text, at, b"go,");
+    let state = past_index(text, named, s);
+    let acted = joint_fields(text, state, joint, z.agents);
+    past_field(
+        text,
+        acted,
+        job,
+        Place::Next(s, joint),
+        10,
+        0,
+        z.states,
+        Refusal::Next,
+    )
+}
+
+// The line of a joint action, where it can be done.
+fn go(
+    text: &[u8],
+    at: Step,
+    job: &mut [u8],
+    z: Sizes,
+    s: usize,
+    counts: [usize; 3],
+    joint: usize,
+) -> Step
+    requires { ⌜ Inside (now text) at × (length (now job) ≡ blockBytes) ⌝ }
+    requires { ⌜ Fitting z × ((s < maxStates) × (joint < maxJoint)) ⌝ }
+    ensures { λ r. ⌜ ((f : Format) → resume (now (text .entry)) at (read (cond (J.possible counts joint) (J.goLine z s joint f) f) (now (job .entry))) ≡ resume (now (text .entry)) r (read f (now (job .exit)))) ⌝ }
+    ensures { λ r. ⌜ Inside (now (text .entry)) r ⌝ }
+{
+    if possible(counts, joint) {
+        return go_line(text, at, job, z, s, joint);
+    }
+    at
+}
+
+pub fn gos(text: &[u8], at: Step, job: &mut [u8], z: Sizes, s: usize, counts: [usize; 3]) -> Step
+    requires { ⌜ Inside (now text) at × (length (now job) ≡ blockBytes) ⌝ }
+    requires { ⌜ Fitting z × (s < maxStates) ⌝ }
+    ensures { λ r. ⌜ ((f : Format) → resume (now (text .entry)) at (read (J.goLines z s counts maxJoint 0 f) (now (job .entry))) ≡ resume (now (text .entry)) r (read f (now (job .exit)))) ⌝ }
+    ensures { λ r. ⌜ Inside (now (text .entry)) r ⌝ }
+{
+    let mut next = at;
+    let mut joint = 0;
+    while joint < 64 {
+        next = go(text, next, job, z, s, counts, joint);
+        joint += 1;
+    }
+    next
+}

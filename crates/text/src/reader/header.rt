@@ -1,0 +1,71 @@
+// The first line.
+use crate::reader::steps::past_value;
+use crate::reader::steps::past_word;
+use crate::reader::steps::value_at;
+use crate::reader::steps::value_or;
+use crate::sizes::Sizes;
+use crate::step::Step;
+use crate::step::Valued;
+use block::layout::Place;
+use block::refusal::Refusal;
+ghost use mathlib.Core.Path.{_≡_};
+ghost use Prim.Native.Nat.{ℕ, suc, _≤_, _<_};
+ghost use lib.ListN.{length};
+ghost use Rattle.block.specs.Layout.{blockBytes};
+ghost use Rattle.text.specs.Format.{Format, read};
+ghost use Rattle.text.specs.Job as J;
+ghost use Rattle.text.specs.Step.{resume, Inside, Fitting};
+
+// The sizes of the job, or what stands in for them after a refusal, and the step past the line.
+pub struct Opened {
+    pub z: Sizes,
+    pub next: Step,
+}
+
+// A size, 1 to high, field f of the header.
+fn size(text: &[u8], at: Step, job: &mut [u8], f: usize, sep: usize, high: usize) -> Valued
+    requires { ⌜ Inside (now text) at × (length (now job) ≡ blockBytes) ⌝ }
+    requires { ⌜ (f < 5) × (0 < sep) × (sep < 48) × (1 ≤ high) × (high < 256) ⌝ }
+    ensures { λ r. ⌜ ((k : ℕ → Format) → resume (now (text .entry)) at (read (J.size sep f high k) (now (job .entry))) ≡ resume (now (text .entry)) (r .next) (read (k (r .value)) (now (job .exit)))) ⌝ }
+    ensures { λ r. ⌜ Inside (now (text .entry)) (r .next) × ((1 ≤ r .value) × (r .value ≤ high)) ⌝ }
+{
+    let v = value_at(
+        text,
+        at,
+        job,
+        Place::Header(f),
+        sep,
+        1,
+        high + 1,
+        Refusal::Sizes,
+    );
+    let value = value_or(1, v);
+    let next = past_value(v);
+    Valued { value, next }
+}
+
+pub fn header(text: &[u8], job: &mut [u8]) -> Opened
+    requires { ⌜ length (now job) ≡ blockBytes ⌝ }
+    ensures { λ r. ⌜ ((f : Sizes → Format) → read (J.headerLine f) (now (job .entry)) (now (text .entry)) ≡ resume (now (text .entry)) (r .next) (read (f (r .z)) (now (job .exit)))) ⌝ }
+    ensures { λ r. ⌜ Inside (now (text .entry)) (r .next) × Fitting (r .z) ⌝ }
+{
+    let named = past_word(text, Step::Next(0), b"job,");
+    let n = size(text, named, job, 0, 44, 3);
+    let after_n = n.next;
+    let r = size(text, after_n, job, 1, 44, 2);
+    let after_r = r.next;
+    let m = size(text, after_r, job, 2, 44, 24);
+    let after_m = m.next;
+    let p = size(text, after_m, job, 3, 44, 8);
+    let after_p = p.next;
+    let w = size(text, after_p, job, 4, 10, 32);
+    let next = w.next;
+    let z = Sizes {
+        agents: n.value,
+        resources: r.value,
+        states: m.value,
+        propositions: p.value,
+        rows: w.value,
+    };
+    Opened { z, next }
+}

@@ -1,0 +1,151 @@
+// The lines of the rows.
+use crate::reader::steps::kind_at;
+use crate::reader::steps::past_bound;
+use crate::reader::steps::past_field;
+use crate::reader::steps::past_value;
+use crate::reader::steps::value_or;
+use crate::sizes::Sizes;
+use crate::sizes::masks;
+use crate::step::Step;
+use block::layout::Place;
+use block::refusal::Refusal;
+ghost use mathlib.Core.Bool.{cond};
+ghost use mathlib.Core.Path.{_≡_};
+ghost use Prim.Native.Nat.{ℕ, _≤_, _<_};
+ghost use lib.ListN.{length};
+ghost use lib.Dec.{eqb};
+ghost use Rattle.block.specs.Layout.{blockBytes, maxRows, maxResources, propKind};
+ghost use Rattle.text.specs.Numeral.{comma, lineEnd};
+ghost use Rattle.text.specs.Format.{Format, value, read};
+ghost use Rattle.text.specs.Job as J;
+ghost use Rattle.text.specs.Step.{resume, Inside, Fitting};
+
+fn bounds(text: &[u8], at: Step, job: &mut [u8], i: usize, count: usize) -> Step
+    requires { ⌜ Inside (now text) at × (length (now job) ≡ blockBytes) ⌝ }
+    requires { ⌜ (i < maxRows) × (count ≤ maxResources) ⌝ }
+    ensures { λ r. ⌜ ((f : Format) → resume (now (text .entry)) at (read (J.boundFields i count 0 f) (now (job .entry))) ≡ resume (now (text .entry)) r (read f (now (job .exit)))) ⌝ }
+    ensures { λ r. ⌜ Inside (now (text .entry)) r ⌝ }
+{
+    let mut next = at;
+    let mut j = 0;
+    while j < count {
+        next = past_bound(text, next, job, Place::Field(i, 4 + j));
+        j += 1;
+    }
+    next
+}
+
+// The team and the bounds, where the kind has them.
+fn team(text: &[u8], at: Step, job: &mut [u8], z: Sizes, i: usize, k: usize) -> Step
+    requires { ⌜ Inside (now text) at × (length (now job) ≡ blockBytes) ⌝ }
+    requires { ⌜ Fitting z × (i < maxRows) ⌝ }
+    ensures { λ r. ⌜ ((f : Format) → resume (now (text .entry)) at (read (J.teamFields z i k f) (now (job .entry))) ≡ resume (now (text .entry)) r (read f (now (job .exit)))) ⌝ }
+    ensures { λ r. ⌜ Inside (now (text .entry)) r ⌝ }
+{
+    if k < 3 {
+        return at;
+    }
+    let limit = masks(z.agents);
+    let next = past_field(
+        text,
+        at,
+        job,
+        Place::Field(i, 3),
+        44,
+        1,
+        limit,
+        Refusal::Row,
+    );
+    bounds(text, next, job, i, z.resources)
+}
+
+fn binary(k: usize) -> bool
+    ensures { λ r. ⌜ r ≡ J.binary k ⌝ }
+{
+    if k == 2 {
+        return true;
+    }
+    k == 5
+}
+
+// The byte after the left field.
+fn left_end(k: usize) -> usize
+    ensures { λ r. ⌜ (r ≡ cond (J.binary k) comma lineEnd) × ((0 < r) × (r < 48)) ⌝ }
+{
+    if binary(k) {
+        return 44;
+    }
+    10
+}
+
+// What the left field must be below: the propositions or the row itself.
+fn left_limit(propositions: usize, i: usize, k: usize) -> usize
+    ensures { λ r. ⌜ r ≡ cond (eqb k propKind) propositions i ⌝ }
+{
+    if k == 0 {
+        return propositions;
+    }
+    i
+}
+
+// The right field, where the kind has one.
+fn right(text: &[u8], at: Step, job: &mut [u8], i: usize, k: usize) -> Step
+    requires { ⌜ Inside (now text) at × (length (now job) ≡ blockBytes) ⌝ }
+    requires { ⌜ i < maxRows ⌝ }
+    ensures { λ r. ⌜ ((f : Format) → resume (now (text .entry)) at (read (cond (J.binary k) (value (J.number lineEnd 0 i Refusal.Row) (Place.Field i 2) (λ v. f)) f) (now (job .entry))) ≡ resume (now (text .entry)) r (read f (now (job .exit)))) ⌝ }
+    ensures { λ r. ⌜ Inside (now (text .entry)) r ⌝ }
+{
+    if binary(k) {
+        return past_field(text, at, job, Place::Field(i, 2), 10, 0, i, Refusal::Row);
+    }
+    at
+}
+
+fn operands(text: &[u8], at: Step, job: &mut [u8], z: Sizes, i: usize, k: usize) -> Step
+    requires { ⌜ Inside (now text) at × (length (now job) ≡ blockBytes) ⌝ }
+    requires { ⌜ i < maxRows ⌝ }
+    ensures { λ r. ⌜ ((f : Format) → resume (now (text .entry)) at (read (J.operandFields z i k f) (now (job .entry))) ≡ resume (now (text .entry)) r (read f (now (job .exit)))) ⌝ }
+    ensures { λ r. ⌜ Inside (now (text .entry)) r ⌝ }
+{
+    let sep = left_end(k);
+    let limit = left_limit(z.propositions, i, k);
+    let next = past_field(
+        text,
+        at,
+        job,
+        Place::Field(i, 1),
+        sep,
+        0,
+        limit,
+        Refusal::Row,
+    );
+    right(text, next, job, i, k)
+}
+
+fn row(text: &[u8], at: Step, job: &mut [u8], z: Sizes, i: usize) -> Step
+    requires { ⌜ Inside (now text) at × (length (now job) ≡ blockBytes) ⌝ }
+    requires { ⌜ Fitting z × (i < maxRows) ⌝ }
+    ensures { λ r. ⌜ ((f : Format) → resume (now (text .entry)) at (read (J.rowLine z i f) (now (job .entry))) ≡ resume (now (text .entry)) r (read f (now (job .exit)))) ⌝ }
+    ensures { λ r. ⌜ Inside (now (text .entry)) r ⌝ }
+{
+    let v = kind_at(text, at, job, Place::Field(i, 0));
+    let k = value_or(0, v);
+    let next = team(text, past_value(v), job, z, i, k);
+    operands(text, next, job, z, i, k)
+}
+
+pub fn rows(text: &[u8], at: Step, job: &mut [u8], z: Sizes) -> Step
+    requires { ⌜ Inside (now text) at × (length (now job) ≡ blockBytes) ⌝ }
+    requires { ⌜ Fitting z ⌝ }
+    ensures { λ r. ⌜ ((f : Format) → resume (now (text .entry)) at (read (J.rowLines z (z .rows) 0 f) (now (job .entry))) ≡ resume (now (text .entry)) r (read f (now (job .exit)))) ⌝ }
+    ensures { λ r. ⌜ Inside (now (text .entry)) r ⌝ }
+{
+    let count = z.rows;
+    let mut next = at;
+    let mut i = 0;
+    while i < count {
+        next = row(text, next, job, z, i);
+        i += 1;
+    }
+    next
+}

@@ -1,0 +1,84 @@
+// The lines of the states.
+use crate::reader::agents::acts;
+use crate::reader::gos::gos;
+use crate::reader::steps::past_field;
+use crate::reader::steps::past_index;
+use crate::reader::steps::past_word;
+use crate::sizes::Sizes;
+use crate::sizes::masks;
+use crate::step::Step;
+use block::layout::Place;
+use block::refusal::Refusal;
+ghost use mathlib.Core.Path.{_≡_};
+ghost use Prim.Native.Nat.{ℕ, _≤_, _<_};
+ghost use lib.ListN.{length};
+ghost use Rattle.block.specs.Layout.{blockBytes, maxStates, maxJoint};
+ghost use Rattle.text.specs.Format.{Format, read};
+ghost use Rattle.text.specs.Job as J;
+ghost use Rattle.text.specs.Step.{resume, Inside, Fitting};
+
+fn state_line(text: &[u8], at: Step, job: &mut [u8], z: Sizes, s: usize) -> Step
+    requires { ⌜ Inside (now text) at × (length (now job) ≡ blockBytes) ⌝ }
+    requires { ⌜ Fitting z × (s < maxStates) ⌝ }
+    ensures { λ r. ⌜ ((f : Format) → resume (now (text .entry)) at (read (J.stateLine z s f) (now (job .entry))) ≡ resume (now (text .entry)) r (read f (now (job .exit)))) ⌝ }
+    ensures { λ r. ⌜ Inside (now (text .entry)) r ⌝ }
+{
+    let named = past_word(text, at, b"state,");
+    let state = past_index(text, named, s);
+    let limit = masks(z.propositions);
+    past_field(
+        text,
+        state,
+        job,
+        Place::Mask(s),
+        10,
+        0,
+        limit,
+        Refusal::State,
+    )
+}
+
+// The acts lines of the agents, then the go lines that their counts allow.
+fn moves(text: &[u8], at: Step, job: &mut [u8], z: Sizes, s: usize) -> Step
+    requires { ⌜ Inside (now text) at × (length (now job) ≡ blockBytes) ⌝ }
+    requires { ⌜ Fitting z × (s < maxStates) ⌝ }
+    ensures { λ r. ⌜ ((f : Format) → resume (now (text .entry)) at (read (J.agentLines z s (z .agents) 0 J.noCounts (λ counts. J.goLines z s counts maxJoint 0 f)) (now (job .entry))) ≡ resume (now (text .entry)) r (read f (now (job .exit)))) ⌝ }
+    ensures { λ r. ⌜ Inside (now (text .entry)) r ⌝ }
+{
+    let mut counts = [1usize; 3];
+    let mut next = at;
+    let mut a = 0;
+    while a < z.agents {
+        let agent = acts(text, next, job, z, s, a);
+        counts[a] = agent.value;
+        next = agent.next;
+        a += 1;
+    }
+    gos(text, next, job, z, s, counts)
+}
+
+fn state_lines(text: &[u8], at: Step, job: &mut [u8], z: Sizes, s: usize) -> Step
+    requires { ⌜ Inside (now text) at × (length (now job) ≡ blockBytes) ⌝ }
+    requires { ⌜ Fitting z × (s < maxStates) ⌝ }
+    ensures { λ r. ⌜ ((f : Format) → resume (now (text .entry)) at (read (J.stateLines z s f) (now (job .entry))) ≡ resume (now (text .entry)) r (read f (now (job .exit)))) ⌝ }
+    ensures { λ r. ⌜ Inside (now (text .entry)) r ⌝ }
+{
+    let next = state_line(text, at, job, z, s);
+    moves(text, next, job, z, s)
+}
+
+pub fn states(text: &[u8], at: Step, job: &mut [u8], z: Sizes) -> Step
+    requires { ⌜ Inside (now text) at × (length (now job) ≡ blockBytes) ⌝ }
+    requires { ⌜ Fitting z ⌝ }
+    ensures { λ r. ⌜ ((f : Format) → resume (now (text .entry)) at (read (J.states z (z .states) 0 f) (now (job .entry))) ≡ resume (now (text .entry)) r (read f (now (job .exit)))) ⌝ }
+    ensures { λ r. ⌜ Inside (now (text .entry)) r ⌝ }
+{
+    let count = z.states;
+    let mut next = at;
+    let mut s = 0;
+    while s < count {
+        next = state_lines(text, next, job, z, s);
+        s += 1;
+    }
+    next
+}

@@ -1,0 +1,100 @@
+// The acts lines of a state.
+use crate::writer::output::number;
+use crate::writer::output::word;
+use block::layout;
+ghost use mathlib.Core.List.{List, _++_};
+ghost use mathlib.Core.Path.{_≡_};
+ghost use Prim.Native.Nat.{ℕ, _+_, _≤_, _<_};
+ghost use lib.ListN.{take};
+ghost use Rattle.block.specs.Layout as L;
+ghost use Rattle.block.specs.Layout.{maxStates, maxAgents, maxActions};
+ghost use Rattle.block.specs.Valid.{Valid};
+ghost use Rattle.text.specs.Format.{Format, write};
+ghost use Rattle.text.specs.Job as J;
+ghost use Rattle.text.specs.Writing.{Past, Room, sizesOf, countsTo};
+
+// The byte after a cost: the line ends where none is left.
+fn cost_end(left: usize) -> u8
+    ensures { λ r. ⌜ r ≡ J.costEnd left ⌝ }
+{
+    if left == 0 {
+        return b'\n';
+    }
+    b','
+}
+
+// The costs of action k, which n further actions follow.
+fn costs(block: &[u8], text: &mut [u8], at: usize, s: usize, a: usize, n: usize, k: usize) -> usize
+    requires { ⌜ Valid (now block) × Room (now text) (at + 8) ⌝ }
+    requires { ⌜ (s < maxStates) × ((a < maxAgents) × ((k < maxActions) × (n < maxActions))) ⌝ }
+    ensures { λ r. ⌜ Past (now (block .entry)) (J.costs s a n k (L.resources (now (block .entry))) 0) (now (text .entry)) at (now (text .exit)) r × (r ≤ at + 8) ⌝ }
+{
+    let resources = layout::resources(block);
+    let mut next = at;
+    let mut j = 0;
+    while j < resources {
+        let sep = cost_end(n + (resources - (j + 1)));
+        next = number(text, next, layout::cost(block, s, a, k, j), sep);
+        j += 1;
+    }
+    next
+}
+
+fn actions(block: &[u8], text: &mut [u8], at: usize, s: usize, a: usize) -> usize
+    requires { ⌜ Valid (now block) × Room (now text) (at + 32) ⌝ }
+    requires { ⌜ (s < L.states (now block)) × (a < L.agents (now block)) ⌝ }
+    ensures { λ r. ⌜ Past (now (block .entry)) (J.actions (sizesOf (now (block .entry))) s a (L.count (now (block .entry)) s a) 0) (now (text .entry)) at (now (text .exit)) r × (r ≤ at + 32) ⌝ }
+{
+    let count = layout::count(block, s, a);
+    let mut next = at;
+    let mut k = 0;
+    while k < count {
+        next = costs(block, text, next, s, a, count - (k + 1), k);
+        k += 1;
+    }
+    next
+}
+
+// acts,s,a,count, and the costs.
+fn acts_line(block: &[u8], text: &mut [u8], at: usize, s: usize, a: usize) -> usize
+    requires { ⌜ Valid (now block) × Room (now text) (at + 47) ⌝ }
+    requires { ⌜ (s < L.states (now block)) × (a < L.agents (now block)) ⌝ }
+    ensures { λ r. ⌜ ((f : ℕ → Format) → take r (now (text .exit)) ++ write (f (L.count (now (block .entry)) s a)) (now (block .entry)) ≡ take at (now (text .entry)) ++ write (J.actsLine (sizesOf (now (block .entry))) s a f) (now (block .entry))) × (r ≤ at + 47) ⌝ }
+{
+    let state = word(text, at, b"acts,");
+    let agent = number(text, state, s, b',');
+    let count = number(text, agent, a, b',');
+    let costs = number(text, count, layout::count(block, s, a), b',');
+    actions(block, text, costs, s, a)
+}
+
+// The acts lines of all agents.
+pub fn agent_lines(block: &[u8], text: &mut [u8], at: usize, s: usize) -> usize
+    requires { ⌜ Valid (now block) × Room (now text) (at + 141) ⌝ }
+    requires { ⌜ s < L.states (now block) ⌝ }
+    ensures { λ r. ⌜ ((f : List ℕ → Format) → take r (now (text .exit)) ++ write (f (countsTo (now (block .entry)) s (L.agents (now (block .entry))))) (now (block .entry)) ≡ take at (now (text .entry)) ++ write (J.agentLines (sizesOf (now (block .entry))) s (L.agents (now (block .entry))) 0 J.noCounts f) (now (block .entry))) × (r ≤ at + 141) ⌝ }
+{
+    let agents = layout::agents(block);
+    let mut next = at;
+    let mut a = 0;
+    while a < agents {
+        next = acts_line(block, text, next, s, a);
+        a += 1;
+    }
+    next
+}
+
+// How many actions each agent has in state s; one that does not exist has one.
+pub fn counts(block: &[u8], s: usize) -> [usize; 3]
+    requires { ⌜ Valid (now block) × (s < maxStates) ⌝ }
+    ensures { λ r. ⌜ r ≡ countsTo (now (block .entry)) s (L.agents (now (block .entry))) ⌝ }
+{
+    let agents = layout::agents(block);
+    let mut counts = [1usize, 1usize, 1usize];
+    let mut a = 0;
+    while a < agents {
+        counts[a] = layout::count(block, s, a);
+        a += 1;
+    }
+    counts
+}

@@ -1,0 +1,90 @@
+// The lines of the rows.
+use crate::writer::output;
+use crate::writer::output::number;
+use block::layout;
+ghost use mathlib.Core.Path.{_≡_};
+ghost use Prim.Native.Nat.{_+_, _≤_, _<_};
+ghost use Rattle.block.specs.Layout as L;
+ghost use Rattle.block.specs.Layout.{maxRows};
+ghost use Rattle.block.specs.Valid.{Valid};
+ghost use Rattle.text.specs.Job as J;
+ghost use Rattle.text.specs.Writing.{Past, Room, sizesOf};
+
+// The bounds of row i.
+fn bounds(block: &[u8], text: &mut [u8], at: usize, i: usize) -> usize
+    requires { ⌜ Valid (now block) × Room (now text) (at + 8) ⌝ }
+    requires { ⌜ i < maxRows ⌝ }
+    ensures { λ r. ⌜ Past (now (block .entry)) (J.boundFields i (L.resources (now (block .entry))) 0) (now (text .entry)) at (now (text .exit)) r × (r ≤ at + 8) ⌝ }
+{
+    let resources = layout::resources(block);
+    let mut next = at;
+    let mut j = 0;
+    while j < resources {
+        next = output::bound(text, next, layout::bound(block, i, j));
+        j += 1;
+    }
+    next
+}
+
+// The team and the bounds, where the kind has them.
+fn team_fields(block: &[u8], text: &mut [u8], at: usize, i: usize, k: usize) -> usize
+    requires { ⌜ Valid (now block) × Room (now text) (at + 12) ⌝ }
+    requires { ⌜ i < maxRows ⌝ }
+    ensures { λ r. ⌜ Past (now (block .entry)) (J.teamFields (sizesOf (now (block .entry))) i k) (now (text .entry)) at (now (text .exit)) r × (r ≤ at + 12) ⌝ }
+{
+    if 3 <= k {
+        let next = number(text, at, layout::team(block, i), b',');
+        return bounds(block, text, next, i);
+    }
+    at
+}
+
+fn binary(k: usize) -> bool
+    ensures { λ r. ⌜ r ≡ J.binary k ⌝ }
+{
+    if k == 2 {
+        return true;
+    }
+    k == 5
+}
+
+// The proposition or lower row, and the right row where the kind has one.
+fn operand_fields(block: &[u8], text: &mut [u8], at: usize, i: usize, k: usize) -> usize
+    requires { ⌜ Valid (now block) × Room (now text) (at + 8) ⌝ }
+    requires { ⌜ i < maxRows ⌝ }
+    ensures { λ r. ⌜ Past (now (block .entry)) (J.operandFields (sizesOf (now (block .entry))) i k) (now (text .entry)) at (now (text .exit)) r × (r ≤ at + 8) ⌝ }
+{
+    let left = layout::left(block, i);
+    if binary(k) {
+        let next = number(text, at, left, b',');
+        return number(text, next, layout::right(block, i), b'\n');
+    }
+    number(text, at, left, b'\n')
+}
+
+// A row: its word, team and bounds, operands.
+fn row_line(block: &[u8], text: &mut [u8], at: usize, i: usize) -> usize
+    requires { ⌜ Valid (now block) × Room (now text) (at + 27) ⌝ }
+    requires { ⌜ i < L.rows (now block) ⌝ }
+    ensures { λ r. ⌜ Past (now (block .entry)) (J.rowLine (sizesOf (now (block .entry))) i) (now (text .entry)) at (now (text .exit)) r × (r ≤ at + 27) ⌝ }
+{
+    let k = layout::kind(block, i);
+    let team = output::kind(text, at, k);
+    let operands = team_fields(block, text, team, i, k);
+    operand_fields(block, text, operands, i, k)
+}
+
+// The lines of all rows.
+pub fn row_lines(block: &[u8], text: &mut [u8], at: usize) -> usize
+    requires { ⌜ Valid (now block) × Room (now text) (at + 864) ⌝ }
+    ensures { λ r. ⌜ Past (now (block .entry)) (J.rowLines (sizesOf (now (block .entry))) (L.rows (now (block .entry))) 0) (now (text .entry)) at (now (text .exit)) r × (r ≤ at + 864) ⌝ }
+{
+    let rows = layout::rows(block);
+    let mut next = at;
+    let mut i = 0;
+    while i < rows {
+        next = row_line(block, text, next, i);
+        i += 1;
+    }
+    next
+}

@@ -1,0 +1,110 @@
+// The lines of a state.
+use crate::joint;
+use crate::writer::agents::agent_lines;
+use crate::writer::agents::counts;
+use crate::writer::output::number;
+use crate::writer::output::word;
+use block::layout;
+ghost use mathlib.Core.Bool.{cond};
+ghost use Prim.Native.Nat.{_+_, _≤_, _<_};
+ghost use Rattle.block.specs.Layout as L;
+ghost use Rattle.block.specs.Layout.{maxStates, maxJoint};
+ghost use Rattle.block.specs.Valid.{Valid};
+ghost use Rattle.text.specs.Job as J;
+ghost use Rattle.text.specs.Writing.{Past, Room, sizesOf};
+
+// state,s,mask
+fn state_line(block: &[u8], text: &mut [u8], at: usize, s: usize) -> usize
+    requires { ⌜ Valid (now block) × Room (now text) (at + 13) ⌝ }
+    requires { ⌜ s < maxStates ⌝ }
+    ensures { λ r. ⌜ Past (now (block .entry)) (J.stateLine (sizesOf (now (block .entry))) s) (now (text .entry)) at (now (text .exit)) r × (r ≤ at + 13) ⌝ }
+{
+    let state = word(text, at, b"state,");
+    let mask = number(text, state, s, b',');
+    number(text, mask, layout::mask(block, s), b'\n')
+}
+
+// One action per agent.
+fn joint_fields(block: &[u8], text: &mut [u8], at: usize, joint: usize) -> usize
+    requires { ⌜ Valid (now block) × Room (now text) (at + 8) ⌝ }
+    ensures { λ r. ⌜ Past (now (block .entry)) (J.jointFields joint (L.agents (now (block .entry))) 0) (now (text .entry)) at (now (text .exit)) r × (r ≤ at + 6) ⌝ }
+{
+    let agents = layout::agents(block);
+    let mut next = at;
+    let mut a = 0;
+    while a < agents {
+        next = number(text, next, joint::digit(joint, a), b',');
+        a += 1;
+    }
+    next
+}
+
+// go,s, the actions, and the next state.
+fn go_line(block: &[u8], text: &mut [u8], at: usize, s: usize, joint: usize) -> usize
+    requires { ⌜ Valid (now block) × Room (now text) (at + 16) ⌝ }
+    requires { ⌜ (s < maxStates) × (joint < maxJoint) ⌝ }
+    ensures { λ r. ⌜ Past (now (block .entry)) (J.goLine (sizesOf (now (block .entry))) s joint) (now (text .entry)) at (now (text .exit)) r × (r ≤ at + 16) ⌝ }
+{
+    let state = word(text, at, b"go,");
+    let actions = number(text, state, s, b',');
+    let next = joint_fields(block, text, actions, joint);
+    number(text, next, layout::next(block, s, joint), b'\n')
+}
+
+// The line of a joint action that can be done with these counts.
+fn go_line_if(
+    block: &[u8],
+    text: &mut [u8],
+    at: usize,
+    s: usize,
+    counts: [usize; 3],
+    joint: usize,
+) -> usize
+    requires { ⌜ Valid (now block) × Room (now text) (at + 16) ⌝ }
+    requires { ⌜ (s < maxStates) × (joint < maxJoint) ⌝ }
+    ensures { λ r. ⌜ Past (now (block .entry)) (λ f. cond (J.possible counts joint) (J.goLine (sizesOf (now (block .entry))) s joint f) f) (now (text .entry)) at (now (text .exit)) r × (r ≤ at + 16) ⌝ }
+{
+    if joint::possible(counts, joint) {
+        return go_line(block, text, at, s, joint);
+    }
+    at
+}
+
+fn go_lines(block: &[u8], text: &mut [u8], at: usize, s: usize, counts: [usize; 3]) -> usize
+    requires { ⌜ Valid (now block) × Room (now text) (at + 1024) ⌝ }
+    requires { ⌜ s < maxStates ⌝ }
+    ensures { λ r. ⌜ Past (now (block .entry)) (J.goLines (sizesOf (now (block .entry))) s counts maxJoint 0) (now (text .entry)) at (now (text .exit)) r × (r ≤ at + 1024) ⌝ }
+{
+    let mut next = at;
+    let mut joint = 0;
+    while joint < 64 {
+        next = go_line_if(block, text, next, s, counts, joint);
+        joint += 1;
+    }
+    next
+}
+
+fn state_lines(block: &[u8], text: &mut [u8], at: usize, s: usize) -> usize
+    requires { ⌜ Valid (now block) × Room (now text) (at + 1178) ⌝ }
+    requires { ⌜ s < L.states (now block) ⌝ }
+    ensures { λ r. ⌜ Past (now (block .entry)) (J.stateLines (sizesOf (now (block .entry))) s) (now (text .entry)) at (now (text .exit)) r × (r ≤ at + 1178) ⌝ }
+{
+    let agents = state_line(block, text, at, s);
+    let go = agent_lines(block, text, agents, s);
+    go_lines(block, text, go, s, counts(block, s))
+}
+
+// The lines of all states.
+pub fn states(block: &[u8], text: &mut [u8], at: usize) -> usize
+    requires { ⌜ Valid (now block) × Room (now text) (at + 28272) ⌝ }
+    ensures { λ r. ⌜ Past (now (block .entry)) (J.states (sizesOf (now (block .entry))) (L.states (now (block .entry))) 0) (now (text .entry)) at (now (text .exit)) r × (r ≤ at + 28272) ⌝ }
+{
+    let count = layout::states(block);
+    let mut next = at;
+    let mut s = 0;
+    while s < count {
+        next = state_lines(block, text, next, s);
+        s += 1;
+    }
+    next
+}
