@@ -1,0 +1,9 @@
+-- The rows of a block.
+pub mod Reading
+pub mod Passing
+pub mod Numbering
+pub mod Formulas
+pub mod Tables
+pub mod Labels
+pub mod Tests
+pub mod Rowwise

@@ -1,0 +1,100 @@
+-- The rows of a block: what each kind of row says in terms of lower rows, and for a strategic row that it is true exactly
+-- where the coalition wins at full stock. Assumes nothing.
+use mathlib.Core.Bool.{Bool, cond}
+use mathlib.Core.Logic.{_↔_, inl, inr}
+use mathlib.Core.Path.{_≡_, sym, _∙_, ap, ap₂, subst₂}
+use Prim.Native.Nat.{ℕ, zero, suc, _<_}
+use native.Mathlib.Decide.{ℕ-discrete}
+use native.Mathlib.Omega.{arith}
+use lib.Dec.{eqb}
+use borrow.Author.Tests.{eq-eqb, ne-eqb}
+use Rattle.block.specs.Layout as L
+use Rattle.block.specs.Layout.{Block, Strategic}
+use Rattle.block.specs.Valid.{RowFits}
+use Rattle.game.specs.Rbatl as R
+use Rattle.game.specs.Rbatl.{Formula, Sat, Can}
+use Rattle.game.specs.Position.{full}
+use Rattle.game.specs.Play as P
+use Rattle.game.specs.Play.{Objective, True, CoalitionWins}
+use Rattle.game.specs.Model.{structureOf, coalitionOf, boundsOf, byKind, formulasBelow, formulaOf, RowTrue, arenaOf, objectiveOf}
+use Rattle.game.proofs.Bridge.Truth.{can-enforces}
+use Rattle.game.proofs.Bridge.Proper.{Proper}
+
+-- the formulas below row i are those of their own rows
+pub below-formula : (b : Block) (i j : ℕ) → j < i → formulasBelow b i j ≡ formulaOf b j
+below-formula b zero j l = absurd (omega arith)
+below-formula b (suc i) j l = go (ℕ-discrete j i) (below-formula b i j)
+  where
+    go : Dec (j ≡ i) → (j < i → formulasBelow b i j ≡ formulaOf b j) → formulasBelow b (suc i) j ≡ formulaOf b j
+    go (yes e) _ = ap (λ (t : Bool). cond t (formulaOf b i) (formulasBelow b i j)) (eq-eqb j i e) ∙ ap (formulaOf b) (sym e)
+    go (no e) lower = ap (λ (t : Bool). cond t (formulaOf b i) (formulasBelow b i j)) (ne-eqb j i e) ∙ lower (omega arith)
+
+module _ (b : Block) (proper : Proper (structureOf b)) (i : ℕ) (row : RowFits b i) where
+  -- the lower rows' formulas are their own
+  left-formula : L.propKind < L.kind b i → formulasBelow b i (L.left b i) ≡ formulaOf b (L.left b i)
+  left-formula strict = below-formula b i (L.left b i) (row .left-lower strict)
+
+  right-formula : L.Binary (L.kind b i) → formulasBelow b i (L.right b i) ≡ formulaOf b (L.right b i)
+  right-formula binary = below-formula b i (L.right b i) (row .right-lower binary)
+
+  abbrev standsFor : ℕ → Formula
+  standsFor k =
+      let left = formulasBelow b i (L.left b i) in
+      let right = formulasBelow b i (L.right b i) in
+      byKind k
+      (R.prop (L.left b i)) (R.not left) (R.or left right)
+      (R.next (coalitionOf b i) (boundsOf b i) left) (R.always (coalitionOf b i) (boundsOf b i) left) (R.until (coalitionOf b i) (boundsOf b i) left right)
+
+  -- the formula of a row of each kind
+  pub prop-formula : L.kind b i ≡ L.propKind → formulaOf b i ≡ R.prop (L.left b i)
+  prop-formula e = ap standsFor e
+
+  pub not-formula : L.kind b i ≡ L.notKind → formulaOf b i ≡ R.not (formulaOf b (L.left b i))
+  not-formula e = ap standsFor e ∙ ap R.not (left-formula (omega arith))
+
+  pub or-formula : L.kind b i ≡ L.orKind → formulaOf b i ≡ R.or (formulaOf b (L.left b i)) (formulaOf b (L.right b i))
+  or-formula e = ap standsFor e ∙ ap₂ R.or (left-formula (omega arith)) (right-formula (inl e))
+
+  pub next-formula : L.kind b i ≡ L.nextKind → formulaOf b i ≡ R.next (coalitionOf b i) (boundsOf b i) (formulaOf b (L.left b i))
+  next-formula e = ap standsFor e ∙ ap (R.next (coalitionOf b i) (boundsOf b i)) (left-formula (omega arith))
+
+  pub always-formula : L.kind b i ≡ L.alwaysKind → formulaOf b i ≡ R.always (coalitionOf b i) (boundsOf b i) (formulaOf b (L.left b i))
+  always-formula e = ap standsFor e ∙ ap (R.always (coalitionOf b i) (boundsOf b i)) (left-formula (omega arith))
+
+  pub until-formula : L.kind b i ≡ L.untilKind → formulaOf b i ≡ R.until (coalitionOf b i) (boundsOf b i) (formulaOf b (L.left b i)) (formulaOf b (L.right b i))
+  until-formula e = ap standsFor e ∙ ap₂ (R.until (coalitionOf b i) (boundsOf b i)) (left-formula (omega arith)) (right-formula (inr e))
+
+  -- what a strategic row asks of a play
+  abbrev asksFor : ℕ → Objective
+  asksFor k =
+      let left = RowTrue b (L.left b i) in
+      let right = RowTrue b (L.right b i) in
+      cond (eqb k L.nextKind) (P.next left) (cond (eqb k L.alwaysKind) (P.always left) (P.until left right))
+
+  pub next-objective : L.kind b i ≡ L.nextKind → objectiveOf b i ≡ P.next (RowTrue b (L.left b i))
+  next-objective e = ap asksFor e
+
+  pub always-objective : L.kind b i ≡ L.alwaysKind → objectiveOf b i ≡ P.always (RowTrue b (L.left b i))
+  always-objective e = ap asksFor e
+
+  pub until-objective : L.kind b i ≡ L.untilKind → objectiveOf b i ≡ P.until (RowTrue b (L.left b i)) (RowTrue b (L.right b i))
+  until-objective e = ap asksFor e
+
+  -- a strategic row is true exactly where the coalition wins at full stock
+  pub row-wins : Strategic (L.kind b i) → (q : ℕ) → q < L.states b → RowTrue b i q ↔ CoalitionWins (arenaOf b i) (objectiveOf b i) (full (arenaOf b i) q)
+  row-wins strategic q l = go (ℕ-discrete (L.kind b i) L.nextKind) (ℕ-discrete (L.kind b i) L.alwaysKind)
+    where
+      wins : (φ : Formula) (t : Objective) → formulaOf b i ≡ φ → objectiveOf b i ≡ t
+          → (Sat (structureOf b) φ q ↔ CoalitionWins (arenaOf b i) t (full (arenaOf b i) q))
+          → RowTrue b i q ↔ CoalitionWins (arenaOf b i) (objectiveOf b i) (full (arenaOf b i) q)
+      wins φ t formula objective = subst₂ (λ (φ : Formula) (t : Objective). Sat (structureOf b) φ q ↔ CoalitionWins (arenaOf b i) t (full (arenaOf b i) q)) (sym formula) (sym objective)
+
+      at : (t : Objective) → Can (structureOf b) (coalitionOf b i) (boundsOf b i) (True t) q ↔ CoalitionWins (arenaOf b i) t (full (arenaOf b i) q)
+      at t = can-enforces (arenaOf b i) proper (True t) q l
+
+      go : Dec (L.kind b i ≡ L.nextKind) → Dec (L.kind b i ≡ L.alwaysKind) → RowTrue b i q ↔ CoalitionWins (arenaOf b i) (objectiveOf b i) (full (arenaOf b i) q)
+      go (yes e) _ = wins _ _ (next-formula e) (next-objective e) (at (P.next (RowTrue b (L.left b i))))
+      go (no _) (yes e) = wins _ _ (always-formula e) (always-objective e) (at (P.always (RowTrue b (L.left b i))))
+      go (no ne) (no na) =
+          let e : L.kind b i ≡ L.untilKind = omega arith in
+          wins _ _ (until-formula e) (until-objective e) (at (P.until (RowTrue b (L.left b i)) (RowTrue b (L.right b i))))

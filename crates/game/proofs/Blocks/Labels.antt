@@ -1,0 +1,162 @@
+-- A row's set from the sets of lower rows: directly for prop, not and or, and from a table with the local facts for next, always and
+-- until. Assumes nothing.
+use mathlib.Core.Bool.{Bool, true, false, cond}
+use mathlib.Core.Logic.{_⊎_, _↔_, inl, inr}
+use mathlib.Core.Path.{_≡_, sym, subst}
+use Prim.Native.Nat.{ℕ, _/_, _%_, _^_, _≤_, _<_}
+use native.Mathlib.Nat.{div-eq-of-lt, pow-le-pow-right}
+use native.Mathlib.Omega.{arith}
+use lib.Dec.{T, eqb}
+use Rattle.block.specs.Decide.{Bit}
+use Rattle.block.specs.Layout as L
+use Rattle.block.specs.Layout.{Block, Strategic}
+use Rattle.block.specs.Valid.{RowFits}
+use Rattle.game.specs.Rbatl.{Formula, Sat}
+use Rattle.game.specs.Position.{Arena, full}
+use Rattle.game.specs.Play.{Objective, next, always, until}
+use Rattle.game.specs.Table.{Table}
+use Rattle.game.specs.Facts.{Claims, Facts}
+use Rattle.game.specs.Model.{bit, structureOf, RowTrue, RowSet, arenaOf, objectiveOf}
+use Rattle.game.proofs.Numbers.Decide.{all-below, both?, by-test, either?, eq?, from-yes, implies?, isYes, lt?, not?}
+use Rattle.game.proofs.Bridge.Proper.{Proper}
+use Rattle.game.proofs.Local.Lower.{Tells, Retold, same-next, same-always, same-until, retold}
+use Rattle.game.proofs.Local.Decidable.{claims?}
+use Rattle.game.proofs.Local.Certificate.{RowsDecided, table?, certified}
+use Rattle.game.proofs.Blocks.Formulas.{prop-formula, not-formula, or-formula, row-wins}
+use Rattle.game.proofs.Bridge.Truth.{full-fits}
+use Rattle.game.proofs.Whole.Decided.{claims-win, wins-claimed}
+
+-- a word that says of each state whether Q holds there, and has no other bits
+abbrev pub Says : Block → ℕ → (ℕ → Type 0) → Type 0
+Says b w Q = (w < 2 ^ 32) × ((w < 2 ^ L.states b) × ((s : ℕ) → s < L.states b → (Bit w s → Q s) × (Q s → Bit w s)))
+
+abbrev pub says? : (b : Block) (w : ℕ) (Q : ℕ → Type 0) → ((s : ℕ) → s < L.states b → Dec (Q s)) → Dec (Says b w Q)
+says? b w Q Q? =
+    both? (lt? w (2 ^ 32)) λ _.
+    both? (lt? w (2 ^ L.states b)) λ _.
+    all-below (λ s. (Bit w s → Q s) × (Q s → Bit w s)) (L.states b) λ s l.
+    both? (implies? (eq? (w / 2 ^ s % 2) 1) (λ _. Q? s l)) (λ _. implies? (Q? s l) (λ _. eq? (w / 2 ^ s % 2) 1))
+
+no-bit : (n w s : ℕ) → w < 2 ^ n → n ≤ s → Bit w s → ⊥
+no-bit n w s l h set =
+    let larger : 2 ^ n ≤ 2 ^ s = pow-le-pow-right {n = 2} (omega arith) h in
+    let none : w / 2 ^ s ≡ 0 = div-eq-of-lt (omega arith) in
+    omega arith
+
+pub says-set : (b : Block) (i w : ℕ) (Q : ℕ → Type 0) → ((q : ℕ) → q < L.states b → Q q ↔ RowTrue b i q) → Says b w Q → RowSet b i w
+says-set b i w Q tells (word, (few, says)) = (word, λ s. (λ set. go s set (lt? s (L.states b)), λ (l, h). says s l .1 (tells s l .1 h)))
+  where
+    go : (s : ℕ) → Bit w s → Dec (s < L.states b) → (s < L.states b) × RowTrue b i s
+    go s set (yes l) = (l, tells s l .0 (says s l .0 set))
+    go s set (no h) = absurd (no-bit (L.states b) w s few (omega arith) set)
+
+-- the set of a lower row tells its truth
+pub set-tells : (b : Block) (i w : ℕ) → RowSet b i w → (q : ℕ) → q < L.states b → Bit w q ↔ RowTrue b i q
+set-tells b i w set q l = ((λ h. set .1 q .0 h .1), λ h. set .1 q .1 (l, h))
+
+-- a row whose set is known is decided in every state
+abbrev pub decided-by-set : (b : Block) (i w : ℕ) → RowSet b i w → (q : ℕ) → q < L.states b → Dec (RowTrue b i q)
+decided-by-set b i w set q l = elim (eq? (w / 2 ^ q % 2) 1) [ yes h ↦ yes (set-tells b i w set q l .0 h) | no fails ↦ no (λ h. fails (set-tells b i w set q l .1 h)) ]
+
+abbrev pub decided-by-sets : (b : Block) (i w₁ w₂ : ℕ) → RowSet b (L.left b i) w₁ → RowSet b (L.right b i) w₂ → RowsDecided (arenaOf b i) (objectiveOf b i)
+decided-by-sets b i w₁ w₂ left right = go (eqb (L.kind b i) L.nextKind) (eqb (L.kind b i) L.alwaysKind)
+  where
+    go : (t u : Bool) → RowsDecided (arenaOf b i) (cond t (next (RowTrue b (L.left b i))) (cond u (always (RowTrue b (L.left b i))) (until (RowTrue b (L.left b i)) (RowTrue b (L.right b i)))))
+    go true u = decided-by-set b (L.left b i) w₁ left
+    go false true = decided-by-set b (L.left b i) w₁ left
+    go false false = (decided-by-set b (L.left b i) w₁ left, decided-by-set b (L.right b i) w₂ right)
+
+-- what a strategic row asks of a play, with lower rows told by their sets
+abbrev pub objectiveBy : ℕ → ℕ → ℕ → Objective
+objectiveBy k w₁ w₂ = cond (eqb k L.nextKind) (next (Bit w₁)) (cond (eqb k L.alwaysKind) (always (Bit w₁)) (until (Bit w₁) (Bit w₂)))
+
+abbrev pub bits-decided : (G : Arena) (k w₁ w₂ : ℕ) → RowsDecided G (objectiveBy k w₁ w₂)
+bits-decided G k w₁ w₂ = go (eqb k L.nextKind) (eqb k L.alwaysKind)
+  where
+    go : (t u : Bool) → RowsDecided G (cond t (next (Bit w₁)) (cond u (always (Bit w₁)) (until (Bit w₁) (Bit w₂))))
+    go true u = λ q _. eq? (w₁ / 2 ^ q % 2) 1
+    go false true = λ q _. eq? (w₁ / 2 ^ q % 2) 1
+    go false false = ((λ q _. eq? (w₁ / 2 ^ q % 2) 1), λ q _. eq? (w₂ / 2 ^ q % 2) 1)
+
+module _ (b : Block) (proper : Proper (structureOf b)) (i : ℕ) where
+  module _ (w₁ w₂ : ℕ) (left : RowSet b (L.left b i) w₁) (right : RowSet b (L.right b i) w₂) where
+    retold-row : Retold (arenaOf b i) (objectiveBy (L.kind b i) w₁ w₂) (objectiveOf b i)
+    retold-row = go (eqb (L.kind b i) L.nextKind) (eqb (L.kind b i) L.alwaysKind)
+      where
+        l : Tells (arenaOf b i) (Bit w₁) (RowTrue b (L.left b i))
+        l = set-tells b (L.left b i) w₁ left
+
+        r : Tells (arenaOf b i) (Bit w₂) (RowTrue b (L.right b i))
+        r = set-tells b (L.right b i) w₂ right
+
+        go : (t u : Bool) → Retold (arenaOf b i)
+            (cond t (next (Bit w₁)) (cond u (always (Bit w₁)) (until (Bit w₁) (Bit w₂))))
+            (cond t (next (RowTrue b (L.left b i))) (cond u (always (RowTrue b (L.left b i))) (until (RowTrue b (L.left b i)) (RowTrue b (L.right b i)))))
+        go true u = same-next l
+        go false true = same-always l
+        go false false = same-until l r
+
+    -- a table that passes the tests over the lower rows' sets has the facts of its row
+    pub row-facts : (X : Table) → T (isYes (table? (arenaOf b i) proper X (objectiveBy (L.kind b i) w₁ w₂) (bits-decided (arenaOf b i) (L.kind b i) w₁ w₂))) → Facts (arenaOf b i) X (objectiveOf b i)
+    row-facts X passes = retold (arenaOf b i) proper X retold-row (certified (arenaOf b i) proper X (objectiveBy (L.kind b i) w₁ w₂) (bits-decided (arenaOf b i) (L.kind b i) w₁ w₂) passes)
+
+  module _ (row : RowFits b i) where
+    -- prop, not and or
+    prop-set : (w : ℕ) → L.kind b i ≡ L.propKind → Says b w (λ s. T (bit (L.mask b s) (L.left b i))) → RowSet b i w
+    prop-set w e = says-set b i w _ λ q _. told q
+      where
+        told : (q : ℕ) → T (bit (L.mask b q) (L.left b i)) ↔ RowTrue b i q
+        told q = subst (λ (φ : Formula). T (bit (L.mask b q) (L.left b i)) ↔ Sat (structureOf b) φ q) (sym (prop-formula b proper i row e)) ((λ h. h), λ h. h)
+
+    not-set : (w w₁ : ℕ) → L.kind b i ≡ L.notKind → RowSet b (L.left b i) w₁ → Says b w (λ s. Bit w₁ s → ⊥) → RowSet b i w
+    not-set w w₁ e left = says-set b i w (λ s. Bit w₁ s → ⊥) told
+      where
+        told : (q : ℕ) → q < L.states b → (Bit w₁ q → ⊥) ↔ RowTrue b i q
+        told q l =
+            let lower = set-tells b (L.left b i) w₁ left q l in
+            subst (λ (φ : Formula). (Bit w₁ q → ⊥) ↔ Sat (structureOf b) φ q) (sym (not-formula b proper i row e))
+            ((λ fails h. fails (lower .1 h)), λ fails set. fails (lower .0 set))
+
+    or-set : (w w₁ w₂ : ℕ) → L.kind b i ≡ L.orKind → RowSet b (L.left b i) w₁ → RowSet b (L.right b i) w₂ → Says b w (λ s. Bit w₁ s ⊎ Bit w₂ s) → RowSet b i w
+    or-set w w₁ w₂ e left right = says-set b i w (λ s. Bit w₁ s ⊎ Bit w₂ s) told
+      where
+        told : (q : ℕ) → q < L.states b → (Bit w₁ q ⊎ Bit w₂ q) ↔ RowTrue b i q
+        told q l =
+            let lower = set-tells b (L.left b i) w₁ left q l in
+            let lower′ = set-tells b (L.right b i) w₂ right q l in
+            subst (λ (φ : Formula). (Bit w₁ q ⊎ Bit w₂ q) ↔ Sat (structureOf b) φ q) (sym (or-formula b proper i row e))
+            ((elim [ inl h ↦ inl (lower .0 h) | inr h ↦ inr (lower′ .0 h) ]), (elim [ inl h ↦ inl (lower .1 h) | inr h ↦ inr (lower′ .1 h) ]))
+
+    -- next, always and until: what the table claims at full stock
+    table-says-set : (w : ℕ) (X : Table) → Strategic (L.kind b i) → Facts (arenaOf b i) X (objectiveOf b i) → Says b w (λ s. Claims (arenaOf b i) X (objectiveOf b i) (full (arenaOf b i) s)) → RowSet b i w
+    table-says-set w X strategic facts = says-set b i w _ λ q l.
+        let G = arenaOf b i in
+        let t = objectiveOf b i in
+        let fits = full-fits G q l in
+        let wins = row-wins b proper i row strategic q l in
+        ((λ claim. wins .1 (claims-win G proper X t facts (full G q) fits claim)), λ h. wins-claimed G proper X t facts (full G q) fits (wins .0 h))
+
+    -- the same with the word tested by computation
+    abbrev pub prop? : (w : ℕ) → Dec (Says b w (λ s. T (bit (L.mask b s) (L.left b i))))
+    prop? w = says? b w (λ s. T (bit (L.mask b s) (L.left b i))) (λ s _. by-test (bit (L.mask b s) (L.left b i)) (λ h. h) (λ h. h))
+
+    pub prop-row : (w : ℕ) → L.kind b i ≡ L.propKind → T (isYes (prop? w)) → RowSet b i w
+    prop-row w e passes = prop-set w e (from-yes (prop? w) passes)
+
+    abbrev pub not-says? : (w w₁ : ℕ) → Dec (Says b w (λ s. Bit w₁ s → ⊥))
+    not-says? w w₁ = says? b w (λ s. Bit w₁ s → ⊥) (λ s _. not? (eq? (w₁ / 2 ^ s % 2) 1))
+
+    pub not-row : (w w₁ : ℕ) → L.kind b i ≡ L.notKind → RowSet b (L.left b i) w₁ → T (isYes (not-says? w w₁)) → RowSet b i w
+    not-row w w₁ e left passes = not-set w w₁ e left (from-yes (not-says? w w₁) passes)
+
+    abbrev pub or? : (w w₁ w₂ : ℕ) → Dec (Says b w (λ s. Bit w₁ s ⊎ Bit w₂ s))
+    or? w w₁ w₂ = says? b w (λ s. Bit w₁ s ⊎ Bit w₂ s) (λ s _. either? (eq? (w₁ / 2 ^ s % 2) 1) (λ _. eq? (w₂ / 2 ^ s % 2) 1))
+
+    pub or-row : (w w₁ w₂ : ℕ) → L.kind b i ≡ L.orKind → RowSet b (L.left b i) w₁ → RowSet b (L.right b i) w₂ → T (isYes (or? w w₁ w₂)) → RowSet b i w
+    or-row w w₁ w₂ e left right passes = or-set w w₁ w₂ e left right (from-yes (or? w w₁ w₂) passes)
+
+    abbrev pub claimed? : (w : ℕ) (X : Table) → Dec (Says b w (λ s. Claims (arenaOf b i) X (objectiveOf b i) (full (arenaOf b i) s)))
+    claimed? w X = says? b w (λ s. Claims (arenaOf b i) X (objectiveOf b i) (full (arenaOf b i) s)) (λ s _. claims? (arenaOf b i) X (objectiveOf b i) (full (arenaOf b i) s))
+
+    pub strategic-row : (w : ℕ) (X : Table) → Strategic (L.kind b i) → Facts (arenaOf b i) X (objectiveOf b i) → T (isYes (claimed? w X)) → RowSet b i w
+    strategic-row w X strategic facts passes = table-says-set w X strategic facts (from-yes (claimed? w X) passes)

@@ -1,0 +1,6 @@
+-- Between document 003 and positions: moves, plays and computations, strategies, truth.
+pub mod Proper
+pub mod Moves
+pub mod Plays
+pub mod Strategies
+pub mod Truth

@@ -1,0 +1,7 @@
+-- What needs numbers alone: ranks along a play, stocks, the digits of a joint action, counting.
+pub mod Ranks
+pub mod Decide
+pub mod Pigeonhole
+pub mod Joint
+pub mod Stocks
+pub mod Counting

@@ -1,0 +1,6 @@
+-- Ranks that have the local facts: what lowering in place keeps, and that it comes to rest.
+pub mod Exist
+pub mod Sides
+pub mod Sweeping
+pub mod Solver
+pub mod Determined

@@ -1,0 +1,9 @@
+-- What a formula row means (document 003), and what a row's table says about whole plays (document 01, "When a row is true").
+pub mod Rbatl
+pub mod Position
+pub mod Play
+pub mod Table
+pub mod Facts
+pub mod Sweep
+pub mod Model
+pub mod Catch

@@ -1,0 +1,19 @@
+-- What a solver keeps while it lowers ranks in place, besides Sound.
+use mathlib.Core.Bool.{cond}
+use Prim.Native.Nat.{ℕ, zero, suc, _+_, _≤_, _<_}
+use lib.Dec.{ltb}
+use Rattle.game.specs.Table.{never}
+
+-- how many of the first n ranks are below k
+abbrev pub countBelow : (ℕ → ℕ) → ℕ → ℕ → ℕ
+countBelow rank zero k = 0
+countBelow rank (suc n) k = countBelow rank n k + cond (ltb (rank n) k) 1 0
+
+-- a finite rank has at least as many ranks below it, so that it stays below the number of positions also while ranks still fall
+abbrev pub Crowded : ℕ → (ℕ → ℕ) → Type 0
+Crowded n rank = (i : ℕ) → i < n → rank i < never → rank i ≤ countBelow rank n (rank i)
+
+-- the sum of the first n ranks, which falls whenever one is lowered
+abbrev pub total : (ℕ → ℕ) → ℕ → ℕ
+total rank zero = 0
+total rank (suc n) = total rank n + rank n

@@ -1,0 +1,3 @@
+// The meaning of a formula row, and the game on positions that decides it.
+pub mod moves;
+pub mod positions;
