@@ -1,6 +1,7 @@
 //! A second implementation, made from document 01 alone, to compare the
 //! library with, and the means to make many jobs and to damage them.
 
+pub mod agree;
 pub mod block;
 pub mod damage;
 pub mod ffi;
