@@ -10,6 +10,7 @@ pub mod jobs;
 pub mod layout;
 pub mod random;
 pub mod text;
+pub mod text_damage;
 
 /// Refusal numbers (document 01, "Numbers for what is turned down").
 pub mod refusal {
