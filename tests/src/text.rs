@@ -85,7 +85,10 @@ impl Reader<'_> {
 
     /// A line's word and its comma.
     fn word(&mut self, word: &str) -> Outcome<()> {
-        self.literal(format!("{word},").as_bytes())
+        let rest = self.rest.strip_prefix(word.as_bytes());
+        let rest = rest.and_then(|rest| rest.strip_prefix(&[COMMA]));
+        self.rest = rest.ok_or(refusal::FORM)?;
+        Ok(())
     }
 
     fn kind(&mut self) -> Outcome<u8> {
@@ -248,8 +251,12 @@ pub fn write_structure(block: &[u8]) -> Vec<u8> {
 }
 
 fn line(text: &mut Vec<u8>, word: &str, fields: &[u8]) {
-    let fields: Vec<String> = fields.iter().map(u8::to_string).collect();
-    text.extend(format!("{word},{}\n", fields.join(",")).into_bytes());
+    text.extend(word.as_bytes());
+    for field in fields {
+        text.push(COMMA);
+        text.extend(field.to_string().into_bytes());
+    }
+    text.push(LINE_END);
 }
 
 fn write_state(text: &mut Vec<u8>, block: &[u8], state: usize) {

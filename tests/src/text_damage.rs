@@ -12,48 +12,16 @@ const NUMBERS: [&str; 26] = [
 ];
 
 /// Spellings of no number, and of numbers above 255.
+#[rustfmt::skip]
 pub const NO_NUMBERS: [&str; 38] = [
-    "",
-    "00",
-    "01",
-    "007",
-    "015",
-    "000",
-    "256",
-    "257",
-    "260",
-    "265",
-    "299",
-    "300",
-    "999",
-    "1000",
-    "65536",
-    "4294967296",
-    "18446744073709551616",
-    "-1",
-    "-0",
-    "+1",
-    "+0",
-    " 0",
-    "0 ",
-    " ",
-    "\t1",
-    "1\r",
-    "\r",
-    "1\0",
-    "/",
-    ":",
-    "x",
-    "1x",
-    "0x1",
-    "1.0",
-    "1e0",
-    "Inf",
-    "in",
-    "infi",
+    "", "00", "01", "007", "015", "000", "256", "257", "260", "265", "299", "300", "999", "1000",
+    "65536", "4294967296", "18446744073709551616", "-1", "-0", "+1", "+0", " 0", "0 ", " ", "\t1",
+    "1\r", "\r", "1\0", "/", ":", "x", "1x", "0x1", "1.0", "1e0", "Inf", "in", "infi",
 ];
 
-/// Keeps a share of the places.
+const WORDS: [&str; 6] = ["inf", "until", "or", "not", "go", "acts"];
+
+/// A sort of places, by the byte there.
 type Places = (&'static str, fn(u8) -> bool);
 
 const PLACES: [Places; 5] = [
@@ -155,17 +123,18 @@ fn edit(rng: &mut Rng, text: &mut Vec<u8>) -> String {
     format!("{sort} {place} {name}")
 }
 
-/// Where a line starts, of any line or of a sort of line that is chosen first:
-/// else most would be `go` lines.
+/// The words before the rows.
+const STRUCTURE: [&[u8]; 4] = [b"job,", b"state,", b"acts,", b"go,"];
+
+/// Where a line starts and ends. Its sort is chosen first, else most would be
+/// `go` lines; the last sort is that of the rows.
 fn any_line(rng: &mut Rng, text: &[u8]) -> (usize, usize) {
-    let words: [&[u8]; 6] = [b"job", b"state", b"acts", b"go", b"", b""];
-    let word = rng.pick(&words);
-    let row = word.is_empty() && rng.one_in(2);
+    let chosen = rng.within(0..=STRUCTURE.len());
     let mut start = 0;
     let mut found = Vec::new();
     for line in lines(text) {
-        let structure = words[..4].iter().any(|word| line.starts_with(word));
-        if line.starts_with(word) && !(row && structure) {
+        let sort = STRUCTURE.iter().position(|word| line.starts_with(word));
+        if sort.unwrap_or(STRUCTURE.len()) == chosen {
             found.push((start, start + line.len()));
         }
         start += line.len();
@@ -204,9 +173,7 @@ fn respell(rng: &mut Rng, text: &mut Vec<u8>) -> String {
 fn spelling(rng: &mut Rng, old: &str) -> String {
     match (rng.below(12), old.parse::<u16>()) {
         (0, _) => rng.pick(&NO_NUMBERS).to_string(),
-        (1, _) => rng
-            .pick(&["inf", "", "until", "or", "go", "acts"])
-            .to_string(),
+        (1, _) => rng.pick(&WORDS).to_string(),
         (2, _) => format!("0{old}"),
         (3, _) => format!("{old},{}", rng.pick(&NUMBERS)),
         (4, Ok(number)) => (number + 1).to_string(),

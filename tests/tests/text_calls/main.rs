@@ -8,9 +8,11 @@ mod random;
 mod round;
 
 use rbatl_tests::layout::*;
-use rbatl_tests::random::{any_sizes, block, small_sizes, Rng};
+use rbatl_tests::random::{any_sizes, block, cases, small_sizes, Rng};
 
 const SEED: u64 = 0x7465_7874;
+/// Damaged texts; the other tests take a share of this number.
+const CASES: u64 = 120_000;
 
 /// A job, mostly small: a damage to its text then lies near the borders.
 fn any_job(rng: &mut Rng) -> Vec<u8> {
