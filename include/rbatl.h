@@ -20,7 +20,8 @@
 extern "C" {
 #endif
 
-/* Length of a block, and of the longest text of a job. */
+/* Length of a block; the longest text that is read, and the length of the
+ * buffer that a text is written to. */
 #define RBATL_BLOCK_BYTES 2469
 #define RBATL_TEXT_BYTES 32768
 
@@ -75,6 +76,20 @@ enum rbatl_refusal {
  * else minus the first of RBATL_SIZES, RBATL_STATE, RBATL_NEXT, RBATL_ROW and
  * RBATL_UNUSED whose condition holds anywhere in the block. */
 int32_t rbatl_check(const uint8_t *block, size_t block_len);
+
+/* Reads a text into a block of RBATL_BLOCK_BYTES: 0, and the block is the job
+ * of the text; -RBATL_LENGTH for a block of any other length or a text above
+ * RBATL_TEXT_BYTES; else minus the first refusal that the fields meet from
+ * left to right and line by line, each tried for its form (RBATL_FORM) and
+ * then for its value (RBATL_SIZES, RBATL_STATE, RBATL_NEXT, RBATL_ROW). An
+ * empty bound is unlimited. A refused call leaves the block as it was. */
+int32_t rbatl_read(const uint8_t *text, size_t text_len, uint8_t *block, size_t block_len);
+
+/* Writes the text of a block into a buffer of RBATL_TEXT_BYTES: the length of
+ * the text, and zeros stand after it; -RBATL_LENGTH for a block or a buffer of
+ * any other length; else what rbatl_check answers on the block. An unlimited
+ * bound is written inf. A refused call leaves the buffer as it was. */
+int32_t rbatl_write(const uint8_t *block, size_t block_len, uint8_t *text, size_t text_len);
 
 #ifdef __cplusplus
 }

@@ -27,6 +27,45 @@ static const struct byte catch_bytes[] = {
     {2253, 5}, {2254, 2}, {2256, 3}, {2257, 4},
 };
 
+/* The text of Catch before its last line, and that line. */
+#define FRONT \
+    "job,2,1,3,1,6\n" \
+    "state,0,0\n" \
+    "acts,0,0,2,0,2\nacts,0,1,2,0,0\n" \
+    "go,0,0,0,0\ngo,0,1,0,1\ngo,0,0,1,0\ngo,0,1,1,0\n" \
+    "state,1,0\n" \
+    "acts,1,0,2,0,3\nacts,1,1,1,0\n" \
+    "go,1,0,0,1\ngo,1,1,0,2\n" \
+    "state,2,1\n" \
+    "acts,2,0,1,0\nacts,2,1,1,0\n" \
+    "go,2,0,0,2\n" \
+    "prop,0\nnot,0\nor,0,1\nuntil,1,5,2,0\nuntil,3,5,2,0\n"
+#define LAST "until,3,4,2,0\n"
+
+/* A text that is refused, and the answer that it must get. */
+struct refused_text {
+    const char *text;
+    int32_t answer;
+};
+
+static const struct refused_text refused_texts[] = {
+    {"", -RBATL_FORM},
+    {"job,2,1,25,1,6\n", -RBATL_SIZES},
+    {"job,2,1,3,1,6\nstate,00,0\n", -RBATL_FORM},
+    {"job,2,1,3,1,6\nstate,0,2\n", -RBATL_STATE},
+    {"job,1,1,1,1,1\nstate,0,0\nacts,0,0,2,1,3\n", -RBATL_STATE},
+    {"job,1,1,1,1,1\nstate,0,0\nacts,0,0,1,0\ngo,0,0,1\n", -RBATL_NEXT},
+    {"job,1,1,1,1,1\nstate,0,0\nacts,0,0,1,0\ngo,0,0,0\nnot,0\n", -RBATL_ROW},
+    {FRONT, -RBATL_FORM},
+    {FRONT "until,3,4,2,0", -RBATL_FORM},
+    {FRONT LAST "\n", -RBATL_FORM},
+    {FRONT "until,3,4,2,5\n", -RBATL_ROW},
+    {FRONT "until,3,16,2,0\n", -RBATL_ROW},
+    {FRONT "until,3,255,2,0\n", -RBATL_ROW},
+    {FRONT "until,3,256,2,0\n", -RBATL_FORM},
+    {FRONT "until,,4,2,0\n", -RBATL_FORM},
+};
+
 /* Catch with one byte changed, and the answer that it must get. */
 struct damage {
     const char *name;
@@ -111,10 +150,124 @@ static void check_damages(void)
     }
 }
 
+/* A byte that neither a text nor Catch has. */
+#define FILL 0xEE
+
+static int all(const uint8_t *bytes, size_t length, uint8_t value)
+{
+    for (size_t i = 0; i < length; i++)
+        if (bytes[i] != value)
+            return 0;
+    return 1;
+}
+
+/* The text must be read as the block, or, without one, be refused and leave
+ * the lent block as it was; the text must keep its bytes. */
+static void expect_read(const char *name, const char *text, size_t length, size_t block_length,
+                        int32_t expected, const uint8_t *job)
+{
+    static uint8_t block[2 * RBATL_BLOCK_BYTES];
+    static uint8_t lent[RBATL_TEXT_BYTES + 1];
+    char what[64];
+
+    memset(block, FILL, sizeof block);
+    memcpy(lent, text, length);
+    int32_t answer = rbatl_read(lent, length, block, block_length);
+    snprintf(what, sizeof what, "read answers %ld, not %ld", (long)answer, (long)expected);
+    count(answer == expected, name, what);
+    count(memcmp(lent, text, length) == 0, name, "the text has changed");
+    if (job != NULL) {
+        count(memcmp(block, job, block_length) == 0, name, "another block");
+        count(all(block + block_length, sizeof block - block_length, FILL), name, "read too far");
+    } else {
+        count(all(block, sizeof block, FILL), name, "refused, but the block has changed");
+    }
+}
+
+static void check_read(void)
+{
+    static const char whole[] = FRONT LAST;
+    static const char empty[] = FRONT "until,3,,2,0\n";
+    static const char inf[] = FRONT "until,3,inf,2,0\n";
+    static char longest[RBATL_TEXT_BYTES + 1];
+    static uint8_t job[RBATL_BLOCK_BYTES];
+
+    fill_catch(job);
+    expect_read("Catch", whole, sizeof whole - 1, sizeof job, 0, job);
+    expect_read("a short block", whole, sizeof whole - 1, sizeof job - 1, -RBATL_LENGTH, NULL);
+    expect_read("a long block", whole, sizeof whole - 1, sizeof job + 1, -RBATL_LENGTH, NULL);
+    expect_read("no block", whole, sizeof whole - 1, 0, -RBATL_LENGTH, NULL);
+    expect_read("the byte after Catch", whole, sizeof whole, sizeof job, -RBATL_FORM, NULL);
+    job[2257] = RBATL_UNLIMITED;
+    expect_read("an empty bound", empty, sizeof empty - 1, sizeof job, 0, job);
+    expect_read("inf", inf, sizeof inf - 1, sizeof job, 0, job);
+    memcpy(longest, whole, sizeof whole);
+    expect_read("32,768 bytes", longest, sizeof longest - 1, sizeof job, -RBATL_FORM, NULL);
+    expect_read("32,769 bytes", longest, sizeof longest, sizeof job, -RBATL_LENGTH, NULL);
+    for (size_t i = 0; i < sizeof refused_texts / sizeof refused_texts[0]; i++) {
+        const char *text = refused_texts[i].text;
+        expect_read(text, text, strlen(text), sizeof job, refused_texts[i].answer, NULL);
+    }
+}
+
+/* The block must be written as the text and zeros, or, without one, be refused
+ * and leave the lent text as it was; the block must keep its bytes. */
+static void expect_write(const char *name, const uint8_t *block, size_t length, size_t text_length,
+                         int32_t expected, const char *job)
+{
+    static uint8_t text[2 * RBATL_TEXT_BYTES];
+    static uint8_t before[2 * RBATL_BLOCK_BYTES];
+    char what[64];
+
+    memset(text, FILL, sizeof text);
+    memcpy(before, block, length);
+    int32_t answer = rbatl_write(block, length, text, text_length);
+    snprintf(what, sizeof what, "write answers %ld, not %ld", (long)answer, (long)expected);
+    count(answer == expected, name, what);
+    count(memcmp(before, block, length) == 0, name, "the block has changed");
+    if (job != NULL) {
+        size_t end = strlen(job);
+        count(memcmp(text, job, end) == 0, name, "another text");
+        count(all(text + end, text_length - end, 0), name, "no zeros after the text");
+        count(all(text + text_length, sizeof text - text_length, FILL), name, "written too far");
+    } else {
+        count(all(text, sizeof text, FILL), name, "refused, but the text has changed");
+    }
+}
+
+static void check_write(void)
+{
+    static const char whole[] = FRONT LAST;
+    static const char inf[] = FRONT "until,3,inf,2,0\n";
+    static const size_t lengths[] = {
+        0, sizeof whole - 1, RBATL_TEXT_BYTES - 1, RBATL_TEXT_BYTES + 1, 2 * RBATL_TEXT_BYTES,
+    };
+    static uint8_t bytes[2 * RBATL_BLOCK_BYTES];
+    const size_t size = RBATL_BLOCK_BYTES;
+
+    fill_catch(bytes);
+    expect_write("Catch", bytes, size, RBATL_TEXT_BYTES, sizeof whole - 1, whole);
+    expect_write("a short block", bytes, size - 1, RBATL_TEXT_BYTES, -RBATL_LENGTH, NULL);
+    expect_write("a long block", bytes, size + 1, RBATL_TEXT_BYTES, -RBATL_LENGTH, NULL);
+    for (size_t i = 0; i < sizeof lengths / sizeof lengths[0]; i++)
+        expect_write("another length", bytes, size, lengths[i], -RBATL_LENGTH, NULL);
+    bytes[2257] = RBATL_UNLIMITED;
+    expect_write("inf", bytes, size, RBATL_TEXT_BYTES, sizeof inf - 1, inf);
+    for (size_t i = 0; i < sizeof damages / sizeof damages[0]; i++) {
+        if (damages[i].answer == 0)
+            continue;
+        fill_catch(bytes);
+        bytes[damages[i].change.place] = damages[i].change.value;
+        expect_write(damages[i].name, bytes, size, RBATL_TEXT_BYTES, damages[i].answer, NULL);
+    }
+}
+
 int main(void)
 {
     check_damages();
     check_lengths();
+    check_read();
+    check_write();
     printf("%d passed, %d failed\n", passed, failed);
     return failed != 0;
 }

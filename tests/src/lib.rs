@@ -1,6 +1,7 @@
 //! A second implementation, made from document 01 alone, to compare the
 //! library with, and the means to make many jobs and to damage them.
 
+pub mod agree;
 pub mod block;
 pub mod damage;
 pub mod ffi;
@@ -9,6 +10,7 @@ pub mod jobs;
 pub mod layout;
 pub mod random;
 pub mod text;
+pub mod text_damage;
 
 /// Refusal numbers (document 01, "Numbers for what is turned down").
 pub mod refusal {

@@ -1,6 +1,6 @@
 //! Reader and writer of a job's text, made from document 01 alone.
 
-use crate::block::{bad_coalition, bad_cost, bad_count, bad_mask, bad_operand};
+use crate::block::{bad_coalition, bad_cost, bad_count, bad_mask, bad_operand, check};
 use crate::layout::*;
 use crate::refusal;
 
@@ -14,6 +14,38 @@ const LINE_END: u8 = b'\n';
 
 /// A refusal number is the error.
 type Outcome<T> = Result<T, u8>;
+
+/// The reading call: 0 or minus the refusal number. A refusal leaves the lent
+/// block as it was.
+pub fn read_call(text: &[u8], block: &mut [u8]) -> i32 {
+    if block.len() != BLOCK_BYTES {
+        return -i32::from(refusal::LENGTH);
+    }
+    match read(text) {
+        Ok(job) => {
+            block.copy_from_slice(&job);
+            0
+        }
+        Err(number) => -i32::from(number),
+    }
+}
+
+/// The writing call: the length of the text, zeros after it, or minus the
+/// refusal number. A refusal leaves the lent text as it was.
+pub fn write_call(block: &[u8], text: &mut [u8]) -> i32 {
+    if text.len() != TEXT_BYTES {
+        return -i32::from(refusal::LENGTH);
+    }
+    let number = check(block);
+    if number != 0 {
+        return -i32::from(number);
+    }
+    let written = write(block);
+    let (front, rest) = text.split_at_mut(written.len());
+    front.copy_from_slice(&written);
+    rest.fill(0);
+    written.len() as i32
+}
 
 /// The block of a text, or the refusal number.
 pub fn read(text: &[u8]) -> Outcome<Vec<u8>> {
@@ -53,7 +85,10 @@ impl Reader<'_> {
 
     /// A line's word and its comma.
     fn word(&mut self, word: &str) -> Outcome<()> {
-        self.literal(format!("{word},").as_bytes())
+        let rest = self.rest.strip_prefix(word.as_bytes());
+        let rest = rest.and_then(|rest| rest.strip_prefix(&[COMMA]));
+        self.rest = rest.ok_or(refusal::FORM)?;
+        Ok(())
     }
 
     fn kind(&mut self) -> Outcome<u8> {
@@ -216,8 +251,12 @@ pub fn write_structure(block: &[u8]) -> Vec<u8> {
 }
 
 fn line(text: &mut Vec<u8>, word: &str, fields: &[u8]) {
-    let fields: Vec<String> = fields.iter().map(u8::to_string).collect();
-    text.extend(format!("{word},{}\n", fields.join(",")).into_bytes());
+    text.extend(word.as_bytes());
+    for field in fields {
+        text.push(COMMA);
+        text.extend(field.to_string().into_bytes());
+    }
+    text.push(LINE_END);
 }
 
 fn write_state(text: &mut Vec<u8>, block: &[u8], state: usize) {

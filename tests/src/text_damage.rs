@@ -1,0 +1,221 @@
+//! Texts that differ from the text of a job in some bytes, fields or lines.
+
+use crate::random::Rng;
+
+/// The bytes of texts, and some that stand next to them or look like them.
+const BYTES: &[u8] = b"0123456789,\ninfjobstaecgprlwuyd -+.;/:\r\t\0IN\x7f\x80\xff";
+
+/// Numbers at both sides of every border in document 01, well formed.
+const NUMBERS: [&str; 26] = [
+    "0", "1", "2", "3", "4", "5", "6", "7", "8", "9", "10", "14", "15", "16", "23", "24", "25",
+    "31", "32", "33", "127", "128", "199", "200", "254", "255",
+];
+
+/// Spellings of no number, and of numbers above 255.
+#[rustfmt::skip]
+pub const NO_NUMBERS: [&str; 38] = [
+    "", "00", "01", "007", "015", "000", "256", "257", "260", "265", "299", "300", "999", "1000",
+    "65536", "4294967296", "18446744073709551616", "-1", "-0", "+1", "+0", " 0", "0 ", " ", "\t1",
+    "1\r", "\r", "1\0", "/", ":", "x", "1x", "0x1", "1.0", "1e0", "Inf", "in", "infi",
+];
+
+const WORDS: [&str; 6] = ["inf", "until", "or", "not", "go", "acts"];
+
+/// A sort of places, by the byte there.
+type Places = (&'static str, fn(u8) -> bool);
+
+const PLACES: [Places; 5] = [
+    ("byte", |_| true),
+    ("digit", |byte| byte.is_ascii_digit()),
+    ("comma", |byte| byte == b','),
+    ("line end", |byte| byte == b'\n'),
+    ("letter", |byte| byte.is_ascii_alphabetic()),
+];
+
+/// Changes the text at a place.
+type Edit = (&'static str, fn(&mut Rng, &mut Vec<u8>, usize));
+
+const EDITS: [Edit; 5] = [
+    ("changed", |rng, text, place| text[place] = any_byte(rng)),
+    ("dropped", |_, text, place| {
+        text.remove(place);
+    }),
+    ("doubled", |_, text, place| text.insert(place, text[place])),
+    ("inserted before", |rng, text, place| {
+        text.insert(place, any_byte(rng))
+    }),
+    ("inserted after", |rng, text, place| {
+        text.insert(place + 1, any_byte(rng))
+    }),
+];
+
+/// Damages the text of a job, or leaves it whole, and says how.
+pub fn damage(rng: &mut Rng, text: &mut Vec<u8>) -> String {
+    match rng.below(20) {
+        0 => "whole".to_string(),
+        1 => cut(rng, text),
+        2..=5 => edit(rng, text),
+        6 => {
+            let edits: Vec<String> = (0..rng.within(2..=4)).map(|_| edit(rng, text)).collect();
+            edits.join(", ")
+        }
+        7..=15 => respell(rng, text),
+        16 => {
+            let fields: Vec<String> = (0..2).map(|_| respell(rng, text)).collect();
+            fields.join(", ")
+        }
+        _ => disorder(rng, text),
+    }
+}
+
+/// Leaves out `inf` from some of the bounds, or from all of them, and says from
+/// how many.
+pub fn empty_bounds(rng: &mut Rng, text: &[u8]) -> (Vec<u8>, usize) {
+    let all = rng.one_in(4);
+    let (mut emptied, mut count) = (Vec::new(), 0);
+    for field in text.split_inclusive(|&byte| byte == b',' || byte == b'\n') {
+        let empty = field == b"inf," && (all || rng.one_in(2));
+        emptied.extend(&field[if empty { 3 } else { 0 }..]);
+        count += usize::from(empty);
+    }
+    (emptied, count)
+}
+
+/// The text with `inf` in each empty field.
+pub fn filled_bounds(text: &[u8]) -> Vec<u8> {
+    let mut filled = Vec::new();
+    for field in text.split_inclusive(|&byte| byte == b',' || byte == b'\n') {
+        if field == b"," {
+            filled.extend(b"inf");
+        }
+        filled.extend(field);
+    }
+    filled
+}
+
+pub fn lines(text: &[u8]) -> Vec<&[u8]> {
+    text.split_inclusive(|&byte| byte == b'\n').collect()
+}
+
+fn cut(rng: &mut Rng, text: &mut Vec<u8>) -> String {
+    text.truncate(rng.below(text.len() + 1));
+    format!("cut at {}", text.len())
+}
+
+fn any_byte(rng: &mut Rng) -> u8 {
+    match rng.below(4) {
+        0 => rng.byte(),
+        1 => b'0' + rng.below(10) as u8,
+        _ => rng.pick(BYTES),
+    }
+}
+
+/// Changes the text at one place of some sort.
+fn edit(rng: &mut Rng, text: &mut Vec<u8>) -> String {
+    let (sort, keeps) = rng.pick(&PLACES);
+    let (name, edit) = rng.pick(&EDITS);
+    let places: Vec<usize> = (0..text.len()).filter(|&i| keeps(text[i])).collect();
+    if places.is_empty() {
+        return format!("no {sort}");
+    }
+    let place = rng.pick(&places);
+    edit(rng, text, place);
+    format!("{sort} {place} {name}")
+}
+
+/// The words before the rows.
+const STRUCTURE: [&[u8]; 4] = [b"job,", b"state,", b"acts,", b"go,"];
+
+/// Where a line starts and ends. Its sort is chosen first, else most would be
+/// `go` lines; the last sort is that of the rows.
+fn any_line(rng: &mut Rng, text: &[u8]) -> (usize, usize) {
+    let chosen = rng.within(0..=STRUCTURE.len());
+    let mut start = 0;
+    let mut found = Vec::new();
+    for line in lines(text) {
+        let sort = STRUCTURE.iter().position(|word| line.starts_with(word));
+        if sort.unwrap_or(STRUCTURE.len()) == chosen {
+            found.push((start, start + line.len()));
+        }
+        start += line.len();
+    }
+    match found.is_empty() {
+        true => (0, text.len()),
+        false => rng.pick(&found),
+    }
+}
+
+/// Spells one field of a line in another way.
+fn respell(rng: &mut Rng, text: &mut Vec<u8>) -> String {
+    let (start, end) = any_line(rng, text);
+    let mut fields = Vec::new();
+    let mut place = start;
+    for field in text[start..end].split(|&byte| byte == b',' || byte == b'\n') {
+        fields.push((place, place + field.len()));
+        place += field.len() + 1;
+    }
+    // What follows the line end is no field of the line.
+    if fields.len() > 1 {
+        fields.pop();
+    }
+    // The last field is a value in every line.
+    let (start, end) = match rng.one_in(2) {
+        true => fields[fields.len() - 1],
+        false => rng.pick(&fields),
+    };
+    let old = String::from_utf8_lossy(&text[start..end]).into_owned();
+    let new = spelling(rng, &old);
+    let how = format!("{old:?} at {start} spelled {new:?}");
+    text.splice(start..end, new.into_bytes());
+    how
+}
+
+fn spelling(rng: &mut Rng, old: &str) -> String {
+    match (rng.below(12), old.parse::<u16>()) {
+        (0, _) => rng.pick(&NO_NUMBERS).to_string(),
+        (1, _) => rng.pick(&WORDS).to_string(),
+        (2, _) => format!("0{old}"),
+        (3, _) => format!("{old},{}", rng.pick(&NUMBERS)),
+        (4, Ok(number)) => (number + 1).to_string(),
+        (5, Ok(number)) => number.saturating_sub(1).to_string(),
+        _ => rng.pick(&NUMBERS).to_string(),
+    }
+}
+
+/// Swaps, repeats, drops or moves lines, or puts one in the place of another.
+fn disorder(rng: &mut Rng, text: &mut Vec<u8>) -> String {
+    let mut lines = lines(text);
+    if lines.is_empty() {
+        return "no line".to_string();
+    }
+    let (i, j) = (rng.below(lines.len()), rng.below(lines.len()));
+    let near = (i + 1) % lines.len();
+    let how = match rng.below(6) {
+        0 => {
+            lines.swap(i, j);
+            format!("lines {i} and {j} swapped")
+        }
+        1 => {
+            lines.swap(i, near);
+            format!("lines {i} and {near} swapped")
+        }
+        2 => {
+            lines.insert(i, lines[i]);
+            format!("line {i} repeated")
+        }
+        3 => {
+            lines.remove(i);
+            format!("line {i} dropped")
+        }
+        4 => {
+            lines.insert(j, lines[i]);
+            format!("line {i} repeated at {j}")
+        }
+        _ => {
+            lines[j] = lines[i];
+            format!("line {i} in place of {j}")
+        }
+    };
+    *text = lines.concat();
+    how
+}

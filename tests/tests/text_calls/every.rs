@@ -1,0 +1,142 @@
+//! Every single damage of one kind to the text of a job.
+
+use super::*;
+use rbatl_tests::text_damage::lines;
+use rbatl_tests::{agree, jobs, text};
+
+/// The texts that are small enough for every change of a byte.
+const SMALL: [&str; 2] = ["catch.job", "sensor.job"];
+
+/// The texts of jobs/, and of some small random jobs.
+fn many_texts() -> Vec<Vec<u8>> {
+    let mut texts: Vec<Vec<u8>> = jobs::names().iter().map(|name| jobs::text(name)).collect();
+    for case in 0..40 {
+        let mut rng = Rng::for_case(SEED ^ 2, case);
+        let sizes = small_sizes(&mut rng);
+        texts.push(text::write(&block(&mut rng, sizes)));
+    }
+    texts
+}
+
+/// What reading gives, compared with the reader of document 01.
+fn answer(text: &[u8], lent: &[u8], what: impl Fn() -> String) -> usize {
+    number(agree::read(text, lent, what).answer)
+}
+
+/// The rest of the text stands behind the part that is lent: a reader that
+/// looks beyond the length would take it in.
+#[test]
+fn cut_at_every_length() {
+    let lent = agree::pattern(BLOCK_BYTES);
+    for text in many_texts() {
+        for length in 0..text.len() {
+            let what = || format!("the first {length} of {} bytes", text.len());
+            assert_eq!(answer(&text[..length], &lent, what), 7);
+        }
+        assert_eq!(answer(&text, &lent, || "a whole text".to_string()), 0);
+    }
+}
+
+#[test]
+fn cut_before_every_line() {
+    let lent = agree::pattern(BLOCK_BYTES);
+    for name in jobs::names() {
+        let text = jobs::text(&name);
+        let mut start = 0;
+        for line in lines(&text) {
+            let what = || format!("{name} from byte {start}");
+            let expected = if start == 0 { 0 } else { 7 };
+            assert_eq!(answer(&text[start..], &lent, what), expected);
+            start += line.len();
+        }
+    }
+}
+
+#[test]
+fn every_byte_changed() {
+    let lent = agree::pattern(BLOCK_BYTES);
+    let mut seen = [0; 8];
+    for name in SMALL {
+        let job = jobs::text(name);
+        for place in 0..job.len() {
+            let mut text = job.clone();
+            for value in 0..=u8::MAX {
+                text[place] = value;
+                let what = || format!("{name} with byte {place} = {value}");
+                seen[answer(&text, &lent, what)] += 1;
+            }
+        }
+    }
+    assert_each_came(&seen, &[0, 2, 3, 4, 5, 7], 10);
+}
+
+#[test]
+fn every_byte_inserted() {
+    let lent = agree::pattern(BLOCK_BYTES);
+    let mut seen = [0; 8];
+    for name in SMALL {
+        let job = jobs::text(name);
+        for place in 0..=job.len() {
+            let mut text = job.clone();
+            text.insert(place, 0);
+            for value in 0..=u8::MAX {
+                text[place] = value;
+                let what = || format!("{name} with {value} inserted at {place}");
+                seen[answer(&text, &lent, what)] += 1;
+            }
+        }
+    }
+    assert_each_came(&seen, &[0, 2, 3, 4, 5, 7], 10);
+}
+
+/// Of the long text only every 16th byte.
+#[test]
+fn every_byte_dropped_and_doubled() {
+    let lent = agree::pattern(BLOCK_BYTES);
+    let mut seen = [0; 8];
+    for (i, job) in many_texts().iter().enumerate() {
+        let step = if job.len() < 8192 { 1 } else { 16 };
+        for place in (0..job.len()).step_by(step) {
+            let mut text = job.clone();
+            text.remove(place);
+            let what = || format!("text {i} without byte {place}");
+            seen[answer(&text, &lent, what)] += 1;
+            text.insert(place, job[place]);
+            text.insert(place, job[place]);
+            let what = || format!("text {i} with byte {place} twice");
+            seen[answer(&text, &lent, what)] += 1;
+        }
+    }
+    assert_each_came(&seen, &[0, 2, 3, 4, 5, 7], 10);
+}
+
+#[test]
+fn every_two_lines_swapped_and_every_line_repeated_anywhere() {
+    let lent = agree::pattern(BLOCK_BYTES);
+    let mut seen = [0; 8];
+    for name in SMALL {
+        let job = jobs::text(name);
+        let job = lines(&job);
+        for i in 0..job.len() {
+            for j in 0..job.len() {
+                let mut swapped = job.clone();
+                swapped.swap(i, j);
+                let what = || format!("{name} with lines {i} and {j} swapped");
+                seen[answer(&swapped.concat(), &lent, what)] += 1;
+                let mut repeated = job.clone();
+                repeated.insert(j, job[i]);
+                let what = || format!("{name} with line {i} again before line {j}");
+                seen[answer(&repeated.concat(), &lent, what)] += 1;
+                let mut replaced = job.clone();
+                replaced[j] = job[i];
+                let what = || format!("{name} with line {i} for line {j}");
+                seen[answer(&replaced.concat(), &lent, what)] += 1;
+            }
+            let mut dropped = job.clone();
+            dropped.remove(i);
+            let what = || format!("{name} without line {i}");
+            seen[answer(&dropped.concat(), &lent, what)] += 1;
+        }
+    }
+    assert_each_came(&seen, &[0, 5, 7], 10);
+}
