@@ -7,6 +7,7 @@ use crate::steps::past_value;
 use crate::steps::value_or;
 use block::layout::Place;
 use block::refusal::Refusal;
+use text::kinds::binary;
 use text::sizes::Sizes;
 use text::sizes::masks;
 ghost use mathlib.Core.Bool.{cond};
@@ -57,15 +58,6 @@ fn team(text: &[u8], at: Step, job: &mut [u8], z: Sizes, i: usize, k: usize) -> 
         Refusal::Row,
     );
     bounds(text, next, job, i, z.resources)
-}
-
-fn binary(k: usize) -> bool
-    ensures { λ r. ⌜ r ≡ J.binary k ⌝ }
-{
-    if k == 2 {
-        return true;
-    }
-    k == 5
 }
 
 // The byte after the left field.

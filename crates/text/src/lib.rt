@@ -1,5 +1,6 @@
 // The text of a job: the one description of it (specs/), and what reader and writer share.
 pub mod joint;
+pub mod kinds;
 pub mod sizes;
 
 // A text is at most this long, and the writer's buffer has this length.

@@ -2,6 +2,7 @@
 use crate::output;
 use crate::output::number;
 use block::layout;
+use text::kinds::binary;
 ghost use mathlib.Core.Path.{_≡_};
 ghost use Prim.Native.Nat.{_+_, _≤_, _<_};
 ghost use Rattle.block.specs.Layout as L;
@@ -37,15 +38,6 @@ fn team_fields(block: &[u8], text: &mut [u8], at: usize, i: usize, k: usize) -> 
         return bounds(block, text, next, i);
     }
     at
-}
-
-fn binary(k: usize) -> bool
-    ensures { λ r. ⌜ r ≡ J.binary k ⌝ }
-{
-    if k == 2 {
-        return true;
-    }
-    k == 5
 }
 
 // The proposition or lower row, and the right row where the kind has one.

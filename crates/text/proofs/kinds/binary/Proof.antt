@@ -1,7 +1,7 @@
 -- `binary` tells the kinds with a right row. Assumes nothing.
 use borrow.Author.Tests.{eq-eqb, ne-eqb}
-use Rattle.writer.proofs.rows.binary.Statement.{statement}
-use Rattle.writer.proofs.rows.binary.Tie as tie
+use Rattle.text.proofs.kinds.binary.Statement.{statement}
+use Rattle.text.proofs.kinds.binary.Tie as tie
 
 returns : tie.Need-returns
 returns c = simp (eq-eqb _ _ (c .if1 .taken))
