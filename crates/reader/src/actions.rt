@@ -3,6 +3,7 @@ use crate::step::Step;
 use crate::steps::past_field;
 use block::layout::Place;
 use block::refusal::Refusal;
+use text::ends::cost_end;
 use text::sizes::Sizes;
 ghost use mathlib.Core.Path.{_≡_};
 ghost use Prim.Native.Nat.{ℕ, _+_, _≤_, _<_};
@@ -21,15 +22,6 @@ fn cost_limit(k: usize) -> usize
     16
 }
 
-fn cost_end(left: usize) -> usize
-    ensures { λ r. ⌜ (r ≡ J.costEnd left) × ((0 < r) × (r < 48)) ⌝ }
-{
-    if left == 0 {
-        return 10;
-    }
-    44
-}
-
 // The cost of action k in resource j, before left further costs of the line.
 fn cost(
     text: &[u8],
@@ -46,7 +38,7 @@ fn cost(
     ensures { λ r. ⌜ ((f : Format) → resume (now (text .entry)) at (read (value (J.number (J.costEnd left) 0 (J.costLimit k) Refusal.State) (Place.Cost s a k j) (λ v. f)) (now (job .entry))) ≡ resume (now (text .entry)) r (read f (now (job .exit)))) ⌝ }
     ensures { λ r. ⌜ Inside (now (text .entry)) r ⌝ }
 {
-    let sep = cost_end(left);
+    let sep = cost_end(left) as usize;
     let limit = cost_limit(k);
     past_field(
         text,

@@ -2,6 +2,7 @@
 use crate::output::number;
 use crate::output::word;
 use block::layout;
+use text::ends::cost_end;
 ghost use mathlib.Core.Path.{_≡_};
 ghost use Prim.Native.Nat.{_+_, _≤_, _<_};
 ghost use Rattle.block.specs.Layout as L;
@@ -9,16 +10,6 @@ ghost use Rattle.block.specs.Layout.{maxStates, maxAgents, maxActions};
 ghost use Rattle.block.specs.Valid.{Valid};
 ghost use Rattle.text.specs.Job as J;
 ghost use Rattle.writer.specs.Writing.{Past, PastWith, Room, sizesOf, countsTo};
-
-// The byte after a cost: the line ends where none is left.
-fn cost_end(left: usize) -> u8
-    ensures { λ r. ⌜ r ≡ J.costEnd left ⌝ }
-{
-    if left == 0 {
-        return b'\n';
-    }
-    b','
-}
 
 // The costs of action k, which n further actions follow.
 fn costs(block: &[u8], text: &mut [u8], at: usize, s: usize, a: usize, n: usize, k: usize) -> usize

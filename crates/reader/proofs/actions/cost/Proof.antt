@@ -1,10 +1,14 @@
 -- `cost` reads one cost. Assumes nothing.
+use native.Mathlib.Omega.{arith}
 use borrow.Author.Needs.{needs}
 use Rattle.reader.proofs.actions.cost.Statement.{statement}
 use Rattle.reader.proofs.actions.cost.Tie as tie
 
 cost-end-requires : tie.Need-cost-end-requires
 cost-end-requires c κs = search needs
+
+cast-sep : tie.Need-cast-sep
+cast-sep c = omega arith
 
 cost-limit-requires : tie.Need-cost-limit-requires
 cost-limit-requires c κs = search needs
@@ -21,4 +25,4 @@ returns c = rw (← c .before .before .before .before .before .cost-end .ensures
 pub cost-spec : {M : Type 1} → statement M
 cost-spec =
     tie.close
-    (tie.spec cost-end-requires cost-limit-requires past-field-requires same-length returns)
+    (tie.spec cost-end-requires cast-sep cost-limit-requires past-field-requires same-length returns)

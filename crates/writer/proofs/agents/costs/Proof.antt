@@ -56,7 +56,7 @@ loop-again : tie.Need-loop-again Inv-loop μ-loop
 loop-again c =
     let g = c .before .before .before .before .before .before .before .before .before .before .before .args in
     let inv = c .before .before .before .before .before .before .before .loop .inv in
-    let cost-end = c .before .before .before .before .before .cost-end .ensures in
+    let cost-end = c .before .before .before .before .before .cost-end .ensures .0 in
     let cost = c .before .before .before .cost .ensures in
     let number = c .before .before .number .ensures in
     let b = g .block .now in

@@ -1,8 +1,8 @@
 -- `cost_end` ends the line after its last cost. Assumes nothing.
 use native.Mathlib.Omega.{arith}
 use borrow.Author.Tests.{ne-eqb}
-use Rattle.reader.proofs.actions.cost_end.Statement.{statement}
-use Rattle.reader.proofs.actions.cost_end.Tie as tie
+use Rattle.text.proofs.ends.cost_end.Statement.{statement}
+use Rattle.text.proofs.ends.cost_end.Tie as tie
 
 returns : tie.Need-returns
 returns c = (rw (c .if1 .taken), omega arith)
