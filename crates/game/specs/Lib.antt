@@ -5,5 +5,6 @@ pub mod Play
 pub mod Table
 pub mod Facts
 pub mod Sweep
+pub mod Buffers
 pub mod Model
 pub mod Catch
