@@ -30,3 +30,50 @@ pub fn set_rank(ranks: &mut [u8], p: usize, v: usize)
     ranks[2 * p] = (v % 256) as u8;
     ranks[2 * p + 1] = (v / 256 % 256) as u8;
 }
+
+// The set of row i.
+pub fn word_at(sets: &[u8], i: usize) -> usize
+    requires { ⌜ 4 * i + 3 < length (now sets) ⌝ }
+    ensures { λ r. ⌜ (r ≡ wordIn (now (sets .entry)) i) × (r < 2 ^ 32) ⌝ }
+{
+    let b0 = wide(sets[4 * i]);
+    let b1 = wide(sets[4 * i + 1]);
+    let b2 = wide(sets[4 * i + 2]);
+    let b3 = wide(sets[4 * i + 3]);
+    b0 + 256 * b1 + 65536 * b2 + 16777216 * b3
+}
+
+// Stores the set of row i.
+pub fn set_word(sets: &mut [u8], i: usize, w: usize)
+    requires { ⌜ (4 * i + 3 < length (now sets)) × (w < 2 ^ 32) ⌝ }
+    ensures { λ _. ⌜ Stored wordIn (now (sets .entry)) (now (sets .exit)) i w ⌝ }
+{
+    sets[4 * i] = (w % 256) as u8;
+    sets[4 * i + 1] = (w / 256 % 256) as u8;
+    sets[4 * i + 2] = (w / 65536 % 256) as u8;
+    sets[4 * i + 3] = (w / 16777216 % 256) as u8;
+}
+
+// Whether the word w has bit s.
+pub fn has_bit(w: usize, s: usize) -> bool
+    requires { ⌜ s < 32 ⌝ }
+    ensures { λ r. ⌜ Decides (Bit w s) r ⌝ }
+{
+    (w >> s) % 2 == 1
+}
+
+// Whether state s is in the set of row i.
+pub fn holds(sets: &[u8], i: usize, s: usize) -> bool
+    requires { ⌜ (4 * i + 3 < length (now sets)) × (s < 32) ⌝ }
+    ensures { λ r. ⌜ Decides (Bit (wordIn (now (sets .entry)) i) s) r ⌝ }
+{
+    has_bit(word_at(sets, i), s)
+}
+
+// The word w with bit s besides, where w has no bit from s on.
+pub fn with_bit(w: usize, s: usize) -> usize
+    requires { ⌜ (s < 32) × (w < 2 ^ s) ⌝ }
+    ensures { λ r. ⌜ (r < 2 ^ (s + 1)) × ((x : ℕ) → Bit r x ↔ (Bit w x ⊎ (x ≡ s))) ⌝ }
+{
+    w + (1 << s)
+}
