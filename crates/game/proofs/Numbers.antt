@@ -6,3 +6,4 @@ pub mod Joint
 pub mod Stocks
 pub mod Counting
 pub mod Bytes
+pub mod Extremes

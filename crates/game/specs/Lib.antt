@@ -6,5 +6,6 @@ pub mod Table
 pub mod Facts
 pub mod Sweep
 pub mod Buffers
+pub mod Extremes
 pub mod Model
 pub mod Catch

@@ -2,3 +2,4 @@
 pub mod buffers;
 pub mod moves;
 pub mod positions;
+pub mod replies;

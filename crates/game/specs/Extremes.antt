@@ -1,0 +1,21 @@
+-- The largest or the smallest of some numbers, as one notion: until asks for the largest rank over the replies, always for the smallest.
+use mathlib.Core.Bool.{Bool, true, false}
+use mathlib.Core.Logic.{_⊎_}
+use mathlib.Core.Path.{_≡_}
+use Prim.Native.Nat.{ℕ, _≤_, _<_}
+
+-- v is at least x, or at most x
+abbrev pub Beyond : Bool → ℕ → ℕ → Type 0
+Beyond true x v = x ≤ v
+Beyond false x v = v ≤ x
+
+-- v is the largest, or the smallest, of two numbers
+pub record Further (most : Bool) (a b v : ℕ) : Type 0 where
+  pub first : Beyond most a v
+  pub second : Beyond most b v
+  pub taken : (v ≡ a) ⊎ (v ≡ b)
+
+-- v is the largest, or the smallest, of the first n values
+pub record Extreme (most : Bool) (n : ℕ) (f : ℕ → ℕ) (v : ℕ) : Type 0 where
+  pub beyond : (k : ℕ) → k < n → Beyond most (f k) v
+  pub taken : (k : ℕ) × (k < n) × (f k ≡ v)
