@@ -7,3 +7,4 @@ pub mod Stocks
 pub mod Counting
 pub mod Bytes
 pub mod Extremes
+pub mod Lists

@@ -4,3 +4,4 @@ pub mod Sides
 pub mod Sweeping
 pub mod Solver
 pub mod Determined
+pub mod Moving

@@ -1,10 +1,17 @@
 // The worst that the replies to a move can do, by the ranks where they lead.
 use crate::buffers;
+use crate::moves;
+use block::layout;
 ghost use mathlib.Core.Path.{_≡_};
 ghost use Prim.Native.Nat.{ℕ, _+_, _*_, _≤_, _<_};
 ghost use lib.ListN.{length, getD};
+ghost use Rattle.block.specs.Decide.{Decides};
+ghost use Rattle.block.specs.Layout as L;
+ghost use Rattle.block.specs.Valid.{Valid};
 ghost use Rattle.game.specs.Buffers.{rankIn};
-ghost use Rattle.game.specs.Extremes.{Further, Extreme};
+ghost use Rattle.game.specs.Extremes.{Further, Extreme, Lists};
+ghost use Rattle.game.specs.Position.{MoveOf};
+ghost use Rattle.game.specs.Model.{structureOf, coalitionOf, ReplyTo};
 
 // The larger of two numbers, or the smaller.
 fn further(most: bool, a: usize, b: usize) -> usize
@@ -35,4 +42,34 @@ pub fn extreme(ranks: &[u8], targets: &[usize], n: usize, at: usize, most: bool)
         k += 1;
     }
     best
+}
+
+// Whether r is a reply to row i's team in state s.
+pub fn is_reply(block: &[u8], i: usize, s: usize, r: usize) -> bool
+    requires { ⌜ Valid (now block) ⌝ }
+    requires { ⌜ (i < L.rows (now block)) × L.Strategic (L.kind (now block) i) × (s < L.states (now block)) ⌝ }
+    ensures { λ t. ⌜ Decides (ReplyTo (now (block .entry)) i s r) t ⌝ }
+{
+    moves::is_move(block, s, 7 - layout::team(block, i), r)
+}
+
+// Where the replies to the move m lead in state s: for each reply the next state times c. Answers how many there are.
+pub fn targets(block: &[u8], i: usize, s: usize, m: usize, c: usize, out: &mut [usize]) -> usize
+    requires { ⌜ Valid (now block) ⌝ }
+    requires { ⌜ (i < L.rows (now block)) × L.Strategic (L.kind (now block) i) × (s < L.states (now block)) ⌝ }
+    requires { ⌜ MoveOf (structureOf (now block)) (coalitionOf (now block) i) s m ⌝ }
+    requires { ⌜ (64 ≤ length (now out)) × (c ≤ 256) ⌝ }
+    ensures { λ n. ⌜ Lists (ReplyTo (now (block .entry)) i s) (λ (r : ℕ). L.next (now (block .entry)) s (m + r) * c) (now (out .exit)) n ⌝ }
+    ensures { λ n. ⌜ (n ≤ 64) × (length (now (out .exit)) ≡ length (now (out .entry))) ⌝ }
+{
+    let mut n = 0;
+    let mut r = 0;
+    while r < 64 {
+        if is_reply(block, i, s, r) {
+            out[n] = layout::next(block, s, m + r) * c;
+            n += 1;
+        }
+        r += 1;
+    }
+    n
 }

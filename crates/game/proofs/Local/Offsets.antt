@@ -1,7 +1,8 @@
 -- Numbers of positions add up, so that an outcome's number is found by one subtraction: what the move takes has a number of its own.
 -- Assumes nothing.
-use mathlib.Core.Path.{_≡_, sym, ap}
+use mathlib.Core.Path.{_≡_, sym, _∙_, ap}
 use Prim.Native.Nat.{ℕ, zero, suc, _+_, _*_, _<_}
+use native.Mathlib.Nat.{mul-assoc}
 use native.Mathlib.Omega.{arith}
 use Rattle.game.specs.Rbatl.{Bound, limit, unlimited, Fits}
 use Rattle.game.specs.Position.{Arena, Position, places, stockBound, remaining, IsPosition, numberUpTo, number, cost, Affordable, outcome}
@@ -32,3 +33,28 @@ module _ (G : Arena) where
   outcome-number p m r fits paid =
       numbers-add (G .structure .resources) (outcome G p m r) (record { state = 0; stock = λ j. taken (G .bounds j) (cost G p m j) }) (record { state = outcome G p m r .state; stock = p .stock })
       (omega arith) (λ j l. sym (taken-back (G .bounds j) (p .stock j) (cost G p m j) (fits .1 j l) (paid j l)))
+
+  -- the stock places of a state together, and the number of a position's stocks among them
+  abbrev pub stockPlacesUpTo : ℕ → ℕ
+  stockPlacesUpTo zero = 1
+  stockPlacesUpTo (suc n) = stockPlacesUpTo n * places (G .bounds n)
+
+  abbrev pub stockPlaces : ℕ
+  stockPlaces = stockPlacesUpTo (G .structure .resources)
+
+  abbrev pub stocksOf : Position → Position
+  stocksOf p = record { state = 0; stock = p .stock }
+
+  number-splits : (n : ℕ) (p : Position) → numberUpTo G n p ≡ p .state * stockPlacesUpTo n + numberUpTo G n (stocksOf p)
+  number-splits zero p = omega arith
+  number-splits (suc n) p =
+      let scaled : numberUpTo G n p * places (G .bounds n) ≡ (p .state * stockPlacesUpTo n + numberUpTo G n (stocksOf p)) * places (G .bounds n) = ap (λ (k : ℕ). k * places (G .bounds n)) (number-splits n p) in
+      omega (arith, scaled, mul-assoc (p .state) (stockPlacesUpTo n) (places (G .bounds n)))
+
+  pub state-and-stocks : (p : Position) → number G p ≡ p .state * stockPlaces + number G (stocksOf p)
+  state-and-stocks p = number-splits (G .structure .resources) p
+
+  -- what remains of the stocks has the number of the stocks, less what the move takes
+  pub remains-number : (p : Position) (m r : ℕ) → IsPosition G p → Affordable G p m → number G (stocksOf (outcome G p m r)) + offset p m ≡ number G (stocksOf p)
+  remains-number p m r fits paid =
+      omega (arith, outcome-number p m r fits paid, state-and-stocks (outcome G p m r), state-and-stocks (record { state = outcome G p m r .state; stock = p .stock }))
