@@ -1,8 +1,10 @@
 -- Words that stand as bytes in a lent buffer, lowest byte first (document 01, "When a row is true"): ranks of two bytes, sets of four.
+use mathlib.Core.Bool.{Bool, true, false}
 use mathlib.Core.List.{List}
 use mathlib.Core.Path.{_≡_}
-use Prim.Native.Nat.{ℕ, _+_, _*_}
+use Prim.Native.Nat.{ℕ, suc, _+_, _*_, _≤_, _<_}
 use lib.ListN.{getD, length}
+use Rattle.game.specs.Extremes.{Extreme}
 
 -- the rank of position p
 abbrev pub rankIn : List ℕ → ℕ → ℕ
@@ -17,3 +19,14 @@ pub record Stored (wordOf : List ℕ → ℕ → ℕ) (before after : List ℕ) 
   pub stored : wordOf after p ≡ v
   pub others : (i : ℕ) → (i ≡ p → ⊥) → wordOf after i ≡ wordOf before i
   pub kept : length after ≡ length before
+
+-- a rank was lowered to v, or was at most v already and nothing changed
+abbrev pub Lowered : Bool → List ℕ → List ℕ → ℕ → ℕ → Type 0
+Lowered true before after p v = Stored rankIn before after p v × (v < rankIn before p)
+Lowered false before after p v = (after ≡ before) × (rankIn before p ≤ v)
+
+-- a rank was lowered to one more than the largest of n values, unless it was as low already
+pub record Improved (did : Bool) (before after : List ℕ) (p n : ℕ) (f : ℕ → ℕ) : Type 0 where
+  pub largest : ℕ
+  pub found : Extreme true n f largest
+  pub lowered : Lowered did before after p (suc largest)

@@ -4,7 +4,7 @@ ghost use mathlib.Core.Logic.{_↔_, _⊎_};
 ghost use Prim.Native.Nat.{ℕ, _+_, _*_, _^_, _≤_, _<_};
 ghost use lib.ListN.{length};
 ghost use Rattle.block.specs.Decide.{Decides, Bit};
-ghost use Rattle.game.specs.Buffers.{rankIn, wordIn, Stored};
+ghost use Rattle.game.specs.Buffers.{rankIn, wordIn, Stored, Lowered};
 
 fn wide(x: u8) -> usize
     ensures { λ r. ⌜ (r ≡ x) × (r < 256) ⌝ }
@@ -29,6 +29,18 @@ pub fn set_rank(ranks: &mut [u8], p: usize, v: usize)
 {
     ranks[2 * p] = (v % 256) as u8;
     ranks[2 * p + 1] = (v / 256 % 256) as u8;
+}
+
+// Lowers the rank of position p to v, unless it is as low already. Tells whether it did.
+pub fn lower(ranks: &mut [u8], p: usize, v: usize) -> bool
+    requires { ⌜ 2 * p + 1 < length (now ranks) ⌝ }
+    ensures { λ r. ⌜ Lowered r (now (ranks .entry)) (now (ranks .exit)) p v ⌝ }
+{
+    if rank_at(ranks, p) <= v {
+        return false;
+    }
+    set_rank(ranks, p, v);
+    true
 }
 
 // The set of row i.

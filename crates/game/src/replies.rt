@@ -8,7 +8,7 @@ ghost use lib.ListN.{length, getD};
 ghost use Rattle.block.specs.Decide.{Decides};
 ghost use Rattle.block.specs.Layout as L;
 ghost use Rattle.block.specs.Valid.{Valid};
-ghost use Rattle.game.specs.Buffers.{rankIn};
+ghost use Rattle.game.specs.Buffers.{rankIn, Improved};
 ghost use Rattle.game.specs.Extremes.{Further, Extreme, Lists};
 ghost use Rattle.game.specs.Position.{MoveOf};
 ghost use Rattle.game.specs.Model.{structureOf, coalitionOf, ReplyTo};
@@ -42,6 +42,16 @@ pub fn extreme(ranks: &[u8], targets: &[usize], n: usize, at: usize, most: bool)
         k += 1;
     }
     best
+}
+
+// Lowers the rank of position p to one more than the largest at the targets, if that is less. Tells whether it did.
+pub fn improve(ranks: &mut [u8], targets: &[usize], n: usize, at: usize, p: usize) -> bool
+    requires { ⌜ (0 < n) × (n ≤ length (now targets)) × (2 * p + 1 < length (now ranks)) ⌝ }
+    requires { ⌜ ((k : ℕ) → k < n → 2 * (getD (now targets) k 0 + at) + 1 < length (now ranks)) ⌝ }
+    ensures { λ r. ⌜ Improved r (now (ranks .entry)) (now (ranks .exit)) p n (λ (k : ℕ). rankIn (now (ranks .entry)) (getD (now (targets .entry)) k 0 + at)) ⌝ }
+{
+    let v = extreme(ranks, targets, n, at, true);
+    buffers::lower(ranks, p, v + 1)
 }
 
 // Whether r is a reply to row i's team in state s.
