@@ -5,3 +5,4 @@ pub mod Sweeping
 pub mod Solver
 pub mod Determined
 pub mod Moving
+pub mod Steps
