@@ -6,3 +6,4 @@ pub mod Solver
 pub mod Determined
 pub mod Moving
 pub mod Steps
+pub mod Improving
