@@ -9,13 +9,13 @@ use lib.ListN.{getD}
 use Rattle.block.specs.Layout as L
 use Rattle.block.specs.Layout.{Block}
 use Rattle.block.specs.Valid.{Valid}
-use Rattle.game.specs.Position.{Position, IsPosition, number, positions, Allowed}
+use Rattle.game.specs.Position.{Position, IsPosition, number, stockPlaces, positions, Allowed}
 use Rattle.game.specs.Facts.{CanForce}
 use Rattle.game.specs.Extremes.{Extreme, Lists}
 use Rattle.game.specs.Buffers.{rankIn, Stored, ImproveAt}
 use Rattle.game.specs.Sweep.{Worst, Kept, total}
 use Rattle.game.specs.Model.{arenaOf, ReplyTo}
-use Rattle.game.proofs.Local.Offsets.{offset, stockPlaces, stocksOf, state-and-stocks, remains-number}
+use Rattle.game.proofs.Local.Offsets.{offset, stocksOf, state-and-stocks, remains-number}
 use Rattle.game.proofs.Blocks.Passing.{valid-proper}
 use Rattle.game.proofs.Solving.Moving.{list-worst, until-kept, total-lowered}
 

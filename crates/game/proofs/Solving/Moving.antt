@@ -9,7 +9,7 @@ use lib.ListN.{getD}
 use Rattle.block.specs.Layout as L
 use Rattle.block.specs.Layout.{Block}
 use Rattle.block.specs.Valid.{Valid}
-use Rattle.game.specs.Position.{Arena, Position, IsPosition, number, positions, Reply, Allowed, outcome}
+use Rattle.game.specs.Position.{Arena, Position, IsPosition, number, stockPlaces, positions, Reply, Allowed, outcome}
 use Rattle.game.specs.Facts.{CanForce, CanAnswer}
 use Rattle.game.specs.Buffers.{Stored}
 use Rattle.game.specs.Extremes.{Beyond, Extreme, Lists}
@@ -24,7 +24,7 @@ use Rattle.game.proofs.Local.ByNumber.{force-transfers}
 use Rattle.game.proofs.Solving.Sweeping.{force-weakens, lower-sound}
 use Rattle.game.proofs.Blocks.Passing.{valid-proper}
 use Rattle.game.proofs.Blocks.Reading.{outcome-state}
-use Rattle.game.proofs.Local.Offsets.{offset, stockPlaces, stocksOf, state-and-stocks, remains-number}
+use Rattle.game.proofs.Local.Offsets.{offset, stocksOf, state-and-stocks, remains-number}
 
 module _ (b : Block) (valid : Valid b) (i : ℕ) (p : Position) (m : ℕ) (fits : IsPosition (arenaOf b i) p) (allowed : Allowed (arenaOf b i) p m) where
   -- the number of an outcome: where the reply leads, and the stocks less what the move takes
