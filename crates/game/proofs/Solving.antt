@@ -4,3 +4,6 @@ pub mod Sides
 pub mod Sweeping
 pub mod Solver
 pub mod Determined
+pub mod Moving
+pub mod Steps
+pub mod Improving

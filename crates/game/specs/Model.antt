@@ -8,7 +8,7 @@ use Rattle.block.specs.Layout as L
 use Rattle.block.specs.Layout.{Block}
 use Rattle.game.specs.Rbatl as R
 use Rattle.game.specs.Rbatl.{Bound, limit, unlimited, Fits, Bounds, Coalition, Formula, Structure, moveCost, Sat}
-use Rattle.game.specs.Position.{Arena, joint, stockBound}
+use Rattle.game.specs.Position.{Arena, MoveOf, joint, stockBound, opponents}
 use Rattle.game.specs.Play as P
 use Rattle.game.specs.Play.{Objective}
 
@@ -85,3 +85,7 @@ objectiveOf b i =
 -- a stock of resource j pays for the move m of row i's coalition in state s
 abbrev pub Pays : Block → ℕ → ℕ → ℕ → ℕ → ℕ → Type 0
 Pays b i s m j stock = Fits (moveCost (structureOf b) (coalitionOf b i) s (L.digit m) j) (stockBound (boundsOf b i j) stock)
+
+-- r is a reply to row i's coalition in state s
+abbrev pub ReplyTo : Block → ℕ → ℕ → ℕ → Type 0
+ReplyTo b i s r = MoveOf (structureOf b) (opponents (coalitionOf b i)) s r

@@ -79,6 +79,14 @@ module _ (G : Arena) where
   abbrev pub number : Position → ℕ
   number p = numberUpTo (G .structure .resources) p
 
+  -- how many stock places there are in each state
+  abbrev pub stockPlacesUpTo : ℕ → ℕ
+  stockPlacesUpTo zero = 1
+  stockPlacesUpTo (suc n) = stockPlacesUpTo n * places (G .bounds n)
+
+  abbrev pub stockPlaces : ℕ
+  stockPlaces = stockPlacesUpTo (G .structure .resources)
+
   -- how many positions there are
   abbrev pub positionsUpTo : ℕ → ℕ
   positionsUpTo zero = G .structure .states

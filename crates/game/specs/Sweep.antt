@@ -1,8 +1,12 @@
--- What a solver keeps while it lowers ranks in place, besides Sound.
-use mathlib.Core.Bool.{cond}
+-- What a solver keeps while it lowers ranks in place, and by what it lowers them.
+use mathlib.Core.Bool.{Bool, cond}
+use mathlib.Core.Path.{_≡_}
 use Prim.Native.Nat.{ℕ, zero, suc, _+_, _≤_, _<_}
 use lib.Dec.{ltb}
+use Rattle.game.specs.Position.{Arena, Position, number, positions, Reply, outcome}
 use Rattle.game.specs.Table.{never}
+use Rattle.game.specs.Facts.{Sound}
+use Rattle.game.specs.Extremes.{Beyond}
 
 -- how many of the first n ranks are below k
 abbrev pub countBelow : (ℕ → ℕ) → ℕ → ℕ → ℕ
@@ -13,7 +17,17 @@ countBelow rank (suc n) k = countBelow rank n k + cond (ltb (rank n) k) 1 0
 abbrev pub Crowded : ℕ → (ℕ → ℕ) → Type 0
 Crowded n rank = (i : ℕ) → i < n → rank i < never → rank i ≤ countBelow rank n (rank i)
 
+-- finite ranks are sound, and crowded
+pub record Kept (G : Arena) (Safe Goal : ℕ → Type 0) (Attack : Position → (Position → Type 0) → Type 0) (rank : ℕ → ℕ) : Type 0 where
+  pub sound : Sound G Safe Goal (λ x. rank (number G x)) Attack
+  pub crowded : Crowded (positions G) rank
+
 -- the sum of the first n ranks, which falls whenever one is lowered
 abbrev pub total : (ℕ → ℕ) → ℕ → ℕ
 total rank zero = 0
 total rank (suc n) = total rank n + rank n
+
+-- v is the largest rank over the outcomes of the move m at p, or the smallest
+pub record Worst (G : Arena) (most : Bool) (rank : ℕ → ℕ) (p : Position) (m v : ℕ) : Type 0 where
+  pub each : (r : ℕ) → Reply G p r → Beyond most (rank (number G (outcome G p m r))) v
+  pub some : (r : ℕ) × Reply G p r × (rank (number G (outcome G p m r)) ≡ v)

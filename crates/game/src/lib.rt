@@ -1,3 +1,5 @@
 // The meaning of a formula row, and the game on positions that decides it.
+pub mod buffers;
 pub mod moves;
 pub mod positions;
+pub mod replies;

@@ -2,7 +2,9 @@
 use block::layout;
 ghost use mathlib.Core.Path.{_≡_};
 ghost use Prim.Native.Nat.{_<_};
-ghost use Rattle.block.specs.Layout.{states, resources, digit};
+ghost use mathlib.Core.Bool.{cond};
+ghost use Rattle.block.specs.Decide.{Decides};
+ghost use Rattle.block.specs.Layout.{states, resources, agents, count, digit};
 ghost use Rattle.block.specs.Valid.{Valid};
 ghost use Rattle.game.specs.Rbatl.{moveCost};
 ghost use Rattle.game.specs.Position.{partOf, MoveOf};
@@ -46,4 +48,37 @@ pub fn cost(block: &[u8], s: usize, team: usize, m: usize, j: usize) -> usize
         a += 1;
     }
     sum
+}
+
+// Whether k is an action of agent a in state s, or 0 for an agent outside the team.
+fn acts(block: &[u8], s: usize, a: usize, inside: bool, k: usize) -> bool
+    requires { ⌜ Valid (now block) ⌝ }
+    requires { ⌜ (s < states (now block)) × (a < agents (now block)) ⌝ }
+    ensures { λ r. ⌜ Decides (cond inside (k < count (now (block .entry)) s a) (k ≡ 0)) r ⌝ }
+{
+    if inside {
+        return k < layout::count(block, s, a);
+    }
+    k == 0
+}
+
+// Whether m is the number of a move of a team in state s.
+pub fn is_move(block: &[u8], s: usize, team: usize, m: usize) -> bool
+    requires { ⌜ Valid (now block) ⌝ }
+    requires { ⌜ s < states (now block) ⌝ }
+    ensures { λ r. ⌜ Decides (MoveOf (structureOf (now (block .entry))) (bit team) s m) r ⌝ }
+{
+    let n = layout::agents(block);
+    let mut a = 0;
+    let mut rest = team;
+    let mut k = m;
+    while a < n {
+        if !acts(block, s, a, rest % 2 == 1, k % 4) {
+            return false;
+        }
+        rest = rest / 2;
+        k = k / 4;
+        a += 1;
+    }
+    k == 0
 }

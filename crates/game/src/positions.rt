@@ -24,20 +24,29 @@ pub fn places(block: &[u8], i: usize, j: usize) -> usize
     bound + 1
 }
 
-// How many positions row i has.
-pub fn count(block: &[u8], i: usize) -> usize
+// How many stock places row i has in each state.
+pub fn stock_places(block: &[u8], i: usize) -> usize
     requires { ⌜ Valid (now block) ⌝ }
     requires { ⌜ (i < L.rows (now block)) × L.Strategic (L.kind (now block) i) ⌝ }
-    ensures { λ r. ⌜ (r ≡ P.positions (arenaOf (now (block .entry)) i)) × (r ≤ 6144) ⌝ }
+    ensures { λ r. ⌜ (r ≡ P.stockPlaces (arenaOf (now (block .entry)) i)) × (r ≤ 256) ⌝ }
 {
     let n = layout::resources(block);
-    let mut c = layout::states(block);
+    let mut c = 1;
     let mut j = 0;
     while j < n {
         c = c * places(block, i, j);
         j += 1;
     }
     c
+}
+
+// How many positions row i has.
+pub fn count(block: &[u8], i: usize) -> usize
+    requires { ⌜ Valid (now block) ⌝ }
+    requires { ⌜ (i < L.rows (now block)) × L.Strategic (L.kind (now block) i) ⌝ }
+    ensures { λ r. ⌜ (r ≡ P.positions (arenaOf (now (block .entry)) i)) × (r ≤ 6144) ⌝ }
+{
+    layout::states(block) * stock_places(block, i)
 }
 
 fn wide(x: u8) -> usize

@@ -1,15 +1,15 @@
 -- A block that passes holds a proper structure, and its rows have few positions. Assumes nothing.
 use mathlib.Core.Logic.{inl, inr}
-use mathlib.Core.Path.{_≡_, ap}
+use mathlib.Core.Path.{_≡_, _∙_, ap}
 use Prim.Native.Nat.{ℕ, zero, suc, _*_, _/_, _^_, _≤_, _<_}
 use native.Mathlib.Decide.{decLt}
-use native.Mathlib.Nat.{div-eq-of-lt, mul-le-mul, mul-le-mul-left, pow-le-pow-right, pow-succ'}
+use native.Mathlib.Nat.{div-eq-of-lt, mul-assoc, mul-le-mul, pow-le-pow-right, pow-succ'}
 use native.Mathlib.Omega.{arith}
 use Rattle.block.specs.Layout as L
 use Rattle.block.specs.Layout.{Block, digit, Acts, Strategic}
 use Rattle.block.specs.Valid.{Valid, RowFits}
 use Rattle.game.specs.Rbatl.{unlimited, Joint, Available}
-use Rattle.game.specs.Position.{places, joint, positionsUpTo, positions}
+use Rattle.game.specs.Position.{places, joint, stockPlacesUpTo, positionsUpTo, positions}
 use Rattle.game.specs.Model.{structureOf, boundsOf, arenaOf}
 use Rattle.game.proofs.Numbers.Decide.{eq?}
 use Rattle.game.proofs.Numbers.Joint.{joint-cong, joint-below, digit-joint}
@@ -54,17 +54,25 @@ module _ (b : Block) (valid : Valid b) where
       go (yes e) = omega (arith, ap places (bound-unlimited b i r l e))
       go (no ne) = omega (arith, ap places (bound-limited b i r l ne), bound-small b i r l row strategic ne)
 
-  -- there are at most 6,144 positions, and no more over the first resources
-  pub few-upto : (i : ℕ) → i < L.rows b → Strategic (L.kind b i) → (n : ℕ) → n ≤ L.resources b → positionsUpTo (arenaOf b i) n ≤ 6144
-  few-upto i inside strategic n l =
+  -- there are at most 256 stock places, and no more over the first resources
+  pub few-stocks : (i : ℕ) → i < L.rows b → Strategic (L.kind b i) → (n : ℕ) → n ≤ L.resources b → stockPlacesUpTo (arenaOf b i) n ≤ 256
+  few-stocks i inside strategic n l =
       let at-most : n ≤ 2 = omega (arith, valid .sized .resources-fit .1) in
-      let power : 16 ^ n ≤ 16 ^ 2 = pow-le-pow-right {n = 16} (omega arith) at-most in
-      omega (arith, upto n l, mul-le-mul-left 24 power)
+      omega (arith, upto n l, pow-le-pow-right {n = 16} (omega arith) at-most)
     where
-      upto : (n : ℕ) → n ≤ L.resources b → positionsUpTo (arenaOf b i) n ≤ 24 * 16 ^ n
-      upto zero l = omega (arith, valid .sized .states-fit .1)
+      upto : (n : ℕ) → n ≤ L.resources b → stockPlacesUpTo (arenaOf b i) n ≤ 16 ^ n
+      upto zero l = omega arith
       upto (suc n) l =
           omega (arith, mul-le-mul (upto n (omega arith)) (few-places i (valid .row-fits i inside) strategic n (omega arith)), pow-succ' 16 n)
+
+  -- each state has as many positions as there are stock places
+  pub states-times : (i n : ℕ) → positionsUpTo (arenaOf b i) n ≡ L.states b * stockPlacesUpTo (arenaOf b i) n
+  states-times i zero = omega arith
+  states-times i (suc n) = ap (λ (k : ℕ). k * places (boundsOf b i n)) (states-times i n) ∙ mul-assoc (L.states b) (stockPlacesUpTo (arenaOf b i) n) (places (boundsOf b i n))
+
+  -- there are at most 6,144 positions, and no more over the first resources
+  pub few-upto : (i : ℕ) → i < L.rows b → Strategic (L.kind b i) → (n : ℕ) → n ≤ L.resources b → positionsUpTo (arenaOf b i) n ≤ 6144
+  few-upto i inside strategic n l = omega (arith, states-times i n, mul-le-mul (valid .sized .states-fit .1) (few-stocks i inside strategic n l))
 
   pub few-positions : (i : ℕ) → i < L.rows b → Strategic (L.kind b i) → positions (arenaOf b i) ≤ 6144
   few-positions i inside strategic = few-upto i inside strategic (L.resources b) (omega arith)

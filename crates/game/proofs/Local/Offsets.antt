@@ -2,9 +2,10 @@
 -- Assumes nothing.
 use mathlib.Core.Path.{_≡_, sym, ap}
 use Prim.Native.Nat.{ℕ, zero, suc, _+_, _*_, _<_}
+use native.Mathlib.Nat.{mul-assoc}
 use native.Mathlib.Omega.{arith}
 use Rattle.game.specs.Rbatl.{Bound, limit, unlimited, Fits}
-use Rattle.game.specs.Position.{Arena, Position, places, stockBound, remaining, IsPosition, numberUpTo, number, cost, Affordable, outcome}
+use Rattle.game.specs.Position.{Arena, Position, places, stockBound, remaining, IsPosition, numberUpTo, number, stockPlacesUpTo, stockPlaces, cost, Affordable, outcome}
 
 -- what a cost takes of a stock
 abbrev pub taken : Bound → ℕ → ℕ
@@ -32,3 +33,21 @@ module _ (G : Arena) where
   outcome-number p m r fits paid =
       numbers-add (G .structure .resources) (outcome G p m r) (record { state = 0; stock = λ j. taken (G .bounds j) (cost G p m j) }) (record { state = outcome G p m r .state; stock = p .stock })
       (omega arith) (λ j l. sym (taken-back (G .bounds j) (p .stock j) (cost G p m j) (fits .1 j l) (paid j l)))
+
+  -- a position's stocks have a number of their own among the stock places of a state
+  abbrev pub stocksOf : Position → Position
+  stocksOf p = record { state = 0; stock = p .stock }
+
+  number-splits : (n : ℕ) (p : Position) → numberUpTo G n p ≡ p .state * stockPlacesUpTo G n + numberUpTo G n (stocksOf p)
+  number-splits zero p = omega arith
+  number-splits (suc n) p =
+      let scaled : numberUpTo G n p * places (G .bounds n) ≡ (p .state * stockPlacesUpTo G n + numberUpTo G n (stocksOf p)) * places (G .bounds n) = ap (λ (k : ℕ). k * places (G .bounds n)) (number-splits n p) in
+      omega (arith, scaled, mul-assoc (p .state) (stockPlacesUpTo G n) (places (G .bounds n)))
+
+  pub state-and-stocks : (p : Position) → number G p ≡ p .state * stockPlaces G + number G (stocksOf p)
+  state-and-stocks p = number-splits (G .structure .resources) p
+
+  -- what remains of the stocks has the number of the stocks, less what the move takes
+  pub remains-number : (p : Position) (m r : ℕ) → IsPosition G p → Affordable G p m → number G (stocksOf (outcome G p m r)) + offset p m ≡ number G (stocksOf p)
+  remains-number p m r fits paid =
+      omega (arith, outcome-number p m r fits paid, state-and-stocks (outcome G p m r), state-and-stocks (record { state = outcome G p m r .state; stock = p .stock }))

@@ -1,78 +1,36 @@
--- `count` multiplies the states by each resource's stock places. Assumes nothing.
-use mathlib.Core.Path.{_≡_, sym, _∙_, ap, ap₂}
-use Prim.Native.Nat.{ℕ, _+_, _*_, _-_, _≤_}
-use native.Mathlib.Numerals.{add-one}
+-- `count` multiplies the states by the stock places of each. Assumes nothing.
+use mathlib.Core.Path.{_≡_, sym, _∙_, ap₂}
+use Prim.Native.Nat.{_*_, _≤_}
 use native.Mathlib.Omega.{arith}
+use borrow.Author.Needs.{needs}
 use Rattle.block.specs.Layout as L
-use Rattle.block.specs.Layout.{Block}
-use Rattle.game.specs.Position.{places, positionsUpTo}
-use Rattle.game.specs.Model.{boundsOf, arenaOf}
-use Rattle.game.proofs.Blocks.Passing.{few-upto, few-positions}
+use Rattle.game.specs.Position.{positions}
+use Rattle.game.specs.Model.{arenaOf}
+use Rattle.game.proofs.Blocks.Passing.{states-times, few-positions}
 use Rattle.game.proofs.positions.count.Statement.{statement}
 use Rattle.game.proofs.positions.count.Tie as tie
 
-abbrev Inv-loop : tie.InvT-loop
-Inv-loop block i n c₀ j₀ c j = (j ≤ n) × (c ≡ positionsUpTo (arenaOf block i) j)
+states-requires : tie.Need-states-requires
+states-requires c κs = search needs
 
-abbrev μ-loop : tie.MeasureT-loop
-μ-loop block i n c₀ j₀ c j = n - j
+stock-places-requires : tie.Need-stock-places-requires
+stock-places-requires c κs = search needs
 
-resources-requires : tie.Need-resources-requires Inv-loop μ-loop
-resources-requires c κs = c .before .pre .0 .sized .bytes
+whole : (c : tie.After-stock-places) → c .before .states .result * c .stock-places .result ≡ positions (arenaOf (c .before .before .before .args .block .now) (c .before .before .before .args .i))
+whole c =
+    let start = c .before .before .before in
+    ap₂ _*_ (c .before .states .ensures) (c .stock-places .ensures .0) ∙ sym (states-times (start .args .block .now) (start .pre .0) (start .args .i) (L.resources (start .args .block .now)))
 
-states-requires : tie.Need-states-requires Inv-loop μ-loop
-states-requires c κs = c .before .before .pre .0 .sized .bytes
+few : (c : tie.After-stock-places) → c .before .states .result * c .stock-places .result ≤ 6144
+few c =
+    let start = c .before .before .before in
+    omega (arith, whole c, few-positions (start .args .block .now) (start .pre .0) (start .args .i) (start .pre .1 .0) (start .pre .1 .1))
 
-loop-holds : tie.Need-loop-holds Inv-loop μ-loop
-loop-holds c = (omega arith, c .states .ensures)
+mul-result : tie.Need-mul-result
+mul-result c = record { fits = omega (arith, few c) }
 
-places-requires : tie.Need-places-requires Inv-loop μ-loop
-places-requires c κs =
-    let start = c .before .before .before .before .before in
-    (start .pre .0, (start .pre .1 .0, omega (arith, c .before .before .before .resources .ensures), start .pre .1 .1))
-
--- one more resource
-more : (b : Block) (i j c r : ℕ) → c ≡ positionsUpTo (arenaOf b i) j → r ≡ places (boundsOf b i j) → c * r ≡ positionsUpTo (arenaOf b i) (j + 1)
-more b i j c r e e′ = ap₂ _*_ e e′ ∙ sym (ap (positionsUpTo (arenaOf b i)) (add-one j))
-
-mul-c : tie.Need-mul-c Inv-loop μ-loop
-mul-c c =
-    let start = c .before .before .before .before .before .before in
-    let at = c .before .before .loop in
-    let fits : at .j + 1 ≤ L.resources (start .args .block .now) = omega (arith, c .before .before .before .before .resources .ensures) in
-    omega (arith, more (start .args .block .now) (start .args .i) (at .j) (at .c) (c .places .result) (at .inv .1) (c .places .ensures), few-upto (start .args .block .now) (start .pre .0) (start .args .i) (start .pre .1 .0) (start .pre .1 .1) (at .j + 1) fits)
-
-add-j : tie.Need-add-j Inv-loop μ-loop
-add-j c = omega arith
-
-loop-less : tie.Need-loop-less Inv-loop μ-loop
-loop-less c = omega arith
-
-loop-again : tie.Need-loop-again Inv-loop μ-loop
-loop-again c =
-    let start = c .before .before .before .before .before .before in
-    let at = c .before .before .loop in
-    (omega arith, more (start .args .block .now) (start .args .i) (at .j) (at .c) (c .places .result) (at .inv .1) (c .places .ensures))
-
-returns : tie.Need-returns Inv-loop μ-loop
-returns c =
-    let start = c .before .before .before .before .before in
-    let all : c .before .loop .j ≡ L.resources (start .args .block .now) = omega (arith, c .before .before .before .resources .ensures) in
-    let whole = c .before .loop .inv .1 ∙ ap (positionsUpTo (arenaOf (start .args .block .now) (start .args .i))) all in
-    (whole, omega (arith, whole, few-positions (start .args .block .now) (start .pre .0) (start .args .i) (start .pre .1 .0) (start .pre .1 .1)))
+returns : tie.Need-returns
+returns c = (whole c, few c)
 
 pub count-spec : {M : Type 1} → statement M
-count-spec =
-    tie.close
-    (tie.spec
-    Inv-loop
-    μ-loop
-    resources-requires
-    states-requires
-    loop-holds
-    places-requires
-    mul-c
-    add-j
-    loop-less
-    loop-again
-    returns)
+count-spec = tie.close (tie.spec states-requires stock-places-requires mul-result returns)

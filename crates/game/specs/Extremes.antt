@@ -1,0 +1,29 @@
+-- Numbers in a list, and the largest or the smallest of them as one notion: until asks for the largest rank over the replies, always
+-- for the smallest.
+use mathlib.Core.Bool.{Bool, true, false}
+use mathlib.Core.List.{List}
+use mathlib.Core.Logic.{_⊎_}
+use mathlib.Core.Path.{_≡_}
+use Prim.Native.Nat.{ℕ, _≤_, _<_}
+use lib.ListN.{getD}
+
+-- v is at least x, or at most x
+abbrev pub Beyond : Bool → ℕ → ℕ → Type 0
+Beyond true x v = x ≤ v
+Beyond false x v = v ≤ x
+
+-- v is the largest, or the smallest, of two numbers
+pub record Further (most : Bool) (a b v : ℕ) : Type 0 where
+  pub first : Beyond most a v
+  pub second : Beyond most b v
+  pub taken : (v ≡ a) ⊎ (v ≡ b)
+
+-- v is the largest, or the smallest, of the first n values
+pub record Extreme (most : Bool) (n : ℕ) (f : ℕ → ℕ) (v : ℕ) : Type 0 where
+  pub beyond : (k : ℕ) → k < n → Beyond most (f k) v
+  pub taken : (k : ℕ) × (k < n) × (f k ≡ v)
+
+-- the first n places of a list hold the value of each r that has the property, and of no other
+pub record Lists (P : ℕ → Type 0) (f : ℕ → ℕ) (l : List ℕ) (n : ℕ) : Type 0 where
+  pub each : (r : ℕ) → P r → (k : ℕ) × (k < n) × (getD l k 0 ≡ f r)
+  pub only : (k : ℕ) → k < n → (r : ℕ) × P r × (getD l k 0 ≡ f r)

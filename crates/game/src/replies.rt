@@ -1,0 +1,112 @@
+// The worst that the replies to a move can do, by the ranks where they lead.
+use crate::buffers;
+use crate::moves;
+use block::layout;
+ghost use mathlib.Core.Path.{_≡_};
+ghost use Prim.Native.Nat.{ℕ, _+_, _*_, _-_, _≤_, _<_};
+ghost use lib.ListN.{length, getD};
+ghost use Rattle.block.specs.Decide.{Decides};
+ghost use Rattle.block.specs.Layout as L;
+ghost use Rattle.block.specs.Valid.{Valid};
+ghost use Rattle.game.specs.Buffers.{rankIn, Improved, Steps, ImproveAt};
+ghost use Rattle.game.specs.Extremes.{Further, Extreme, Lists};
+ghost use Rattle.game.specs.Position.{MoveOf};
+ghost use Rattle.game.specs.Model.{structureOf, coalitionOf, ReplyTo};
+
+// The larger of two numbers, or the smaller.
+fn further(most: bool, a: usize, b: usize) -> usize
+    ensures { λ r. ⌜ Further most a b r ⌝ }
+{
+    if most {
+        if a < b {
+            return b;
+        }
+        return a;
+    }
+    if a < b {
+        return a;
+    }
+    b
+}
+
+// The largest rank, or the smallest, of the positions that stand `at` places past the first n targets.
+pub fn extreme(ranks: &[u8], targets: &[usize], n: usize, at: usize, most: bool) -> usize
+    requires { ⌜ (0 < n) × (n ≤ length (now targets)) ⌝ }
+    requires { ⌜ ((k : ℕ) → k < n → 2 * (getD (now targets) k 0 + at) + 1 < length (now ranks)) ⌝ }
+    ensures { λ r. ⌜ Extreme most n (λ (k : ℕ). rankIn (now (ranks .entry)) (getD (now (targets .entry)) k 0 + at)) r × (r < 65536) ⌝ }
+{
+    let mut best = buffers::rank_at(ranks, targets[0] + at);
+    let mut k = 1;
+    while k < n {
+        best = further(most, buffers::rank_at(ranks, targets[k] + at), best);
+        k += 1;
+    }
+    best
+}
+
+// Lowers the rank of position p to one more than the largest at the targets, if that is less. Tells whether it did.
+pub fn improve(ranks: &mut [u8], targets: &[usize], n: usize, at: usize, p: usize) -> bool
+    requires { ⌜ (0 < n) × (n ≤ length (now targets)) × (2 * p + 1 < length (now ranks)) ⌝ }
+    requires { ⌜ ((k : ℕ) → k < n → 2 * (getD (now targets) k 0 + at) + 1 < length (now ranks)) ⌝ }
+    ensures { λ r. ⌜ Improved r (now (ranks .entry)) (now (ranks .exit)) p n (λ (k : ℕ). rankIn (now (ranks .entry)) (getD (now (targets .entry)) k 0 + at)) ⌝ }
+{
+    let v = extreme(ranks, targets, n, at, true);
+    buffers::lower(ranks, p, v + 1)
+}
+
+// Improves the ranks at the first count places past base, for a move that takes `taken` of their stocks. Tells whether any fell.
+pub fn improve_all(
+    ranks: &mut [u8],
+    targets: &[usize],
+    n: usize,
+    places: &[usize],
+    count: usize,
+    base: usize,
+    taken: usize,
+) -> bool
+    requires { ⌜ (0 < n) × (n ≤ length (now targets)) × (count ≤ length (now places)) ⌝ }
+    requires { ⌜ ((k : ℕ) → k < count → (taken ≤ getD (now places) k 0) × (2 * (base + getD (now places) k 0) + 1 < length (now ranks))) ⌝ }
+    requires { ⌜ ((k j : ℕ) → k < count → j < n → 2 * (getD (now targets) j 0 + (getD (now places) k 0 - taken)) + 1 < length (now ranks)) ⌝ }
+    ensures { λ r. ⌜ Steps (ImproveAt (now (targets .entry)) n (now (places .entry)) base taken) count r (now (ranks .entry)) (now (ranks .exit)) ⌝ }
+{
+    let mut did = false;
+    let mut k = 0;
+    while k < count {
+        let place = places[k];
+        if improve(ranks, targets, n, place - taken, base + place) {
+            did = true;
+        }
+        k += 1;
+    }
+    did
+}
+
+// Whether r is a reply to row i's team in state s.
+pub fn is_reply(block: &[u8], i: usize, s: usize, r: usize) -> bool
+    requires { ⌜ Valid (now block) ⌝ }
+    requires { ⌜ (i < L.rows (now block)) × L.Strategic (L.kind (now block) i) × (s < L.states (now block)) ⌝ }
+    ensures { λ t. ⌜ Decides (ReplyTo (now (block .entry)) i s r) t ⌝ }
+{
+    moves::is_move(block, s, 7 - layout::team(block, i), r)
+}
+
+// Where the replies to the move m lead in state s: for each reply the next state times c. Answers how many there are.
+pub fn targets(block: &[u8], i: usize, s: usize, m: usize, c: usize, out: &mut [usize]) -> usize
+    requires { ⌜ Valid (now block) ⌝ }
+    requires { ⌜ (i < L.rows (now block)) × L.Strategic (L.kind (now block) i) × (s < L.states (now block)) ⌝ }
+    requires { ⌜ MoveOf (structureOf (now block)) (coalitionOf (now block) i) s m ⌝ }
+    requires { ⌜ (64 ≤ length (now out)) × (c ≤ 256) ⌝ }
+    ensures { λ n. ⌜ Lists (ReplyTo (now (block .entry)) i s) (λ (r : ℕ). L.next (now (block .entry)) s (m + r) * c) (now (out .exit)) n ⌝ }
+    ensures { λ n. ⌜ (n ≤ 64) × (length (now (out .exit)) ≡ length (now (out .entry))) ⌝ }
+{
+    let mut n = 0;
+    let mut r = 0;
+    while r < 64 {
+        if is_reply(block, i, s, r) {
+            out[n] = layout::next(block, s, m + r) * c;
+            n += 1;
+        }
+        r += 1;
+    }
+    n
+}
