@@ -72,8 +72,7 @@ pub fn field(
             put(job, x, n);
             Value::At(n, next)
         }
-        // The form, with the byte after it, comes before the value.
-        Numeral::Missing => Value::Refused(Refusal::Form),
+        Numeral::Missing => Value::Refused(Refusal::Form), // the form comes before the value
     }
 }
 
