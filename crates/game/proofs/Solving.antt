@@ -6,4 +6,3 @@ pub mod Solver
 pub mod Determined
 pub mod Moving
 pub mod Steps
-pub mod Improving

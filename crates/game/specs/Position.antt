@@ -43,6 +43,11 @@ abbrev pub remaining : Bound → ℕ → ℕ → ℕ
 remaining (limit n) s c = s - c
 remaining unlimited s c = 0
 
+-- what a cost takes of a stock
+abbrev pub taken : Bound → ℕ → ℕ
+taken (limit n) c = c
+taken unlimited c = 0
+
 -- the number a0 + 4·a1 + 16·a2 of a joint action of n agents
 abbrev pub joint : ℕ → Joint → ℕ
 joint zero σ = 0
@@ -79,6 +84,10 @@ module _ (G : Arena) where
   abbrev pub number : Position → ℕ
   number p = numberUpTo (G .structure .resources) p
 
+  -- a position's stocks, which have a number of their own among the stock places of a state
+  abbrev pub stocksOf : Position → Position
+  stocksOf p = record { state = 0; stock = p .stock }
+
   -- how many stock places there are in each state
   abbrev pub stockPlacesUpTo : ℕ → ℕ
   stockPlacesUpTo zero = 1
@@ -113,6 +122,10 @@ module _ (G : Arena) where
   -- what a move of the coalition takes of a resource: the costs of its own agents alone
   abbrev pub cost : Position → ℕ → ℕ → ℕ
   cost p m r = moveCost (G .structure) (G .coalition) (p .state) (digit m) r
+
+  -- the number of what a move takes of the stocks
+  abbrev pub offset : Position → ℕ → ℕ
+  offset p m = number (record { state = 0; stock = λ r. taken (G .bounds r) (cost p m r) })
 
   abbrev pub Affordable : Position → ℕ → Type 0
   Affordable p m = (r : ℕ) → r < G .structure .resources → Fits (cost p m r) (budget p r)

@@ -3,12 +3,12 @@ use crate::buffers;
 use crate::moves;
 use block::layout;
 ghost use mathlib.Core.Path.{_≡_};
-ghost use Prim.Native.Nat.{ℕ, _+_, _*_, _-_, _≤_, _<_};
+ghost use Prim.Native.Nat.{ℕ, _+_, _*_, _≤_, _<_};
 ghost use lib.ListN.{length, getD};
 ghost use Rattle.block.specs.Decide.{Decides};
 ghost use Rattle.block.specs.Layout as L;
 ghost use Rattle.block.specs.Valid.{Valid};
-ghost use Rattle.game.specs.Buffers.{rankIn, Improved, Steps, ImproveAt};
+ghost use Rattle.game.specs.Buffers.{rankIn};
 ghost use Rattle.game.specs.Extremes.{Further, Extreme, Lists};
 ghost use Rattle.game.specs.Position.{MoveOf};
 ghost use Rattle.game.specs.Model.{structureOf, coalitionOf, ReplyTo};
@@ -42,43 +42,6 @@ pub fn extreme(ranks: &[u8], targets: &[usize], n: usize, at: usize, most: bool)
         k += 1;
     }
     best
-}
-
-// Lowers the rank of position p to one more than the largest at the targets, if that is less. Tells whether it did.
-pub fn improve(ranks: &mut [u8], targets: &[usize], n: usize, at: usize, p: usize) -> bool
-    requires { ⌜ (0 < n) × (n ≤ length (now targets)) × (2 * p + 1 < length (now ranks)) ⌝ }
-    requires { ⌜ ((k : ℕ) → k < n → 2 * (getD (now targets) k 0 + at) + 1 < length (now ranks)) ⌝ }
-    ensures { λ r. ⌜ Improved r (now (ranks .entry)) (now (ranks .exit)) p n (λ (k : ℕ). rankIn (now (ranks .entry)) (getD (now (targets .entry)) k 0 + at)) ⌝ }
-{
-    let v = extreme(ranks, targets, n, at, true);
-    buffers::lower(ranks, p, v + 1)
-}
-
-// Improves the ranks at the first count places past base, for a move that takes `taken` of their stocks. Tells whether any fell.
-pub fn improve_all(
-    ranks: &mut [u8],
-    targets: &[usize],
-    n: usize,
-    places: &[usize],
-    count: usize,
-    base: usize,
-    taken: usize,
-) -> bool
-    requires { ⌜ (0 < n) × (n ≤ length (now targets)) × (count ≤ length (now places)) ⌝ }
-    requires { ⌜ ((k : ℕ) → k < count → (taken ≤ getD (now places) k 0) × (2 * (base + getD (now places) k 0) + 1 < length (now ranks))) ⌝ }
-    requires { ⌜ ((k j : ℕ) → k < count → j < n → 2 * (getD (now targets) j 0 + (getD (now places) k 0 - taken)) + 1 < length (now ranks)) ⌝ }
-    ensures { λ r. ⌜ Steps (ImproveAt (now (targets .entry)) n (now (places .entry)) base taken) count r (now (ranks .entry)) (now (ranks .exit)) ⌝ }
-{
-    let mut did = false;
-    let mut k = 0;
-    while k < count {
-        let place = places[k];
-        if improve(ranks, targets, n, place - taken, base + place) {
-            did = true;
-        }
-        k += 1;
-    }
-    did
 }
 
 // Whether r is a reply to row i's team in state s.

@@ -5,12 +5,7 @@ use Prim.Native.Nat.{ℕ, zero, suc, _+_, _*_, _<_}
 use native.Mathlib.Nat.{mul-assoc}
 use native.Mathlib.Omega.{arith}
 use Rattle.game.specs.Rbatl.{Bound, limit, unlimited, Fits}
-use Rattle.game.specs.Position.{Arena, Position, places, stockBound, remaining, IsPosition, numberUpTo, number, stockPlacesUpTo, stockPlaces, cost, Affordable, outcome}
-
--- what a cost takes of a stock
-abbrev pub taken : Bound → ℕ → ℕ
-taken (limit n) c = c
-taken unlimited c = 0
+use Rattle.game.specs.Position.{Arena, Position, places, stockBound, taken, remaining, IsPosition, numberUpTo, number, stocksOf, stockPlacesUpTo, stockPlaces, cost, offset, Affordable, outcome}
 
 taken-back : (b : Bound) (s c : ℕ) → s < places b → Fits c (stockBound b s) → remaining b s c + taken b c ≡ s
 taken-back (limit n) s c l fits = omega arith
@@ -24,30 +19,22 @@ module _ (G : Arena) where
       let scaled : (numberUpTo G n p + numberUpTo G n x) * places (G .bounds n) ≡ numberUpTo G n y * places (G .bounds n) = ap (λ (k : ℕ). k * places (G .bounds n)) before in
       omega (arith, scaled, stock n (omega arith))
 
-  -- the number of what the move m takes in state q
-  abbrev pub offset : Position → ℕ → ℕ
-  offset p m = number G (record { state = 0; stock = λ r. taken (G .bounds r) (cost G p m r) })
-
   pub outcome-number : (p : Position) (m r : ℕ) → IsPosition G p → Affordable G p m
-      → number G (outcome G p m r) + offset p m ≡ number G (record { state = outcome G p m r .state; stock = p .stock })
+      → number G (outcome G p m r) + offset G p m ≡ number G (record { state = outcome G p m r .state; stock = p .stock })
   outcome-number p m r fits paid =
       numbers-add (G .structure .resources) (outcome G p m r) (record { state = 0; stock = λ j. taken (G .bounds j) (cost G p m j) }) (record { state = outcome G p m r .state; stock = p .stock })
       (omega arith) (λ j l. sym (taken-back (G .bounds j) (p .stock j) (cost G p m j) (fits .1 j l) (paid j l)))
 
-  -- a position's stocks have a number of their own among the stock places of a state
-  abbrev pub stocksOf : Position → Position
-  stocksOf p = record { state = 0; stock = p .stock }
-
-  number-splits : (n : ℕ) (p : Position) → numberUpTo G n p ≡ p .state * stockPlacesUpTo G n + numberUpTo G n (stocksOf p)
+  number-splits : (n : ℕ) (p : Position) → numberUpTo G n p ≡ p .state * stockPlacesUpTo G n + numberUpTo G n (stocksOf G p)
   number-splits zero p = omega arith
   number-splits (suc n) p =
-      let scaled : numberUpTo G n p * places (G .bounds n) ≡ (p .state * stockPlacesUpTo G n + numberUpTo G n (stocksOf p)) * places (G .bounds n) = ap (λ (k : ℕ). k * places (G .bounds n)) (number-splits n p) in
+      let scaled : numberUpTo G n p * places (G .bounds n) ≡ (p .state * stockPlacesUpTo G n + numberUpTo G n (stocksOf G p)) * places (G .bounds n) = ap (λ (k : ℕ). k * places (G .bounds n)) (number-splits n p) in
       omega (arith, scaled, mul-assoc (p .state) (stockPlacesUpTo G n) (places (G .bounds n)))
 
-  pub state-and-stocks : (p : Position) → number G p ≡ p .state * stockPlaces G + number G (stocksOf p)
+  pub state-and-stocks : (p : Position) → number G p ≡ p .state * stockPlaces G + number G (stocksOf G p)
   state-and-stocks p = number-splits (G .structure .resources) p
 
   -- what remains of the stocks has the number of the stocks, less what the move takes
-  pub remains-number : (p : Position) (m r : ℕ) → IsPosition G p → Affordable G p m → number G (stocksOf (outcome G p m r)) + offset p m ≡ number G (stocksOf p)
+  pub remains-number : (p : Position) (m r : ℕ) → IsPosition G p → Affordable G p m → number G (stocksOf G (outcome G p m r)) + offset G p m ≡ number G (stocksOf G p)
   remains-number p m r fits paid =
       omega (arith, outcome-number p m r fits paid, state-and-stocks (outcome G p m r), state-and-stocks (record { state = outcome G p m r .state; stock = p .stock }))

@@ -1,5 +1,5 @@
--- From a list of where the replies lead to the worst of a move; from the worst of a move to what lowers a rank and what leaves it at rest;
--- and that a rank lowered by a move keeps what a solver keeps. Assumes nothing.
+-- From a list of where the replies lead to the worst of a move, and from the worst of a move to what lowers a rank and what leaves it at
+-- rest. Assumes nothing.
 use mathlib.Core.Bool.{Bool, true, false}
 use mathlib.Core.List.{List}
 use mathlib.Core.Path.{_≡_, sym, _∙_, ap, subst}
@@ -9,22 +9,15 @@ use lib.ListN.{getD}
 use Rattle.block.specs.Layout as L
 use Rattle.block.specs.Layout.{Block}
 use Rattle.block.specs.Valid.{Valid}
-use Rattle.game.specs.Position.{Arena, Position, IsPosition, number, stockPlaces, positions, Reply, Allowed, outcome}
+use Rattle.game.specs.Position.{Arena, Position, IsPosition, number, stocksOf, stockPlaces, Reply, Allowed, offset, outcome}
 use Rattle.game.specs.Facts.{CanForce, CanAnswer}
-use Rattle.game.specs.Buffers.{Stored}
 use Rattle.game.specs.Extremes.{Beyond, Extreme, Lists}
-use Rattle.game.specs.Sweep.{Worst, Kept, total}
+use Rattle.game.specs.Sweep.{Worst}
 use Rattle.game.specs.Model.{arenaOf, ReplyTo}
 use Rattle.game.proofs.Numbers.Lists.{extreme-each, extreme-some}
-use Rattle.game.proofs.Numbers.Counting.{lower-crowded, total-falls}
-use Rattle.game.proofs.Bridge.Proper.{Proper}
-use Rattle.game.proofs.Bridge.Plays.{outcome-fits}
-use Rattle.game.proofs.Local.Same.{number-below}
-use Rattle.game.proofs.Local.ByNumber.{force-transfers}
-use Rattle.game.proofs.Solving.Sweeping.{force-weakens, lower-sound}
 use Rattle.game.proofs.Blocks.Passing.{valid-proper}
 use Rattle.game.proofs.Blocks.Reading.{outcome-state}
-use Rattle.game.proofs.Local.Offsets.{offset, stocksOf, state-and-stocks, remains-number}
+use Rattle.game.proofs.Local.Offsets.{state-and-stocks, remains-number}
 
 module _ (b : Block) (valid : Valid b) (i : ℕ) (p : Position) (m : ℕ) (fits : IsPosition (arenaOf b i) p) (allowed : Allowed (arenaOf b i) p m) where
   -- the number of an outcome: where the reply leads, and the stocks less what the move takes
@@ -73,22 +66,3 @@ module _ (G : Arena) (rank : ℕ → ℕ) (p : Position) where
   -- a move whose smallest rank is no better keeps the rank up
   pub least-forces : (k m v : ℕ) → Allowed G p m → Worst G false rank p m v → k ≤ suc v → CanForce G p (λ x. k ≤ suc (rank (number G x)))
   least-forces k m v allowed worst l = (m, allowed, λ r reply. omega (arith, worst .each r reply))
-
--- until: a rank is lowered to one more than the worst of a move
-module _ (G : Arena) (proper : Proper (G .structure)) (Safe Goal : ℕ → Type 0) (wordOf : List ℕ → ℕ → ℕ) (l l′ : List ℕ) (p : Position) (fits : IsPosition G p) (m v : ℕ)
-    (stored : Stored wordOf l l′ (number G p) (suc v)) (less : suc v < wordOf l (number G p)) where
-  lowered : wordOf l′ (number G p) < wordOf l (number G p)
-  lowered = omega (arith, stored .stored)
-
-  pub until-kept : Safe (p .state) → Allowed G p m → Worst G true (wordOf l) p m v → Kept G Safe Goal (CanForce G) (wordOf l) → Kept G Safe Goal (CanForce G) (wordOf l′)
-  until-kept safe allowed worst kept = record {
-    sound = lower-sound G Safe Goal (CanForce G) (force-weakens G proper) (force-transfers G) (wordOf l) (wordOf l′) p fits (stored .others) (omega (arith, stored .stored)) lowered safe
-        (subst (λ (k : ℕ). CanForce G p (λ x. wordOf l (number G x) < k)) (sym (stored .stored)) (worst-forces G (wordOf l) p m v allowed worst)) (kept .sound);
-    crowded =
-        let (r, reply, e) = worst .some in
-        lower-crowded (positions G) (wordOf l) (wordOf l′) (number G p) (number-below G p fits) (stored .others) lowered (number G (outcome G p m r))
-        (number-below G (outcome G p m r) (outcome-fits G proper p m r fits (allowed .0) reply)) (stored .stored ∙ ap suc (sym e)) (kept .crowded);
-  }
-
-  pub total-lowered : total (wordOf l′) (positions G) < total (wordOf l) (positions G)
-  total-lowered = total-falls (positions G) (wordOf l) (wordOf l′) (number G p) (number-below G p fits) (stored .others) lowered (positions G) (number-below G p fits)

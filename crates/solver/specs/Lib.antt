@@ -1,0 +1,2 @@
+-- What the parts of the solver do.
+pub mod Places
