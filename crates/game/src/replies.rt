@@ -14,7 +14,7 @@ ghost use Rattle.game.specs.Position.{MoveOf};
 ghost use Rattle.game.specs.Model.{structureOf, coalitionOf, ReplyTo};
 
 // The larger of two numbers, or the smaller.
-fn further(most: bool, a: usize, b: usize) -> usize
+pub fn further(most: bool, a: usize, b: usize) -> usize
     ensures { λ r. ⌜ Further most a b r ⌝ }
 {
     if most {

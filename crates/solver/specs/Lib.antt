@@ -1,2 +1,5 @@
 -- What the parts of the solver do.
 pub mod Places
+pub mod Values
+pub mod Sweeps
+pub mod Solving

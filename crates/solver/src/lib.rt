@@ -1,1 +1,5 @@
 // Ranks, moves and sets of the rows of a block, found by sweeps over the positions of a row.
+pub mod gather;
+pub mod payable;
+pub mod solve;
+pub mod sweep;

@@ -3,14 +3,14 @@ use mathlib.Core.Bool.{Bool, cond}
 use mathlib.Core.Path.{_≡_, refl, sym, _∙_, ap, subst}
 use Prim.Native.Nat.{ℕ, zero, suc, _+_, _*_, _/_, _%_, _≤_, _<_}
 use native.Mathlib.Decide.{ℕ-discrete}
-use native.Mathlib.Nat.{mul-add-div-right, mul-add-mod-self-right, mod-eq-of-lt, div-eq-of-lt, mod-lt, div-lt-iff-lt-mul, mul-le-mul-right}
+use native.Mathlib.Nat.{div-add-mod', mul-add-div-right, mul-add-mod-self-right, mod-eq-of-lt, div-eq-of-lt, mod-lt, div-lt-iff-lt-mul, mul-le-mul-right}
 use native.Mathlib.Omega.{arith}
 use lib.Dec.{eqb}
 use borrow.Author.Tests.{eq-eqb, ne-eqb}
 use Rattle.game.specs.Rbatl.{Bound, limit, unlimited, Fits}
 use Rattle.game.specs.Position.{Arena, Position, places, stockBound, remaining, opponents, MoveOf, IsPosition, numberUpTo, number, positionsUpTo, positions, Reply, cost, Allowed, outcome}
 
-places-positive : (b : Bound) → 0 < places b
+pub places-positive : (b : Bound) → 0 < places b
 places-positive (limit n) = omega arith
 places-positive unlimited = omega arith
 
@@ -120,3 +120,15 @@ module _ (G : Arena) where
 
   pub position-fits : (n : ℕ) → n < positions G → IsPosition G (positionOf n)
   position-fits n l = upto-fits (G .structure .resources) n l
+
+  -- the position with number n has number n
+  upto-number : (k n : ℕ) → numberUpTo G k (positionUpTo k n) ≡ n
+  upto-number zero n = refl
+  upto-number (suc k) n =
+      let c = places (G .bounds k) in
+      let rest : numberUpTo G k (positionUpTo (suc k) n) ≡ n / c =
+      same-number-upto k (positionUpTo (suc k) n) (positionUpTo k (n / c)) (refl, λ r l. stock-other k n r (λ e. omega arith)) ∙ upto-number k (n / c) in
+      ap (λ (x : ℕ). x * c + positionUpTo (suc k) n .stock k) rest ∙ ap (λ (x : ℕ). n / c * c + x) (stock-last k n) ∙ div-add-mod' n c
+
+  pub position-number : (n : ℕ) → number G (positionOf n) ≡ n
+  position-number n = upto-number (G .structure .resources) n

@@ -29,7 +29,7 @@ count-more rank rank′ (suc n) j k lower h =
     omega (arith, count-more rank rank′ n j k (λ i l. lower i (omega arith)) h, counts-more (rank n) (rank′ n) j k (lower n (omega arith)) h)
 
 -- a rank j counts one more below j + 1
-count-grows : (rank : ℕ → ℕ) (n x : ℕ) → x < n → countBelow rank n (rank x) < countBelow rank n (suc (rank x))
+pub count-grows : (rank : ℕ → ℕ) (n x : ℕ) → x < n → countBelow rank n (rank x) < countBelow rank n (suc (rank x))
 count-grows rank zero x l = absurd (omega arith)
 count-grows rank (suc n) x l = go (eq? x n) (count-grows rank n x)
   where

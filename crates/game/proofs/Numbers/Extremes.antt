@@ -11,7 +11,7 @@ pub beyond-equal : (most : Bool) (x v : ℕ) → x ≡ v → Beyond most x v
 beyond-equal true x v e = omega arith
 beyond-equal false x v e = omega arith
 
-beyond-trans : (most : Bool) (x y v : ℕ) → Beyond most x y → Beyond most y v → Beyond most x v
+pub beyond-trans : (most : Bool) (x y v : ℕ) → Beyond most x y → Beyond most y v → Beyond most x v
 beyond-trans true x y v l l′ = omega arith
 beyond-trans false x y v l l′ = omega arith
 

@@ -28,7 +28,7 @@ module _ (G : Arena) (proper : Proper (G .structure)) where
       (r, reply, weaker (outcome G p m r) (outcome-fits G proper p m r fits (a .0) reply) u)
 
 -- positions with one number are the same
-same-by-number : (G : Arena) (p x : Position) → IsPosition G p → IsPosition G x → number G p ≡ number G x → Same G p x
+pub same-by-number : (G : Arena) (p x : Position) → IsPosition G p → IsPosition G x → number G p ≡ number G x → Same G p x
 same-by-number G p x fits fits′ e =
     same-trans G p (positionOf G (number G p)) x (position-same G p fits)
     (subst (λ (n : ℕ). Same G (positionOf G n) x) (sym e) (same-sym G x (positionOf G (number G x)) (position-same G x fits′)))
