@@ -1,0 +1,3 @@
+-- The laws that the solver's parts rest on.
+pub mod Spreading
+pub mod Paying
