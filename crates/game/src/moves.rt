@@ -1,7 +1,7 @@
 // Moves of a coalition: its part of a joint action, and what a move costs.
 use block::layout;
 ghost use mathlib.Core.Path.{_≡_};
-ghost use Prim.Native.Nat.{_<_};
+ghost use Prim.Native.Nat.{_≤_, _<_};
 ghost use mathlib.Core.Bool.{cond};
 ghost use Rattle.block.specs.Decide.{Decides};
 ghost use Rattle.block.specs.Layout.{states, resources, agents, count, digit};
@@ -32,7 +32,7 @@ pub fn cost(block: &[u8], s: usize, team: usize, m: usize, j: usize) -> usize
     requires { ⌜ Valid (now block) ⌝ }
     requires { ⌜ (s < states (now block)) × (j < resources (now block)) ⌝ }
     requires { ⌜ MoveOf (structureOf (now block)) (bit team) s m ⌝ }
-    ensures { λ r. ⌜ r ≡ moveCost (structureOf (now (block .entry))) (bit team) s (digit m) j ⌝ }
+    ensures { λ r. ⌜ (r ≡ moveCost (structureOf (now (block .entry))) (bit team) s (digit m) j) × (r ≤ 45) ⌝ }
 {
     let n = layout::agents(block);
     let mut sum = 0;

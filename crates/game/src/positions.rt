@@ -72,6 +72,36 @@ pub fn number(block: &[u8], i: usize, s: usize, stocks: &[u8]) -> usize
     x
 }
 
+// What the move m of row i's team takes of resource j in state s: its cost, and nothing of an unlimited resource.
+pub fn taken(block: &[u8], i: usize, s: usize, m: usize, j: usize) -> usize
+    requires { ⌜ Valid (now block) ⌝ }
+    requires { ⌜ (i < L.rows (now block)) × (s < L.states (now block)) × (j < L.resources (now block)) ⌝ }
+    requires { ⌜ P.MoveOf (structureOf (now block)) (coalitionOf (now block) i) s m ⌝ }
+    ensures { λ r. ⌜ (r ≡ P.taken (boundsOf (now (block .entry)) i j) (moveCost (structureOf (now (block .entry))) (coalitionOf (now (block .entry)) i) s (L.digit m) j)) × (r ≤ 45) ⌝ }
+{
+    if layout::bound(block, i, j) == 255 {
+        return 0;
+    }
+    moves::cost(block, s, layout::team(block, i), m, j)
+}
+
+// The number of what the move m of row i's team takes of the stocks in state s.
+pub fn offset(block: &[u8], i: usize, s: usize, m: usize) -> usize
+    requires { ⌜ Valid (now block) ⌝ }
+    requires { ⌜ (i < L.rows (now block)) × L.Strategic (L.kind (now block) i) × (s < L.states (now block)) ⌝ }
+    requires { ⌜ P.MoveOf (structureOf (now block)) (coalitionOf (now block) i) s m ⌝ }
+    ensures { λ r. ⌜ r ≡ P.offset (arenaOf (now (block .entry)) i) (P.full (arenaOf (now (block .entry)) i) s) m ⌝ }
+{
+    let n = layout::resources(block);
+    let mut x = 0;
+    let mut j = 0;
+    while j < n {
+        x = x * places(block, i, j) + taken(block, i, s, m, j);
+        j += 1;
+    }
+    x
+}
+
 // Whether a stock of resource j pays for the move m of row i's team in state s; an unlimited resource binds nothing.
 pub fn pays(block: &[u8], i: usize, s: usize, m: usize, j: usize, stock: usize) -> bool
     requires { ⌜ Valid (now block) ⌝ }
@@ -79,10 +109,7 @@ pub fn pays(block: &[u8], i: usize, s: usize, m: usize, j: usize, stock: usize) 
     requires { ⌜ P.MoveOf (structureOf (now block)) (coalitionOf (now block) i) s m ⌝ }
     ensures { λ r. ⌜ Decides (Pays (now (block .entry)) i s m j stock) r ⌝ }
 {
-    if layout::bound(block, i, j) == 255 {
-        return true;
-    }
-    moves::cost(block, s, layout::team(block, i), m, j) <= stock
+    taken(block, i, s, m, j) <= stock
 }
 
 // Whether the move m of row i's team is affordable in state s with the stocks of the list.
@@ -114,7 +141,7 @@ pub fn remaining(block: &[u8], i: usize, s: usize, m: usize, j: usize, stock: us
     if layout::bound(block, i, j) == 255 {
         return 0;
     }
-    stock - moves::cost(block, s, layout::team(block, i), m, j)
+    stock - taken(block, i, s, m, j)
 }
 
 // The number of the position where the move m and the reply r lead from state s with the stocks of the list.

@@ -1,4 +1,6 @@
--- Laws of the solver that belong to no one function.
+-- The laws that the solver's parts rest on.
+pub mod Spreading
+pub mod Paying
 pub mod Gathering
 pub mod Placing
 pub mod Valuing

@@ -113,8 +113,12 @@ module _ (b : Block) (valid : Valid b) (i s m : ℕ) (row : i < L.rows b) (strat
     target-fits : (j : ℕ) → j < n → getD targets j 0 + (x - taken) < positions (arenaOf b i)
     target-fits j l =
         let (r, reply, e) = replies-here .only j l in
-        omega (arith, outcome-at b valid i p m (placed .fits) allowed-here r (x - taken) reply left-over, e,
-        number-below (arenaOf b i) (outcome (arenaOf b i) p m r) (outcome-fits (arenaOf b i) (valid-proper b valid) p m r (placed .fits) (allowed-here .0) reply))
+        omega (
+          arith,
+          outcome-at b valid i p m (placed .fits) allowed-here r (x - taken) reply left-over,
+          e,
+          number-below (arenaOf b i) (outcome (arenaOf b i) p m r) (outcome-fits (arenaOf b i) (valid-proper b valid) p m r (placed .fits) (allowed-here .0) reply),
+        )
 
     pub worst-here : (most : Bool) (ranks : List ℕ) (v : ℕ) → Extreme most n (λ j. rankIn ranks (getD targets j 0 + (x - taken))) v → Worst (arenaOf b i) most (rankIn ranks) p m v
     worst-here most ranks v = list-worst b valid i p m (placed .fits) allowed-here most (rankIn ranks) targets n (x - taken) v left-over replies-here
@@ -135,9 +139,9 @@ module _ (b : Block) (valid : Valid b) (i s m : ℕ) (row : i < L.rows b) (strat
   pub move-gathered : (most : Bool) (ranks : List ℕ) {l l′ : List ℕ} → Gathered (not most) (OneOf count (ListOffers most ranks targets n stocks taken)) l l′ → Gathered (not most) (MoveOffers (arenaOf b i) most (rankIn ranks) s m) l l′
   move-gathered most ranks = gathered-same (not most) (OneOf count (ListOffers most ranks targets n stocks taken)) (MoveOffers (arenaOf b i) most (rankIn ranks) s m)
       (λ x v (k, l, (e, extreme)).
-          let (y, (p, placed, paid), e′) = pays .only k l in
-          let placed′ : PlacedAt (arenaOf b i) s x p = subst (λ (z : ℕ). PlacedAt (arenaOf b i) s z p) (sym e′ ∙ e) placed in
-          (p, placed′, allowed-here p x placed′ paid, worst-here p x placed′ paid most ranks v extreme))
+      let (y, (p, placed, paid), e′) = pays .only k l in
+      let placed′ : PlacedAt (arenaOf b i) s x p = subst (λ (z : ℕ). PlacedAt (arenaOf b i) s z p) (sym e′ ∙ e) placed in
+      (p, placed′, allowed-here p x placed′ paid, worst-here p x placed′ paid most ranks v extreme))
       (λ x v (p, placed, allowed, worst).
-          let (k, l, e) = pays .each x (p, placed, allowed .1) in
-          (k, l, (e, extreme-here p x placed (allowed .1) most ranks v worst)))
+      let (k, l, e) = pays .each x (p, placed, allowed .1) in
+      (k, l, (e, extreme-here p x placed (allowed .1) most ranks v worst)))

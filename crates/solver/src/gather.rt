@@ -1,8 +1,9 @@
 // The values of a state's positions in one step, gathered over the moves of the coalition.
 use crate::payable;
-use game::moves;
-use game::replies;
 use block::layout;
+use game::moves;
+use game::positions;
+use game::replies;
 ghost use mathlib.Core.Bool.{not};
 ghost use mathlib.Core.Path.{_≡_};
 ghost use Prim.Native.Nat.{ℕ, _+_, _*_, _-_, _≤_, _<_};
@@ -15,7 +16,16 @@ ghost use Rattle.game.specs.Model.{structureOf, coalitionOf, arenaOf};
 ghost use Rattle.solver.specs.Values.{Gathered, ListOffers, MoveOffers, OneOf};
 
 // Offers each of the first count places the extreme rank at the first n targets, for a move that takes `taken` of the stocks.
-pub fn gather(ranks: &[u8], targets: &[usize], n: usize, places: &[usize], count: usize, taken: usize, most: bool, values: &mut [usize])
+pub fn gather(
+    ranks: &[u8],
+    targets: &[usize],
+    n: usize,
+    places: &[usize],
+    count: usize,
+    taken: usize,
+    most: bool,
+    values: &mut [usize],
+)
     requires { ⌜ (0 < n) × (n ≤ length (now targets)) × (count ≤ length (now places)) ⌝ }
     requires { ⌜ ((k : ℕ) → k < count → (taken ≤ getD (now places) k 0) × (getD (now places) k 0 < length (now values))) ⌝ }
     requires { ⌜ ((k j : ℕ) → k < count → j < n → 2 * (getD (now targets) j 0 + (getD (now places) k 0 - taken)) + 1 < length (now ranks)) ⌝ }
@@ -31,7 +41,16 @@ pub fn gather(ranks: &[u8], targets: &[usize], n: usize, places: &[usize], count
 }
 
 // Offers the worst of the move m at each stock place of state s that pays it; c is how many there are.
-pub fn gather_move(block: &[u8], i: usize, s: usize, m: usize, c: usize, ranks: &[u8], most: bool, values: &mut [usize])
+pub fn gather_move(
+    block: &[u8],
+    i: usize,
+    s: usize,
+    m: usize,
+    c: usize,
+    ranks: &[u8],
+    most: bool,
+    values: &mut [usize],
+)
     requires { ⌜ Valid (now block) ⌝ }
     requires { ⌜ (i < L.rows (now block)) × L.Strategic (L.kind (now block) i) × (s < L.states (now block)) ⌝ }
     requires { ⌜ MoveOf (structureOf (now block)) (coalitionOf (now block) i) s m ⌝ }
@@ -42,12 +61,20 @@ pub fn gather_move(block: &[u8], i: usize, s: usize, m: usize, c: usize, ranks: 
     let mut places = [0; 256];
     let n = replies::targets(block, i, s, m, c, &mut targets);
     let count = payable::payable(block, i, s, m, &mut places);
-    let taken = payable::offset(block, i, s, m);
+    let taken = positions::offset(block, i, s, m);
     gather(ranks, &targets, n, &places, count, taken, most, values);
 }
 
 // Offers the worst of each move of the coalition in state s.
-pub fn gather_all(block: &[u8], i: usize, s: usize, c: usize, ranks: &[u8], most: bool, values: &mut [usize])
+pub fn gather_all(
+    block: &[u8],
+    i: usize,
+    s: usize,
+    c: usize,
+    ranks: &[u8],
+    most: bool,
+    values: &mut [usize],
+)
     requires { ⌜ Valid (now block) ⌝ }
     requires { ⌜ (i < L.rows (now block)) × L.Strategic (L.kind (now block) i) × (s < L.states (now block)) ⌝ }
     requires { ⌜ (c ≡ stockPlaces (arenaOf (now block) i)) × (12288 ≤ length (now ranks)) × (256 ≤ length (now values)) ⌝ }

@@ -1,8 +1,8 @@
 // Sweeps over the positions of a row: ranks are lowered in place until nothing does better. Until and always go the same way, the
 // one with the coalition attacking, the other with its opponents.
 use crate::gather;
-use game::buffers;
 use block::layout;
+use game::buffers;
 ghost use mathlib.Core.Path.{_≡_};
 ghost use Prim.Native.Nat.{ℕ, _+_, _*_, _≤_, _<_};
 ghost use lib.ListN.{length, getD};
@@ -44,7 +44,15 @@ fn start_value(most: bool) -> usize
 }
 
 // Lowers the ranks of state s as far as one step takes them. Tells whether any fell.
-pub fn settle_state(block: &[u8], i: usize, s: usize, c: usize, safe: usize, most: bool, ranks: &mut [u8]) -> bool
+pub fn settle_state(
+    block: &[u8],
+    i: usize,
+    s: usize,
+    c: usize,
+    safe: usize,
+    most: bool,
+    ranks: &mut [u8],
+) -> bool
     requires { ⌜ Valid (now block) ⌝ }
     requires { ⌜ (i < L.rows (now block)) × L.Strategic (L.kind (now block) i) × (s < L.states (now block)) ⌝ }
     requires { ⌜ (c ≡ stockPlaces (arenaOf (now block) i)) × (12288 ≤ length (now ranks)) × Bit safe s ⌝ }
@@ -57,7 +65,15 @@ pub fn settle_state(block: &[u8], i: usize, s: usize, c: usize, safe: usize, mos
 }
 
 // The same where s is a safe state; another is left alone.
-pub fn settle_safe(block: &[u8], i: usize, s: usize, c: usize, safe: usize, most: bool, ranks: &mut [u8]) -> bool
+pub fn settle_safe(
+    block: &[u8],
+    i: usize,
+    s: usize,
+    c: usize,
+    safe: usize,
+    most: bool,
+    ranks: &mut [u8],
+) -> bool
     requires { ⌜ Valid (now block) ⌝ }
     requires { ⌜ (i < L.rows (now block)) × L.Strategic (L.kind (now block) i) × (s < L.states (now block)) ⌝ }
     requires { ⌜ (c ≡ stockPlaces (arenaOf (now block) i)) × (12288 ≤ length (now ranks)) ⌝ }

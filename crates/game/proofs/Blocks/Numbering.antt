@@ -12,10 +12,15 @@ use Rattle.game.specs.Model.{boundsOf, arenaOf}
 use Rattle.game.proofs.Local.Same.{number-below-upto}
 use Rattle.game.proofs.Blocks.Passing.{few-upto}
 
+-- the stocks need not be those of a position
+pub number-next : (b : Block) (i j x w v : ℕ) (y : Position) → x ≡ numberUpTo (arenaOf b i) j y → w ≡ places (boundsOf b i j) → v ≡ y .stock j → x * w + v ≡ numberUpTo (arenaOf b i) (j + 1) y
+number-next b i j x w v y so-far places-are stock =
+    ap₂ (λ (x w : ℕ). x * w + v) so-far places-are ∙ ap (λ (v : ℕ). numberUpTo (arenaOf b i) j y * places (boundsOf b i j) + v) stock ∙ sym (ap (λ (n : ℕ). numberUpTo (arenaOf b i) n y) (add-one j))
+
 module _ (b : Block) (valid : Valid b) (i j x w v : ℕ) (y : Position) (row : i < L.rows b) (strategic : L.Strategic (L.kind b i)) (fits : IsPosition (arenaOf b i) y) (resource : j < L.resources b)
     (so-far : x ≡ numberUpTo (arenaOf b i) j y) (places-are : w ≡ places (boundsOf b i j)) (stock : v ≡ y .stock j) where
   pub goes-on : x * w + v ≡ numberUpTo (arenaOf b i) (j + 1) y
-  goes-on = ap₂ (λ (x w : ℕ). x * w + v) so-far places-are ∙ ap (λ (v : ℕ). numberUpTo (arenaOf b i) j y * places (boundsOf b i j) + v) stock ∙ sym (ap (λ (n : ℕ). numberUpTo (arenaOf b i) n y) (add-one j))
+  goes-on = number-next b i j x w v y so-far places-are stock
 
   pub stays-small : x * w + v < 6144
   stays-small = omega (arith, goes-on, number-below-upto (arenaOf b i) y fits (j + 1) (omega arith), few-upto b valid i row strategic (j + 1) (omega arith))

@@ -47,7 +47,7 @@ module _ (b : Block) (valid : Valid b) where
   }
 
   -- a bound that passes has at most 16 stock places
-  few-places : (i : ℕ) → RowFits b i → Strategic (L.kind b i) → (r : ℕ) → r < L.resources b → places (boundsOf b i r) ≤ 16
+  pub few-places : (i : ℕ) → RowFits b i → Strategic (L.kind b i) → (r : ℕ) → r < L.resources b → places (boundsOf b i r) ≤ 16
   few-places i row strategic r l = go (eq? (L.bound b i r) L.unlimited)
     where
       go : Dec (L.bound b i r ≡ L.unlimited) → places (boundsOf b i r) ≤ 16

@@ -1,7 +1,6 @@
 -- What the code reads of a block, as the definitions say it: the next state after a move and a reply stands at their sum. Assumes nothing.
 use mathlib.Core.Bool.{Bool, cond}
-use mathlib.Core.Logic.{_↔_}
-use mathlib.Core.Path.{_≡_, sym, _∙_, ap, subst, transport}
+use mathlib.Core.Path.{_≡_, sym, _∙_, ap, subst}
 use Prim.Native.Nat.{ℕ, _+_, _-_, _/_, _%_, _^_, _≤_, _<_}
 use native.Mathlib.Nat.{add-zero, div-div-eq-div-mul, pow-suc, pow-le-pow-right}
 use native.Mathlib.Numerals.{add-one}
@@ -10,9 +9,9 @@ use borrow.Author.Tests.{eq-eqb, ne-eqb, lt-ltb}
 use Rattle.block.specs.Layout as L
 use Rattle.block.specs.Layout.{Block, digit, Strategic}
 use Rattle.block.specs.Valid.{Valid, RowFits}
-use Rattle.game.specs.Rbatl.{Bound, limit, unlimited, Fits, costUpTo, moveCost}
-use Rattle.game.specs.Position.{Position, stockBound, remaining, MoveOf, Move, Reply, outcome}
-use Rattle.game.specs.Model.{bit, structureOf, boundOf, coalitionOf, boundsOf, arenaOf, Pays}
+use Rattle.game.specs.Rbatl.{Bound, limit, unlimited, costUpTo}
+use Rattle.game.specs.Position.{Position, remaining, taken, MoveOf, Move, Reply, outcome}
+use Rattle.game.specs.Model.{bit, structureOf, boundOf, coalitionOf, boundsOf, arenaOf}
 use Rattle.game.proofs.Numbers.Decide.{lt?}
 use Rattle.game.proofs.Numbers.Joint.{joint-below, joint-digit}
 use Rattle.game.proofs.Bridge.Proper.{Proper}
@@ -67,17 +66,14 @@ module _ (b : Block) (i j : ℕ) (resource : j < L.resources b) where
       go (yes h) = absurd (ne (row .bound-fits strategic j resource h))
       go (no h) = omega arith
 
-  -- an unlimited resource pays for everything, and a limited one for what is at most its stock
-  pub pays-unlimited : (s m stock : ℕ) → L.bound b i j ≡ L.unlimited → Pays b i s m j stock
-  pays-unlimited s m stock e = subst (λ (x : Bound). Fits (moveCost (structureOf b) (coalitionOf b i) s (digit m) j) (stockBound x stock)) (sym (bound-unlimited e)) tt
-
-  pub pays-limited : (s m stock : ℕ) → (L.bound b i j ≡ L.unlimited → ⊥) → Pays b i s m j stock ↔ (moveCost (structureOf b) (coalitionOf b i) s (digit m) j ≤ stock)
-  pays-limited s m stock ne =
-      let same = ap (λ (x : Bound). Fits (moveCost (structureOf b) (coalitionOf b i) s (digit m) j) (stockBound x stock)) (bound-limited ne) in
-      ((λ h. transport same h), λ h. transport (sym same) h)
-
   pub remaining-unlimited : (stock c : ℕ) → L.bound b i j ≡ L.unlimited → remaining (boundsOf b i j) stock c ≡ 0
   remaining-unlimited stock c e = ap (λ (x : Bound). remaining x stock c) (bound-unlimited e)
 
   pub remaining-limited : (stock c : ℕ) → (L.bound b i j ≡ L.unlimited → ⊥) → remaining (boundsOf b i j) stock c ≡ stock - c
   remaining-limited stock c ne = ap (λ (x : Bound). remaining x stock c) (bound-limited ne)
+
+  pub taken-unlimited : (c : ℕ) → L.bound b i j ≡ L.unlimited → taken (boundsOf b i j) c ≡ 0
+  taken-unlimited c e = ap (λ (x : Bound). taken x c) (bound-unlimited e)
+
+  pub taken-limited : (c : ℕ) → (L.bound b i j ≡ L.unlimited → ⊥) → taken (boundsOf b i j) c ≡ c
+  taken-limited c ne = ap (λ (x : Bound). taken x c) (bound-limited ne)

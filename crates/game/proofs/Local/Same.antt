@@ -36,7 +36,7 @@ module _ (G : Arena) where
   pub same-trans : (p x y : Position) → Same p x → Same x y → Same p y
   same-trans p x y s s′ = (s .0 ∙ s′ .0, λ r l. s .1 r l ∙ s′ .1 r l)
 
-  same-number-upto : (n : ℕ) (p x : Position) → SameUpTo n p x → numberUpTo G n p ≡ numberUpTo G n x
+  pub same-number-upto : (n : ℕ) (p x : Position) → SameUpTo n p x → numberUpTo G n p ≡ numberUpTo G n x
   same-number-upto zero p x s = s .0
   same-number-upto (suc n) p x s =
       let before : numberUpTo G n p ≡ numberUpTo G n x = same-number-upto n p x (s .0, λ r l. s .1 r (omega arith)) in

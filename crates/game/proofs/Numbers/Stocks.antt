@@ -1,10 +1,11 @@
 -- One resource along a play: the costs so far stay within the first stock exactly if each cost stays within the stock then left.
 -- Limited or not, one law. Assumes nothing.
+use mathlib.Core.Logic.{_↔_}
 use mathlib.Core.Path.{_≡_}
-use Prim.Native.Nat.{ℕ, zero, suc, _+_, _-_, _<_}
+use Prim.Native.Nat.{ℕ, zero, suc, _+_, _-_, _≤_, _<_}
 use native.Mathlib.Omega.{arith}
 use Rattle.game.specs.Rbatl.{Bound, limit, unlimited, Fits}
-use Rattle.game.specs.Position.{stockBound, remaining, places}
+use Rattle.game.specs.Position.{stockBound, remaining, taken, places}
 
 -- stock, cost and total of one resource at each moment
 pub record Ledger (bound : Bound) (stock cost total : ℕ → ℕ) : Type 0 where
@@ -30,3 +31,8 @@ affordable-within (limit k) stock cost total L paid (suc n) =
 pub remaining-fits : (bound : Bound) (s c : ℕ) → s < places bound → remaining bound s c < places bound
 remaining-fits (limit k) s c l = omega arith
 remaining-fits unlimited s c l = omega arith
+
+-- a stock pays for a cost exactly if it has what the cost takes
+pub taken-fits : (bound : Bound) (s c : ℕ) → (taken bound c ≤ s) ↔ Fits c (stockBound bound s)
+taken-fits (limit k) s c = ((λ h. h), λ h. h)
+taken-fits unlimited s c = ((λ h. tt), λ h. omega arith)

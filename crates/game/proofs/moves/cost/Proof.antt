@@ -90,8 +90,9 @@ loop-again c =
 returns : tie.Need-returns Inv-loop μ-loop
 returns c =
     let all : c .before .loop .a ≡ L.agents (c .before .before .before .before .args .block .now) = omega (arith, c .before .before .agents .ensures, c .before .loop .inv .0, c .loop-test .left) in
-    c .before .loop .inv .1
-    ∙ ap (λ (n : ℕ). costUpTo (structureOf (c .before .before .before .before .args .block .now)) (bit (c .before .before .before .before .args .team)) n (c .before .before .before .before .args .s) (digit (c .before .before .before .before .args .m)) (c .before .before .before .before .args .j)) all
+    let args = c .before .before .before .before .args in
+    let small : c .before .loop .sum ≤ 45 = omega (arith, c .before .loop .inv .2, all, c .before .before .before .before .pre .0 .sized .agents-fit) in
+    (c .before .loop .inv .1 ∙ ap (λ (n : ℕ). costUpTo (structureOf (args .block .now)) (bit (args .team)) n (args .s) (digit (args .m)) (args .j)) all, small)
 
 pub cost-spec : {M : Type 1} → statement M
 cost-spec =

@@ -67,8 +67,11 @@ loop-again c =
     let offers = ListOffers (args .most) (args .ranks .now) (args .targets .now) (args .n) (args .places .now) (args .taken) in
     let one = gathered-one (not (args .most)) (offers (at .k)) (at .values) x (found .result) (c .further .result)
     (omega (arith, start .pre .1 .0 (at .k) inside .1, at .inv .1)) (c .further .ensures) (found .ensures .1) (refl, found .ensures .0)
-    (λ y u offer. (sym (offer .0), extreme-one (args .most) (args .n) (λ j. rankIn (args .ranks .now) (getD (args .targets .now) j 0 + (x - args .taken))) u (found .result)
-    (subst (λ (z : ℕ). Extreme (args .most) (args .n) (λ j. rankIn (args .ranks .now) (getD (args .targets .now) j 0 + (z - args .taken))) u) (sym (offer .0)) (offer .1)) (found .ensures .0))) in
+    (λ y u offer. (
+      sym (offer .0),
+      extreme-one (args .most) (args .n) (λ j. rankIn (args .ranks .now) (getD (args .targets .now) j 0 + (x - args .taken))) u (found .result)
+          (subst (λ (z : ℕ). Extreme (args .most) (args .n) (λ j. rankIn (args .ranks .now) (getD (args .targets .now) j 0 + (z - args .taken))) u) (sym (offer .0)) (offer .1)) (found .ensures .0),
+    )) in
     let all = gathered-next (not (args .most)) offers (at .k) (at .inv .2) one in
     (omega (arith, inside), all .long, all)
 
