@@ -82,6 +82,10 @@ objectiveOf b i =
     let right = RowTrue b (L.right b i) in
     cond (eqb (L.kind b i) L.nextKind) (P.next left) (cond (eqb (L.kind b i) L.alwaysKind) (P.always left) (P.until left right))
 
+-- the same with lower rows told by their sets
+abbrev pub objectiveBy : ℕ → ℕ → ℕ → Objective
+objectiveBy k left right = cond (eqb k L.nextKind) (P.next (Bit left)) (cond (eqb k L.alwaysKind) (P.always (Bit left)) (P.until (Bit left) (Bit right)))
+
 -- a stock of resource j pays for the move m of row i's coalition in state s
 abbrev pub Pays : Block → ℕ → ℕ → ℕ → ℕ → ℕ → Type 0
 Pays b i s m j stock = Fits (moveCost (structureOf b) (coalitionOf b i) s (L.digit m) j) (stockBound (boundsOf b i j) stock)

@@ -3,3 +3,5 @@ pub mod Places
 pub mod Values
 pub mod Sweeps
 pub mod Solving
+pub mod Tables
+pub mod Next

@@ -16,7 +16,7 @@ use Rattle.game.specs.Position.{Arena, full}
 use Rattle.game.specs.Play.{Objective, next, always, until}
 use Rattle.game.specs.Table.{Table}
 use Rattle.game.specs.Facts.{Claims, Facts}
-use Rattle.game.specs.Model.{bit, structureOf, RowTrue, RowSet, arenaOf, objectiveOf}
+use Rattle.game.specs.Model.{bit, structureOf, RowTrue, RowSet, arenaOf, objectiveOf, objectiveBy}
 use Rattle.game.proofs.Numbers.Decide.{all-below, both?, by-test, either?, eq?, from-yes, implies?, isYes, lt?, not?}
 use Rattle.game.proofs.Bridge.Proper.{Proper}
 use Rattle.game.proofs.Local.Lower.{Tells, Retold, same-next, same-always, same-until, retold}
@@ -66,10 +66,6 @@ decided-by-sets b i w₁ w₂ left right = go (eqb (L.kind b i) L.nextKind) (eqb
     go false true = decided-by-set b (L.left b i) w₁ left
     go false false = (decided-by-set b (L.left b i) w₁ left, decided-by-set b (L.right b i) w₂ right)
 
--- what a strategic row asks of a play, with lower rows told by their sets
-abbrev pub objectiveBy : ℕ → ℕ → ℕ → Objective
-objectiveBy k w₁ w₂ = cond (eqb k L.nextKind) (next (Bit w₁)) (cond (eqb k L.alwaysKind) (always (Bit w₁)) (until (Bit w₁) (Bit w₂)))
-
 abbrev pub bits-decided : (G : Arena) (k w₁ w₂ : ℕ) → RowsDecided G (objectiveBy k w₁ w₂)
 bits-decided G k w₁ w₂ = go (eqb k L.nextKind) (eqb k L.alwaysKind)
   where
@@ -80,7 +76,7 @@ bits-decided G k w₁ w₂ = go (eqb k L.nextKind) (eqb k L.alwaysKind)
 
 module _ (b : Block) (proper : Proper (structureOf b)) (i : ℕ) where
   module _ (w₁ w₂ : ℕ) (left : RowSet b (L.left b i) w₁) (right : RowSet b (L.right b i) w₂) where
-    retold-row : Retold (arenaOf b i) (objectiveBy (L.kind b i) w₁ w₂) (objectiveOf b i)
+    pub retold-row : Retold (arenaOf b i) (objectiveBy (L.kind b i) w₁ w₂) (objectiveOf b i)
     retold-row = go (eqb (L.kind b i) L.nextKind) (eqb (L.kind b i) L.alwaysKind)
       where
         l : Tells (arenaOf b i) (Bit w₁) (RowTrue b (L.left b i))
@@ -102,13 +98,13 @@ module _ (b : Block) (proper : Proper (structureOf b)) (i : ℕ) where
 
   module _ (row : RowFits b i) where
     -- prop, not and or
-    prop-set : (w : ℕ) → L.kind b i ≡ L.propKind → Says b w (λ s. T (bit (L.mask b s) (L.left b i))) → RowSet b i w
+    pub prop-set : (w : ℕ) → L.kind b i ≡ L.propKind → Says b w (λ s. T (bit (L.mask b s) (L.left b i))) → RowSet b i w
     prop-set w e = says-set b i w _ λ q _. told q
       where
         told : (q : ℕ) → T (bit (L.mask b q) (L.left b i)) ↔ RowTrue b i q
         told q = subst (λ (φ : Formula). T (bit (L.mask b q) (L.left b i)) ↔ Sat (structureOf b) φ q) (sym (prop-formula b proper i row e)) ((λ h. h), λ h. h)
 
-    not-set : (w w₁ : ℕ) → L.kind b i ≡ L.notKind → RowSet b (L.left b i) w₁ → Says b w (λ s. Bit w₁ s → ⊥) → RowSet b i w
+    pub not-set : (w w₁ : ℕ) → L.kind b i ≡ L.notKind → RowSet b (L.left b i) w₁ → Says b w (λ s. Bit w₁ s → ⊥) → RowSet b i w
     not-set w w₁ e left = says-set b i w (λ s. Bit w₁ s → ⊥) told
       where
         told : (q : ℕ) → q < L.states b → (Bit w₁ q → ⊥) ↔ RowTrue b i q
@@ -117,7 +113,7 @@ module _ (b : Block) (proper : Proper (structureOf b)) (i : ℕ) where
             subst (λ (φ : Formula). (Bit w₁ q → ⊥) ↔ Sat (structureOf b) φ q) (sym (not-formula b proper i row e))
             ((λ fails h. fails (lower .1 h)), λ fails set. fails (lower .0 set))
 
-    or-set : (w w₁ w₂ : ℕ) → L.kind b i ≡ L.orKind → RowSet b (L.left b i) w₁ → RowSet b (L.right b i) w₂ → Says b w (λ s. Bit w₁ s ⊎ Bit w₂ s) → RowSet b i w
+    pub or-set : (w w₁ w₂ : ℕ) → L.kind b i ≡ L.orKind → RowSet b (L.left b i) w₁ → RowSet b (L.right b i) w₂ → Says b w (λ s. Bit w₁ s ⊎ Bit w₂ s) → RowSet b i w
     or-set w w₁ w₂ e left right = says-set b i w (λ s. Bit w₁ s ⊎ Bit w₂ s) told
       where
         told : (q : ℕ) → q < L.states b → (Bit w₁ q ⊎ Bit w₂ q) ↔ RowTrue b i q
@@ -128,7 +124,7 @@ module _ (b : Block) (proper : Proper (structureOf b)) (i : ℕ) where
             ((elim [ inl h ↦ inl (lower .0 h) | inr h ↦ inr (lower′ .0 h) ]), (elim [ inl h ↦ inl (lower .1 h) | inr h ↦ inr (lower′ .1 h) ]))
 
     -- next, always and until: what the table claims at full stock
-    table-says-set : (w : ℕ) (X : Table) → Strategic (L.kind b i) → Facts (arenaOf b i) X (objectiveOf b i) → Says b w (λ s. Claims (arenaOf b i) X (objectiveOf b i) (full (arenaOf b i) s)) → RowSet b i w
+    pub table-says-set : (w : ℕ) (X : Table) → Strategic (L.kind b i) → Facts (arenaOf b i) X (objectiveOf b i) → Says b w (λ s. Claims (arenaOf b i) X (objectiveOf b i) (full (arenaOf b i) s)) → RowSet b i w
     table-says-set w X strategic facts = says-set b i w _ λ q l.
         let G = arenaOf b i in
         let t = objectiveOf b i in
