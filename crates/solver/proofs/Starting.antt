@@ -25,7 +25,7 @@ number-state G p fits =
     let small = stocks-below G p fits in
     ap (λ (n : ℕ). n / stockPlaces G) (state-and-stocks G p) ∙ mul-add-div-right (omega (arith, small)) (p .state) (number G (stocksOf G p)) ∙ ap (p .state +_) (div-eq-of-lt small) ∙ omega arith
 
-bit? : (w s : ℕ) → Dec (Bit w s)
+pub bit? : (w s : ℕ) → Dec (Bit w s)
 bit? w s = eq? (w / 2 ^ s % 2) 1
 
 module _ (G : Arena) (most : Bool) (safe goal : ℕ) (l : List ℕ) (few : positions G ≤ 6144) (first : (n : ℕ) → n < 6144 → FirstRank goal (stockPlaces G) (positions G) n (rankIn l n)) where

@@ -1,15 +1,20 @@
 // The ranks of a next row: 1 where some affordable move leads into the set whatever the reply.
+use crate::payable;
+use crate::solve;
 use block::layout;
 use game::buffers;
+use game::moves;
+use game::positions;
 use game::replies;
 ghost use mathlib.Core.Path.{_≡_};
-ghost use Prim.Native.Nat.{ℕ, _+_, _<_};
-ghost use Rattle.block.specs.Decide.{Decides, Bit};
+ghost use Prim.Native.Nat.{ℕ, _+_, _*_, _≤_, _<_};
+ghost use lib.ListN.{length, getD};
+ghost use Rattle.block.specs.Decide.{Decides};
 ghost use Rattle.block.specs.Layout as L;
 ghost use Rattle.block.specs.Valid.{Valid};
-ghost use Rattle.game.specs.Position.{MoveOf};
-ghost use Rattle.game.specs.Model.{structureOf, coalitionOf};
-ghost use Rattle.solver.specs.Next.{LeadsInto};
+ghost use Rattle.game.specs.Position.{MoveOf, stockPlaces};
+ghost use Rattle.game.specs.Model.{structureOf, coalitionOf, arenaOf};
+ghost use Rattle.solver.specs.Next.{LeadsInto, Marked, AnyOf, PlaceMarks, MoveMarks, StateMarks, NextRanks};
 
 // Whether every reply to the move m leads from state s into the set.
 pub fn leads_into(block: &[u8], i: usize, s: usize, m: usize, set: usize) -> bool
@@ -28,4 +33,76 @@ pub fn leads_into(block: &[u8], i: usize, s: usize, m: usize, set: usize) -> boo
         r += 1;
     }
     true
+}
+
+// Stores rank 1 at each of the first count places past base.
+fn mark(ranks: &mut [u8], base: usize, places: &[usize], count: usize)
+    requires { ⌜ count ≤ length (now places) ⌝ }
+    requires { ⌜ ((k : ℕ) → k < count → 2 * (base + getD (now places) k 0) + 1 < length (now ranks)) ⌝ }
+    ensures { λ _. ⌜ Marked (AnyOf count (PlaceMarks (now (places .entry)) base)) (now (ranks .entry)) (now (ranks .exit)) ⌝ }
+{
+    let mut k = 0;
+    while k < count {
+        buffers::set_rank(ranks, base + places[k], 1);
+        k += 1;
+    }
+}
+
+// Marks the positions of state s that can pay the move m, if it leads into the set.
+fn mark_move(block: &[u8], i: usize, s: usize, m: usize, c: usize, set: usize, ranks: &mut [u8])
+    requires { ⌜ Valid (now block) ⌝ }
+    requires { ⌜ (i < L.rows (now block)) × L.Strategic (L.kind (now block) i) × (s < L.states (now block)) ⌝ }
+    requires { ⌜ MoveOf (structureOf (now block)) (coalitionOf (now block) i) s m ⌝ }
+    requires { ⌜ (c ≡ stockPlaces (arenaOf (now block) i)) × (12288 ≤ length (now ranks)) ⌝ }
+    ensures { λ _. ⌜ Marked (MoveMarks (now (block .entry)) i set s m) (now (ranks .entry)) (now (ranks .exit)) ⌝ }
+{
+    if !leads_into(block, i, s, m, set) {
+        return;
+    }
+    let mut places = [0; 256];
+    let count = payable::payable(block, i, s, m, &mut places);
+    mark(ranks, s * c, &places, count);
+}
+
+// Marks the positions of state s that have a move into the set.
+fn mark_state(block: &[u8], i: usize, s: usize, c: usize, set: usize, ranks: &mut [u8])
+    requires { ⌜ Valid (now block) ⌝ }
+    requires { ⌜ (i < L.rows (now block)) × L.Strategic (L.kind (now block) i) × (s < L.states (now block)) ⌝ }
+    requires { ⌜ (c ≡ stockPlaces (arenaOf (now block) i)) × (12288 ≤ length (now ranks)) ⌝ }
+    ensures { λ _. ⌜ Marked (StateMarks (now (block .entry)) i set s) (now (ranks .entry)) (now (ranks .exit)) ⌝ }
+{
+    let team = layout::team(block, i);
+    let mut m = 0;
+    while m < 64 {
+        if moves::is_move(block, s, team, m) {
+            mark_move(block, i, s, m, c, set, ranks);
+        }
+        m += 1;
+    }
+}
+
+// Marks every position that has a move into the set.
+fn mark_all(block: &[u8], i: usize, c: usize, set: usize, ranks: &mut [u8])
+    requires { ⌜ Valid (now block) ⌝ }
+    requires { ⌜ (i < L.rows (now block)) × L.Strategic (L.kind (now block) i) ⌝ }
+    requires { ⌜ (c ≡ stockPlaces (arenaOf (now block) i)) × (12288 ≤ length (now ranks)) ⌝ }
+    ensures { λ _. ⌜ Marked (AnyOf (L.states (now (block .entry))) (StateMarks (now (block .entry)) i set)) (now (ranks .entry)) (now (ranks .exit)) ⌝ }
+{
+    let n = layout::states(block);
+    let mut s = 0;
+    while s < n {
+        mark_state(block, i, s, c, set, ranks);
+        s += 1;
+    }
+}
+
+// The ranks of a next row over the set: 1 where the coalition can, else 65535. Past the last position they are 0.
+pub fn next_ranks(block: &[u8], i: usize, set: usize, ranks: &mut [u8])
+    requires { ⌜ Valid (now block) ⌝ }
+    requires { ⌜ (i < L.rows (now block)) × L.Strategic (L.kind (now block) i) × (12288 ≤ length (now ranks)) ⌝ }
+    ensures { λ _. ⌜ NextRanks (now (block .entry)) i set (now (ranks .exit)) × (length (now (ranks .exit)) ≡ length (now (ranks .entry))) ⌝ }
+{
+    let c = positions::stock_places(block, i);
+    solve::first_ranks(block, i, c, 0, ranks);
+    mark_all(block, i, c, set, ranks);
 }
