@@ -72,6 +72,10 @@ RowTrue b i q = Sat (structureOf b) (formulaOf b i) q
 abbrev pub RowSet : Block → ℕ → ℕ → Type 0
 RowSet b i w = (w < 2 ^ 32) × ((s : ℕ) → Bit w s ↔ ((s < L.states b) × RowTrue b i s))
 
+-- a word that says of each state whether Q holds there, and has no other bits
+abbrev pub Says : Block → ℕ → (ℕ → Type 0) → Type 0
+Says b w Q = (w < 2 ^ 32) × ((w < 2 ^ L.states b) × ((s : ℕ) → s < L.states b → (Bit w s → Q s) × (Q s → Bit w s)))
+
 -- where a strategic row i is played, and what it asks of a play
 abbrev pub arenaOf : Block → ℕ → Arena
 arenaOf b i = record { structure = structureOf b; coalition = coalitionOf b i; bounds = boundsOf b i }

@@ -8,3 +8,5 @@ pub mod Lowering
 pub mod Sweeping
 pub mod Starting
 pub mod Marking
+pub mod Words
+pub mod Ranking

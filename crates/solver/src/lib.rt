@@ -2,5 +2,6 @@
 pub mod gather;
 pub mod next;
 pub mod payable;
+pub mod rows;
 pub mod solve;
 pub mod sweep;

@@ -16,7 +16,7 @@ use Rattle.game.specs.Position.{Arena, full}
 use Rattle.game.specs.Play.{Objective, next, always, until}
 use Rattle.game.specs.Table.{Table}
 use Rattle.game.specs.Facts.{Claims, Facts}
-use Rattle.game.specs.Model.{bit, structureOf, RowTrue, RowSet, arenaOf, objectiveOf, objectiveBy}
+use Rattle.game.specs.Model.{bit, structureOf, RowTrue, RowSet, Says, arenaOf, objectiveOf, objectiveBy}
 use Rattle.game.proofs.Numbers.Decide.{all-below, both?, by-test, either?, eq?, from-yes, implies?, isYes, lt?, not?}
 use Rattle.game.proofs.Bridge.Proper.{Proper}
 use Rattle.game.proofs.Local.Lower.{Tells, Retold, same-next, same-always, same-until, retold}
@@ -25,10 +25,6 @@ use Rattle.game.proofs.Local.Certificate.{RowsDecided, table?, certifie
 use Rattle.game.proofs.Blocks.Formulas.{prop-formula, not-formula, or-formula, row-wins}
 use Rattle.game.proofs.Bridge.Truth.{full-fits}
 use Rattle.game.proofs.Whole.Decided.{claims-win, wins-claimed}
-
--- a word that says of each state whether Q holds there, and has no other bits
-abbrev pub Says : Block → ℕ → (ℕ → Type 0) → Type 0
-Says b w Q = (w < 2 ^ 32) × ((w < 2 ^ L.states b) × ((s : ℕ) → s < L.states b → (Bit w s → Q s) × (Q s → Bit w s)))
 
 abbrev pub says? : (b : Block) (w : ℕ) (Q : ℕ → Type 0) → ((s : ℕ) → s < L.states b → Dec (Q s)) → Dec (Says b w Q)
 says? b w Q Q? =

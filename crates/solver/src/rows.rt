@@ -1,0 +1,102 @@
+// The set of a row: where it is true, with lower rows told by their sets and a strategic row by its ranks.
+use crate::next;
+use crate::solve;
+use block::layout;
+use game::buffers;
+use game::positions;
+ghost use mathlib.Core.Path.{_≡_};
+ghost use Prim.Native.Nat.{ℕ, _≤_, _<_};
+ghost use lib.ListN.{length};
+ghost use Rattle.block.specs.Decide.{Decides, Bit};
+ghost use Rattle.block.specs.Layout as L;
+ghost use Rattle.block.specs.Valid.{Valid};
+ghost use Rattle.game.specs.Model.{Says};
+ghost use Rattle.solver.specs.Rows.{ClaimsBy, TrueBy};
+ghost use Rattle.solver.specs.Tables.{RanksOf};
+
+// Whether a rank says that the coalition wins.
+pub fn claims(kind: usize, rank: usize) -> bool
+    ensures { λ r. ⌜ Decides (ClaimsBy kind rank) r ⌝ }
+{
+    if kind == 3 {
+        return rank == 1;
+    }
+    if kind == 4 {
+        return rank == 65535;
+    }
+    rank < 65535
+}
+
+// Whether row i is true in state s.
+fn true_at(block: &[u8], i: usize, left: usize, right: usize, ranks: &[u8], s: usize) -> bool
+    requires { ⌜ Valid (now block) ⌝ }
+    requires { ⌜ (i < L.rows (now block)) × (s < L.states (now block)) × (12288 ≤ length (now ranks)) ⌝ }
+    ensures { λ r. ⌜ Decides (TrueBy (now (block .entry)) i left right (now (ranks .entry)) s) r ⌝ }
+{
+    let kind = layout::kind(block, i);
+    if kind == 0 {
+        return buffers::has_bit(layout::mask(block, s), layout::left(block, i));
+    }
+    if kind == 1 {
+        return !buffers::has_bit(left, s);
+    }
+    if kind == 2 {
+        return buffers::has_bit(left, s) || buffers::has_bit(right, s);
+    }
+    claims(kind, buffers::rank_at(ranks, positions::full(block, i, s)))
+}
+
+// The set of row i.
+pub fn row_word(block: &[u8], i: usize, left: usize, right: usize, ranks: &[u8]) -> usize
+    requires { ⌜ Valid (now block) ⌝ }
+    requires { ⌜ (i < L.rows (now block)) × (12288 ≤ length (now ranks)) ⌝ }
+    ensures { λ r. ⌜ Says (now (block .entry)) r (TrueBy (now (block .entry)) i left right (now (ranks .entry))) ⌝ }
+{
+    let n = layout::states(block);
+    let mut w = 0;
+    let mut s = 0;
+    while s < n {
+        if true_at(block, i, left, right, ranks, s) {
+            w = buffers::with_bit(w, s);
+        }
+        s += 1;
+    }
+    w
+}
+
+// The states outside a set.
+pub fn complement(block: &[u8], set: usize) -> usize
+    requires { ⌜ Valid (now block) ⌝ }
+    ensures { λ r. ⌜ Says (now (block .entry)) r (λ (s : ℕ). (Bit set s → ⊥)) ⌝ }
+{
+    let n = layout::states(block);
+    let mut w = 0;
+    let mut s = 0;
+    while s < n {
+        if !buffers::has_bit(set, s) {
+            w = buffers::with_bit(w, s);
+        }
+        s += 1;
+    }
+    w
+}
+
+// The ranks of row i, whose lower rows' sets are left and right.
+pub fn rank_row(block: &[u8], i: usize, left: usize, right: usize, ranks: &mut [u8])
+    requires { ⌜ Valid (now block) ⌝ }
+    requires { ⌜ (i < L.rows (now block)) × L.Strategic (L.kind (now block) i) × (12288 ≤ length (now ranks)) ⌝ }
+    ensures { λ _. ⌜ RanksOf (now (block .entry)) i left right (now (ranks .exit)) × (length (now (ranks .exit)) ≡ length (now (ranks .entry))) ⌝ }
+{
+    let kind = layout::kind(block, i);
+    if kind == 3 {
+        next::next_ranks(block, i, left, ranks);
+        return;
+    }
+    if kind == 4 {
+        let all = complement(block, 0);
+        let fails = complement(block, left);
+        solve::solve(block, i, all, fails, false, ranks);
+        return;
+    }
+    solve::solve(block, i, left, right, true, ranks);
+}
