@@ -8,3 +8,4 @@ pub mod Counting
 pub mod Bytes
 pub mod Extremes
 pub mod Lists
+pub mod Values

@@ -1,16 +1,15 @@
--- The starred cases of document 01 hold of the meaning. Each strategic row comes with its table, of which the checker computes that it
--- has the local facts; truth, rank, move and reply by plays then follow. Assumes nothing.
-use mathlib.Core.List.{List, [], _∷_}
-use mathlib.Core.Path.{refl}
+-- The starred cases of document 01 hold of the meaning. The checker computes each strategic row's table by the solver, which has the local
+-- facts; truth, rank, move and reply by plays then follow. Assumes nothing.
+use mathlib.Core.List.{[], _∷_}
+use mathlib.Core.Path.{_≡_, refl, subst}
 use Prim.Native.Nat.{ℕ}
-use lib.Dec.{T}
-use lib.ListN.{getD}
+use lib.Dec.{T, ltb, lit<}
 use Rattle.block.specs.Layout as L
 use Rattle.block.specs.Layout.{Block}
 use Rattle.block.specs.Valid.{RowFits}
-use Rattle.game.specs.Position.{Position, IsPosition, Allowed}
+use Rattle.game.specs.Position.{Position, IsPosition, positions, Allowed}
 use Rattle.game.specs.Play.{CoalitionWins}
-use Rattle.game.specs.Table.{Table, RankIs, rankAt, ReplyIs, Decided}
+use Rattle.game.specs.Table.{Table, never, RankIs, rankAt, ReplyIs, Decided}
 use Rattle.game.specs.Facts.{Facts}
 use Rattle.game.specs.Model.{structureOf, RowSet, arenaOf, objectiveOf}
 use Rattle.game.specs.Catch.{catch, catch7, at, starred, AllHold}
@@ -19,8 +18,10 @@ use Rattle.game.proofs.Bridge.Proper.{Proper}
 use Rattle.game.proofs.Whole.Decided.{decided, rank-by-plays, reply-by-plays}
 use Rattle.game.proofs.Local.Decidable.{position?, allowed?}
 use Rattle.game.proofs.Local.Certificate.{RowsDecided, reply-is?}
+use Rattle.game.proofs.Solving.Solver.{lowering}
+use Rattle.game.proofs.Solving.Determined.{listed, solvedRanks, foundMoves, solvedTable, solved-facts}
 use Rattle.game.proofs.Blocks.Tests.{tests-proper, row-fits?, strategic?}
-use Rattle.game.proofs.Blocks.Labels.{decided-by-sets, prop-row, not-row, or-row, claimed?, strategic-row, row-facts}
+use Rattle.game.proofs.Blocks.Labels.{decided-by-sets, prop-row, not-row, or-row, claimed?, strategic-row}
 
 -- a row's meaning by its table
 module _ (b : Block) (proper : Proper (structureOf b)) (i : ℕ) (X : Table) (facts : Facts (arenaOf b i) X (objectiveOf b i)) where
@@ -39,10 +40,16 @@ module _ (b : Block) (proper : Proper (structureOf b)) (i : ℕ) (X : Table) (fa
   reply-by-table rows p fits m r allowed passes =
       reply-by-plays (arenaOf b i) proper X (objectiveOf b i) facts p fits m r allowed (from-yes (reply-is? (arenaOf b i) proper X p fits (objectiveOf b i) rows m allowed r) passes)
 
--- the tables of the strategic rows, by position number
-abbrev listed : List ℕ → List ℕ → Table
-listed ranks moves = record { rank = λ n. getD ranks n 0; move = λ n. getD moves n 0 }
+-- a row's table by the solver, from the sets of lower rows
+module _ (b : Block) (proper : Proper (structureOf b)) (i w₁ w₂ : ℕ) (left : RowSet b (L.left b i) w₁) (right : RowSet b (L.right b i) w₂) where
+  abbrev computed : Table
+  computed = solvedTable (arenaOf b i) proper (objectiveOf b i) (decided-by-sets b i w₁ w₂ left right)
 
+  facts-computed : (X : Table) → computed ≡ X → T (ltb (positions (arenaOf b i)) never) → Facts (arenaOf b i) X (objectiveOf b i)
+  facts-computed X e few =
+      subst (λ (Y : Table). Facts (arenaOf b i) Y (objectiveOf b i)) e (solved-facts (arenaOf b i) proper (lit< few) (objectiveOf b i) (decided-by-sets b i w₁ w₂ left right))
+
+-- the tables that it comes to, by position number
 abbrev table3 : Table
 table3 =
     listed
@@ -82,14 +89,27 @@ set1 = not-row catch catch-proper 1 (row 1 tt) 3 4 refl set0 tt
 set2 : RowSet catch 2 7
 set2 = or-row catch catch-proper 2 (row 2 tt) 7 4 3 refl set0 set1 tt
 
+-- what the solver computes
+computed3 : computed catch catch-proper 3 7 4 set2 set0 ≡ table3
+unfolding solvedRanks lowering foundMoves
+computed3 = refl
+
+computed4 : computed catch catch-proper 4 7 4 set2 set0 ≡ table4
+unfolding solvedRanks lowering foundMoves
+computed4 = refl
+
+computed5 : computed catch catch-proper 5 7 4 set2 set0 ≡ table5
+unfolding solvedRanks lowering foundMoves
+computed5 = refl
+
 facts3 : Facts (arenaOf catch 3) table3 (objectiveOf catch 3)
-facts3 = row-facts catch catch-proper 3 7 4 set2 set0 table3 tt
+facts3 = facts-computed catch catch-proper 3 7 4 set2 set0 table3 computed3 tt
 
 facts4 : Facts (arenaOf catch 4) table4 (objectiveOf catch 4)
-facts4 = row-facts catch catch-proper 4 7 4 set2 set0 table4 tt
+facts4 = facts-computed catch catch-proper 4 7 4 set2 set0 table4 computed4 tt
 
 facts5 : Facts (arenaOf catch 5) table5 (objectiveOf catch 5)
-facts5 = row-facts catch catch-proper 5 7 4 set2 set0 table5 tt
+facts5 = facts-computed catch catch-proper 5 7 4 set2 set0 table5 computed5 tt
 
 -- row 3 at state 0 with stock 5
 start : IsPosition (arenaOf catch 3) (at 0 5)
@@ -111,8 +131,12 @@ set0′ = prop-row catch7 catch7-proper 0 (row7 0 tt) 4 refl tt
 set1′ : RowSet catch7 1 3
 set1′ = not-row catch7 catch7-proper 1 (row7 1 tt) 3 4 refl set0′ tt
 
+computed6 : computed catch7 catch7-proper 6 3 4 set1′ set0′ ≡ table6
+unfolding solvedRanks lowering foundMoves
+computed6 = refl
+
 facts6 : Facts (arenaOf catch7 6) table6 (objectiveOf catch7 6)
-facts6 = row-facts catch7 catch7-proper 6 3 4 set1′ set0′ table6 tt
+facts6 = facts-computed catch7 catch7-proper 6 3 4 set1′ set0′ table6 computed6 tt
 
 pub starred-hold : AllHold starred
 unfolding rows3

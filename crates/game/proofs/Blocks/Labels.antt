@@ -12,8 +12,8 @@ use Rattle.block.specs.Layout as L
 use Rattle.block.specs.Layout.{Block, Strategic}
 use Rattle.block.specs.Valid.{RowFits}
 use Rattle.game.specs.Rbatl.{Formula, Sat}
-use Rattle.game.specs.Position.{Arena, full}
-use Rattle.game.specs.Play.{Objective, next, always, until}
+use Rattle.game.specs.Position.{full}
+use Rattle.game.specs.Play.{next, always, until}
 use Rattle.game.specs.Table.{Table}
 use Rattle.game.specs.Facts.{Claims, Facts}
 use Rattle.game.specs.Model.{bit, structureOf, RowTrue, RowSet, Says, arenaOf, objectiveOf, objectiveBy}
@@ -21,7 +21,7 @@ use Rattle.game.proofs.Numbers.Decide.{all-below, both?, by-test, eithe
 use Rattle.game.proofs.Bridge.Proper.{Proper}
 use Rattle.game.proofs.Local.Lower.{Tells, Retold, same-next, same-always, same-until, retold}
 use Rattle.game.proofs.Local.Decidable.{claims?}
-use Rattle.game.proofs.Local.Certificate.{RowsDecided, table?, certified}
+use Rattle.game.proofs.Local.Certificate.{RowsDecided}
 use Rattle.game.proofs.Blocks.Formulas.{prop-formula, not-formula, or-formula, row-wins}
 use Rattle.game.proofs.Bridge.Truth.{full-fits}
 use Rattle.game.proofs.Whole.Decided.{claims-win, wins-claimed}
@@ -62,14 +62,6 @@ decided-by-sets b i w₁ w₂ left right = go (eqb (L.kind b i) L.nextKind) (eqb
     go false true = decided-by-set b (L.left b i) w₁ left
     go false false = (decided-by-set b (L.left b i) w₁ left, decided-by-set b (L.right b i) w₂ right)
 
-abbrev pub bits-decided : (G : Arena) (k w₁ w₂ : ℕ) → RowsDecided G (objectiveBy k w₁ w₂)
-bits-decided G k w₁ w₂ = go (eqb k L.nextKind) (eqb k L.alwaysKind)
-  where
-    go : (t u : Bool) → RowsDecided G (cond t (next (Bit w₁)) (cond u (always (Bit w₁)) (until (Bit w₁) (Bit w₂))))
-    go true u = λ q _. eq? (w₁ / 2 ^ q % 2) 1
-    go false true = λ q _. eq? (w₁ / 2 ^ q % 2) 1
-    go false false = ((λ q _. eq? (w₁ / 2 ^ q % 2) 1), λ q _. eq? (w₂ / 2 ^ q % 2) 1)
-
 module _ (b : Block) (proper : Proper (structureOf b)) (i : ℕ) where
   module _ (w₁ w₂ : ℕ) (left : RowSet b (L.left b i) w₁) (right : RowSet b (L.right b i) w₂) where
     pub retold-row : Retold (arenaOf b i) (objectiveBy (L.kind b i) w₁ w₂) (objectiveOf b i)
@@ -88,9 +80,9 @@ module _ (b : Block) (proper : Proper (structureOf b)) (i : ℕ) where
         go false true = same-always l
         go false false = same-until l r
 
-    -- a table that passes the tests over the lower rows' sets has the facts of its row
-    pub row-facts : (X : Table) → T (isYes (table? (arenaOf b i) proper X (objectiveBy (L.kind b i) w₁ w₂) (bits-decided (arenaOf b i) (L.kind b i) w₁ w₂))) → Facts (arenaOf b i) X (objectiveOf b i)
-    row-facts X passes = retold (arenaOf b i) proper X retold-row (certified (arenaOf b i) proper X (objectiveBy (L.kind b i) w₁ w₂) (bits-decided (arenaOf b i) (L.kind b i) w₁ w₂) passes)
+    -- facts with lower rows told by their sets are facts of the row
+    pub row-facts : (X : Table) → Facts (arenaOf b i) X (objectiveBy (L.kind b i) w₁ w₂) → Facts (arenaOf b i) X (objectiveOf b i)
+    row-facts X facts = retold (arenaOf b i) proper X retold-row facts
 
   module _ (row : RowFits b i) where
     -- prop, not and or

@@ -19,7 +19,7 @@ use Rattle.game.proofs.Local.Decidable.{claims?}
 use Rattle.game.proofs.Local.Certificate.{RowsDecided}
 use Rattle.game.proofs.Blocks.Formulas.{prop-formula, not-formula, or-formula, next-objective, always-objective, until-objective}
 use Rattle.game.proofs.Blocks.Tables.{table-decided, table-set}
-use Rattle.game.proofs.Solving.Determined.{table-exists}
+use Rattle.game.proofs.Solving.Determined.{solvedTable, solved-facts}
 
 decided-by : {P Q : Type 0} → P ↔ Q → Dec Q → Dec P
 decided-by e (yes q) = yes (e .1 q)
@@ -47,7 +47,11 @@ module _ (b : Block) (valid : Valid b) where
             told _ (until-objective b (valid-proper b valid) i (valid .row-fits i inside) e) (left-decided (omega arith), right-decided (inr e))
 
     strategic-table : Strategic (L.kind b i) → (X : Table) × Facts (arenaOf b i) X (objectiveOf b i)
-    strategic-table strategic = table-exists (arenaOf b i) (valid-proper b valid) (omega (arith, few-positions b valid i inside strategic)) (objectiveOf b i) (strategic-rows strategic)
+    strategic-table strategic =
+        let G = arenaOf b i in
+        let proper = valid-proper b valid in
+        let few = few-positions b valid i inside strategic in
+        (solvedTable G proper (objectiveOf b i) (strategic-rows strategic), solved-facts G proper (omega arith) (objectiveOf b i) (strategic-rows strategic))
 
     this-row : (q : ℕ) → q < L.states b → Dec (RowTrue b i q)
     this-row q l = go (eq? (L.kind b i) L.propKind) (eq? (L.kind b i) L.notKind) (eq? (L.kind b i) L.orKind)

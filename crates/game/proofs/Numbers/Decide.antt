@@ -77,13 +77,3 @@ some-below P (suc n) P? =
 abbrev pub either? : {P Q : Type 0} → Dec P → (Unit {0} → Dec Q) → Dec (P ⊎ Q)
 either? (yes p) q? = yes (inl p)
 either? (no fails) q? = elim (q? tt) [ yes q ↦ yes (inr q) | no fails′ ↦ no (elim [ inl p ↦ fails p | inr q ↦ fails′ q ]) ]
-
--- a property below n holds everywhere, or fails somewhere
-pub all-or-some : (P : ℕ → Type 0) (n : ℕ) → ((i : ℕ) → i < n → Dec (P i)) → ((i : ℕ) → i < n → P i) ⊎ ((i : ℕ) × (i < n) × (P i → ⊥))
-all-or-some P zero P? = inl (λ i l. absurd (omega arith))
-all-or-some P (suc n) P? = go (all-or-some P n (λ i l. P? i (omega arith))) (P? n (omega arith))
-  where
-    go : ((i : ℕ) → i < n → P i) ⊎ ((i : ℕ) × (i < n) × (P i → ⊥)) → Dec (P n) → ((i : ℕ) → i < suc n → P i) ⊎ ((i : ℕ) × (i < suc n) × (P i → ⊥))
-    go (inl before) (yes here) = inl (below-suc {P = P} n before here)
-    go (inl before) (no fails) = inr (n, omega arith, fails)
-    go (inr (i, l, fails)) d = inr (i, omega arith, fails)

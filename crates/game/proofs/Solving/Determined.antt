@@ -1,118 +1,165 @@
--- Every strategic row has a table with the local facts, given that lower rows are decided in every state. So each position is won by
--- exactly one side, and no table has to be given. Assumes nothing.
+-- The table of a strategic row, given that lower rows are decided in every state: the solver's ranks and the moves that a search finds
+-- for them, as two lists. It has the local facts, so each position is won by exactly one side. Assumes nothing.
+use mathlib.Core.List.{List, []}
 use mathlib.Core.Logic.{_⊎_, inl, inr}
-use mathlib.Core.Path.{_≡_, refl, sym, ap, subst}
-use Prim.Native.Nat.{ℕ, _<_}
-use Rattle.game.specs.Position.{Arena, Position, IsPosition, number, positions, Reply, Allowed, outcome}
+use mathlib.Core.Path.{_≡_, refl, sym, _∙_, ap, subst}
+use Prim.Native.Nat.{ℕ, _^_, _≤_, _<_}
+use native.Mathlib.Omega.{arith}
+use lib.ListN.{getD}
+use Rattle.game.specs.Position.{Arena, Position, IsPosition, number, positions}
 use Rattle.game.specs.Play.{Objective, next, always, until}
-use Rattle.game.specs.Table.{Table, never, noMove, moveAt, Good, Met, MoveIs}
+use Rattle.game.specs.Table.{Table, never, noMove, moveAt, Smallest, Good, Met, MoveIs}
 use Rattle.game.specs.Facts.{CanForce, CanAnswer, RankFacts, Claims, Facts}
-use Rattle.game.proofs.Numbers.Decide.{not-not, not?}
+use Rattle.game.proofs.Numbers.Decide.{lt?, not?}
+use Rattle.game.proofs.Numbers.Values.{values, value-at}
 use Rattle.game.proofs.Bridge.Proper.{Proper}
-use Rattle.game.proofs.Bridge.Plays.{outcome-fits}
-use Rattle.game.proofs.Local.Decidable.{position?, some?, force?, claims?}
+use Rattle.game.proofs.Local.Decidable.{position?, claims?}
 use Rattle.game.proofs.Local.Same.{Same, same-sym, same-number, positionOf, position-same, position-fits, number-below}
 use Rattle.game.proofs.Local.ByNumber.{force-transfers, answer-transfers, move-same}
 use Rattle.game.proofs.Local.Certificate.{RowsDecided, left-decided, met?, good?}
-use Rattle.game.proofs.Solving.Exist.{smallest, good-exists}
-use Rattle.game.proofs.Solving.Sides.{coalition-attacks, opponents-attack}
-use Rattle.game.proofs.Solving.Solver.{solved}
+use Rattle.game.proofs.Solving.Exist.{first-below, good-exists}
+use Rattle.game.proofs.Solving.Sides.{leastLargest, force-attained, answer-defended, coalition-attacks, opponents-attack}
+use Rattle.game.proofs.Solving.Sweeping.{force-weakens, answer-weakens}
+use Rattle.game.proofs.Solving.Solver.{rankOf, firstRanks, lowered, Starts, starts-at, solved}
+
+-- a table of two lists, by position number
+abbrev pub listed : List ℕ → List ℕ → Table
+listed ranks moves = record { rank = rankOf ranks; move = λ n. getD moves n 0 }
+
+-- a rank of next
+abbrev nextRank : {Q : Type 0} → Dec Q → ℕ
+nextRank (yes _) = 1
+nextRank (no _) = never
+
+-- the move at a position: none where it is not claimed, 0 where the row is met, and elsewhere the first that is found
+abbrev picked : {P Q R : Type 0} {S : ℕ → Type 0} → Dec P → Dec Q → ((k : ℕ) × S k) ⊎ R → ℕ
+picked (no _) met found = noMove
+picked (yes _) (yes _) found = 0
+picked (yes _) (no _) (inl (k, _)) = k
+picked (yes _) (no _) (inr _) = noMove
 
 module _ (G : Arena) (proper : Proper (G .structure)) where
-  -- the moves that go with ranks
-  module _ (rank : ℕ → ℕ) (t : Objective) (ranks : RankFacts G t (λ x. rank (number G x))) (rows : RowsDecided G t) where
-    abbrev pub ranked : Table
-    ranked = record { rank = rank; move = λ n. noMove }
-
-    -- the move at a position
-    pub record Moved (p : Position) : Type 0 where
-      pub shows : ℕ
-      pub right : IsPosition G p → MoveIs G ranked t (Claims G ranked t) p shows
-
-    pub moved : (p : Position) → Moved p
-    moved p = go (position? G p)
-      where
-        inside : (fits : IsPosition G p) → Dec (Claims G ranked t p) → Dec (Met G ranked t p) → Moved p
-        inside fits (no unclaimed) d = record { shows = noMove; right = λ _. record { lost = λ _. refl; met = λ claim. absurd (unclaimed claim); best = λ claim. absurd (unclaimed claim) } }
-        inside fits (yes claim) (yes met) = record { shows = 0; right = λ _. record { lost = λ loses. absurd (loses claim); met = λ _ _. refl; best = λ _ unmet. absurd (unmet met) } }
-        inside fits (yes claim) (no unmet) =
-            let (m, good) = good-exists G ranked t ranks p fits claim unmet in
-            let (k, least) = smallest (Good G ranked t p) (good? G proper ranked p fits t rows) m good in
-            record { shows = k; right = λ _. record { lost = λ loses. absurd (loses claim); met = λ _ met. absurd (unmet met); best = λ _ _. least } }
-
-        go : Dec (IsPosition G p) → Moved p
-        go (yes fits) = inside fits (claims? G ranked t p) (met? G proper ranked t p)
-        go (no fails) = record { shows = noMove; right = λ fits. absurd (fails fits) }
-
-    abbrev pub table : Table
-    table = record { rank = rank; move = λ n. moved (positionOf G n) .shows }
-
-    pub ranks-facts : Facts G table t
-    ranks-facts = record { ranks = ranks; moves = moves; decided = left-decided G t rows }
-      where
-        moves : (p : Position) → IsPosition G p → MoveIs G table t (Claims G table t) p (moveAt G table p)
-        moves p fits = move-same G table t x p s (subst (MoveIs G table t (Claims G table t) x) shown (same-table (moved x .right (position-fits G (number G p) (number-below G p fits)))))
-          where
-            x : Position
-            x = positionOf G (number G p)
-
-            s : Same G x p
-            s = same-sym G p x (position-same G p fits)
-
-            shown : moved x .shows ≡ moveAt G table x
-            shown = ap (λ (n : ℕ). moved (positionOf G n) .shows) (sym (same-number G x p s))
-
-            -- only the ranks matter
-            same-table : {m : ℕ} → MoveIs G ranked t (Claims G ranked t) x m → MoveIs G table t (Claims G table t) x m
-            same-table at = record { lost = at .lost; met = at .met; best = at .best }
-
   -- next: 1 where the coalition can force left
   module _ (left : ℕ → Type 0) (left? : (q : ℕ) → q < G .structure .states → Dec (left q)) where
-    NextAt : Position → ℕ → Type 0
-    NextAt p n = ((n ≡ 1) × CanForce G p (λ x. left (x .state))) ⊎ ((n ≡ never) × CanAnswer G p (λ x. left (x .state) → ⊥))
+    abbrev nextAt : List ℕ → ℕ → ℕ
+    nextAt first n = nextRank (lt? (leastLargest G (rankOf first) (positionOf G n)) never)
 
-    record Ranking (p : Position) : Type 0 where
-      value : ℕ
-      right : IsPosition G p → NextAt p value
+    abbrev nextRanks : List ℕ
+    nextRanks = let first = firstRanks G left left? in values (nextAt first) (positions G)
 
-    ranking : (p : Position) → Ranking p
-    unfolding NextAt
-    ranking p = go (position? G p)
+    reached : (v q : ℕ) → v < never → Starts left q v → left q
+    reached v q finite (inl (h, _)) = h
+    reached v q finite (inr (_, e)) = absurd (omega arith)
+
+    missed : (v q : ℕ) → never ≤ v → Starts left q v → left q → ⊥
+    missed v q high (inl (_, e)) = absurd (omega arith)
+    missed v q high (inr (fails, _)) = fails
+
+    next-solved : RankFacts G (next left) (λ x. rankOf nextRanks (number G x))
+    next-solved p fits = subst At (sym (value-at (nextAt first) (positions G) (number G p) (number-below G p fits))) (go (lt? v never))
       where
-        inside : (fits : IsPosition G p) → Dec (CanForce G p (λ x. left (x .state))) → Ranking p
-        inside fits (yes force) = record { value = 1; right = λ _. inl (refl, force) }
-        inside fits (no fails) = record { value = never; right = λ _. inr (refl, answer) }
-          where
-            answer : CanAnswer G p (λ x. left (x .state) → ⊥)
-            answer m a = found (some? G p (λ x. left (x .state) → ⊥) m (λ r reply. not? (at m r a reply)))
-              where
-                at : (m r : ℕ) → Allowed G p m → Reply G p r → Dec (left (outcome G p m r .state))
-                at m r a reply = left? (outcome G p m r .state) (outcome-fits G proper p m r fits (a .0) reply .0)
+        At : ℕ → Type 0
+        At n = ((n ≡ 1) × CanForce G p (λ x. left (x .state))) ⊎ ((n ≡ never) × CanAnswer G p (λ x. left (x .state) → ⊥))
 
-                found : Dec ((r : ℕ) × Reply G p r × (left (outcome G p m r .state) → ⊥)) → (r : ℕ) × Reply G p r × (left (outcome G p m r .state) → ⊥)
-                found (yes h) = h
-                found (no none) = absurd (fails (m, a, λ r reply. not-not (at m r a reply) (λ h. none (r, reply, h))))
+        first : List ℕ
+        first = firstRanks G left left?
 
-        go : Dec (IsPosition G p) → Ranking p
-        go (yes fits) = inside fits (force? G p (λ x. left (x .state)) (λ m r a reply. left? (outcome G p m r .state) (outcome-fits G proper p m r fits (a .0) reply .0)))
-        go (no fails) = record { value = 0; right = λ fits. absurd (fails fits) }
+        x : Position
+        x = positionOf G (number G p)
 
-    next-solved : (rank : ℕ → ℕ) × RankFacts G (next left) (λ x. rank (number G x))
-    unfolding NextAt
-    next-solved = ((λ n. ranking (positionOf G n) .value), λ p fits. at p fits (ranking (positionOf G (number G p)) .right (position-fits G (number G p) (number-below G p fits))))
-      where
-        at : (p : Position) → IsPosition G p → NextAt (positionOf G (number G p)) (ranking (positionOf G (number G p)) .value) → NextAt p (ranking (positionOf G (number G p)) .value)
-        at p fits (inl (e, force)) = inl (e, force-transfers G (λ _ q. left q) (positionOf G (number G p)) p (same-sym G p (positionOf G (number G p)) (position-same G p fits)) force)
-        at p fits (inr (e, answer)) = inr (e, answer-transfers G (λ _ q. left q → ⊥) (positionOf G (number G p)) p (same-sym G p (positionOf G (number G p)) (position-same G p fits)) answer)
+        inside : IsPosition G x
+        inside = position-fits G (number G p) (number-below G p fits)
+
+        s : Same G x p
+        s = same-sym G p x (position-same G p fits)
+
+        v : ℕ
+        v = leastLargest G (rankOf first) x
+
+        force : v < never → CanForce G x (λ y. left (y .state))
+        force finite =
+            force-weakens G proper x inside (λ y. rankOf first (number G y) ≤ v) (λ y. left (y .state))
+            (λ y fits′ h. reached (rankOf first (number G y)) (y .state) (omega (arith, h)) (starts-at G left left? y fits′)) (force-attained G (rankOf first) x finite)
+
+        answer : never ≤ v → CanAnswer G x (λ y. left (y .state) → ⊥)
+        answer high =
+            answer-weakens G proper x inside (λ y. v ≤ rankOf first (number G y)) (λ y. left (y .state) → ⊥)
+            (λ y fits′ h. missed (rankOf first (number G y)) (y .state) (omega (arith, h)) (starts-at G left left? y fits′)) (answer-defended G (rankOf first) x proper inside)
+
+        go : (d : Dec (v < never)) → At (nextRank d)
+        go (yes finite) = inl (refl, force-transfers G (λ _ q. left q) x p s (force finite))
+        go (no high) = inr (refl, answer-transfers G (λ _ q. left q → ⊥) x p s (answer (omega arith)))
+
+  -- the moves that go with ranks
+  module _ (t : Objective) (rows : RowsDecided G t) (ranks : List ℕ) where
+    abbrev moveIn : (p : Position) → Dec (IsPosition G p) → ℕ
+    moveIn p (yes fits) =
+        let X = listed ranks [] in
+        picked (claims? G X t p) (met? G proper X t p) (first-below (Good G X t p) (good? G proper X p fits t rows) (4 ^ G .structure .agents))
+    moveIn p (no _) = noMove
+
+    unfoldable pub foundMoves : List ℕ
+    foundMoves = values (λ n. moveIn (positionOf G n) (position? G (positionOf G n))) (positions G)
+
+    module _ (facts : RankFacts G t (λ x. rankOf ranks (number G x))) where
+      move-is : (p : Position) → IsPosition G p → (d : Dec (IsPosition G p)) → MoveIs G (listed ranks []) t (Claims G (listed ranks []) t) p (moveIn p d)
+      move-is p fits (no fails) = absurd (fails fits)
+      move-is p fits (yes fits′) = go (claims? G X t p) (met? G proper X t p) (first-below (Good G X t p) (good? G proper X p fits′ t rows) (4 ^ G .structure .agents))
+        where
+          X : Table
+          X = listed ranks []
+
+          go : (claimed : Dec (Claims G X t p)) (met : Dec (Met G X t p)) (found : ((k : ℕ) × Smallest (Good G X t p) k) ⊎ ((k : ℕ) → k < 4 ^ G .structure .agents → Good G X t p k → ⊥))
+              → MoveIs G X t (Claims G X t) p (picked claimed met found)
+          go (no unclaimed) met found = record { lost = λ _. refl; met = λ claim. absurd (unclaimed claim); best = λ claim. absurd (unclaimed claim) }
+          go (yes claim) (yes met) found = record { lost = λ loses. absurd (loses claim); met = λ _ _. refl; best = λ _ unmet. absurd (unmet met) }
+          go (yes claim) (no unmet) (inl (k, least)) = record { lost = λ loses. absurd (loses claim); met = λ _ met. absurd (unmet met); best = λ _ _. least }
+          go (yes claim) (no unmet) (inr none) =
+              let (m, good) = good-exists G X t facts p fits claim unmet in
+              absurd (none m (good .0 .0 .0) good)
+
+      pub moves-found : Facts G (listed ranks foundMoves) t
+      unfolding foundMoves
+      moves-found = record { ranks = facts; moves = moves; decided = left-decided G t rows }
+        where
+          X : Table
+          X = listed ranks foundMoves
+
+          moves : (p : Position) → IsPosition G p → MoveIs G X t (Claims G X t) p (moveAt G X p)
+          moves p fits = move-same G X t x p s (subst (MoveIs G X t (Claims G X t) x) shown (same-ranks (move-is x inside (position? G x))))
+            where
+              x : Position
+              x = positionOf G (number G p)
+
+              inside : IsPosition G x
+              inside = position-fits G (number G p) (number-below G p fits)
+
+              s : Same G x p
+              s = same-sym G p x (position-same G p fits)
+
+              shown : moveIn x (position? G x) ≡ moveAt G X x
+              shown =
+                  sym (ap (λ (n : ℕ). getD foundMoves n 0) (same-number G x p s) ∙ value-at (λ n. moveIn (positionOf G n) (position? G (positionOf G n))) (positions G) (number G p) (number-below G p fits))
+
+              -- only the ranks matter
+              same-ranks : {m : ℕ} → MoveIs G (listed ranks []) t (Claims G (listed ranks []) t) x m → MoveIs G X t (Claims G X t) x m
+              same-ranks at = record { lost = at .lost; met = at .met; best = at .best }
+
+  unfoldable pub solvedRanks : (t : Objective) → RowsDecided G t → List ℕ
+  solvedRanks (until left right) rows = lowered G (coalition-attacks G proper) left (rows .0) (firstRanks G right (rows .1))
+  solvedRanks (always left) rows = lowered G (opponents-attack G proper) (λ _. Unit {0}) (λ _ _. yes tt) (firstRanks G (λ q. left q → ⊥) (λ q l. not? (rows q l)))
+  solvedRanks (next left) rows = nextRanks left rows
+
+  abbrev pub solvedTable : (t : Objective) → RowsDecided G t → Table
+  solvedTable t rows = listed (solvedRanks t rows) (foundMoves t rows (solvedRanks t rows))
 
   module _ (few : positions G < never) where
-    ranks-exist : (t : Objective) → RowsDecided G t → (rank : ℕ → ℕ) × RankFacts G t (λ x. rank (number G x))
-    ranks-exist (until left right) rows = solved G few (coalition-attacks G proper) left right (rows .0) (rows .1)
-    ranks-exist (always left) rows = solved G few (opponents-attack G proper) (λ _. Unit {0}) (λ q. left q → ⊥) (λ _ _. yes tt) (λ q l. not? (rows q l))
-    ranks-exist (next left) rows = next-solved left rows
+    ranks-solved : (t : Objective) (rows : RowsDecided G t) → RankFacts G t (λ x. rankOf (solvedRanks t rows) (number G x))
+    unfolding solvedRanks
+    ranks-solved (until left right) rows = solved G (coalition-attacks G proper) left (rows .0) few right (rows .1)
+    ranks-solved (always left) rows = solved G (opponents-attack G proper) (λ _. Unit {0}) (λ _ _. yes tt) few (λ q. left q → ⊥) (λ q l. not? (rows q l))
+    ranks-solved (next left) rows = next-solved left rows
 
-    -- every row has its table
-    pub table-exists : (t : Objective) → RowsDecided G t → (X : Table) × Facts G X t
-    table-exists t rows =
-        let (rank, ranks) = ranks-exist t rows in
-        (table rank t ranks rows, ranks-facts rank t ranks rows)
+    -- the solver's table has the facts
+    pub solved-facts : (t : Objective) (rows : RowsDecided G t) → Facts G (solvedTable t rows) t
+    solved-facts t rows = moves-found t rows (solvedRanks t rows) (ranks-solved t rows)

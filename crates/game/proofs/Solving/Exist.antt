@@ -17,14 +17,13 @@ use Rattle.game.proofs.Whole.Choices.{idle-reply}
 use Rattle.game.proofs.Whole.Decided.{reply-by-plays}
 
 -- of the numbers below n the first with a property
-pub first-below : (P : ℕ → Type 0) → ((i : ℕ) → Dec (P i)) → (n : ℕ) → ((i : ℕ) × Smallest P i) ⊎ ((i : ℕ) → i < n → P i → ⊥)
+abbrev pub first-below : (P : ℕ → Type 0) → ((i : ℕ) → Dec (P i)) → (n : ℕ) → ((i : ℕ) × Smallest P i) ⊎ ((i : ℕ) → i < n → P i → ⊥)
 first-below P P? zero = inr (λ i l. absurd (omega arith))
-first-below P P? (suc n) = go (first-below P P? n) (P? n)
-  where
-    go : ((i : ℕ) × Smallest P i) ⊎ ((i : ℕ) → i < n → P i → ⊥) → Dec (P n) → ((i : ℕ) × Smallest P i) ⊎ ((i : ℕ) → i < suc n → P i → ⊥)
-    go (inl found) d = inl found
-    go (inr none) (yes here) = inl (n, (here, none))
-    go (inr none) (no fails) = inr (below-suc {P = λ i. P i → ⊥} n none fails)
+first-below P P? (suc n) =
+    elim (first-below P P? n) [
+      | inl found ↦ inl found
+      | inr none ↦ elim (P? n) [ yes here ↦ inl (n, (here, none)) | no fails ↦ inr (below-suc {P = λ i. P i → ⊥} n none fails) ]
+    ]
 
 pub smallest : (P : ℕ → Type 0) → ((i : ℕ) → Dec (P i)) → (i : ℕ) → P i → (k : ℕ) × Smallest P k
 smallest P P? i h = go (first-below P P? (suc i))

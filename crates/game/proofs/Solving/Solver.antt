@@ -1,218 +1,252 @@
--- A solver by lowering: while some rank can be lowered, lower it to the least value that the attack can hold. It ends, since the sum of
--- the ranks falls, and its ranks have the facts. So every position of every arena is decided. Assumes nothing.
-use mathlib.Core.Bool.{Bool, cond}
+-- A solver over lists of ranks, which the checker can compute with: it sweeps through the positions and lowers each rank to one more than
+-- the value of the position, until the sum of the ranks stays. Its ranks have the facts. Assumes nothing.
+use mathlib.Core.List.{List}
 use mathlib.Core.Logic.{_⊎_, inl, inr}
-use mathlib.Core.Path.{_≡_, refl, sym, _∙_, ap, subst}
-use Prim.Native.Nat.{ℕ, zero, suc, _-_, _≤_, _<_}
+use mathlib.Core.Path.{_≡_, refl, sym, _∙_, subst}
+use Prim.Native.Nat.{ℕ, zero, suc, _≤_, _<_}
 use native.Mathlib.Omega.{arith}
-use lib.Dec.{eqb}
-use borrow.Author.Tests.{eq-eqb, ne-eqb}
+use lib.ListN.{length, length-set, getD, set}
+use lib.Seq.{getD-set-same, getD-set-other}
 use Rattle.game.specs.Position.{Arena, Position, IsPosition, number, positions}
-use Rattle.game.specs.Table.{never, Smallest}
-use Rattle.game.specs.Facts.{Sound, Ranked}
-use Rattle.game.specs.Sweep.{Crowded, total}
-use Rattle.game.proofs.Numbers.Decide.{all-or-some, implies?, le?, lt?, not-not}
-use Rattle.game.proofs.Local.Same.{Same, same-sym, same-number, positionOf, position-same, position-fits, number-below}
+use Rattle.game.specs.Table.{never}
+use Rattle.game.specs.Facts.{Ranked}
+use Rattle.game.specs.Sweep.{Kept, total}
+use Rattle.game.proofs.Numbers.Decide.{both?, le?, lt?}
+use Rattle.game.proofs.Numbers.Ranks.{below-suc}
+use Rattle.game.proofs.Numbers.Values.{values, values-length, value-at}
 use Rattle.game.proofs.Numbers.Counting.{lower-crowded, total-falls}
+use Rattle.game.proofs.Local.Same.{Same, same-sym, same-number, positionOf, position-same, position-fits, number-below}
 use Rattle.game.proofs.Solving.Sweeping.{first-sound, lower-sound, at-rest}
-use Rattle.game.proofs.Solving.Exist.{smallest}
 use Rattle.game.proofs.Solving.Sides.{Sides}
 
--- one rank changed
-put : (ℕ → ℕ) → ℕ → ℕ → ℕ → ℕ
-put rank k v i = cond (eqb i k) v (rank i)
+-- the rank that stands in a list for a number
+abbrev pub rankOf : List ℕ → ℕ → ℕ
+rankOf l n = getD l n 0
 
-put-here : (rank : ℕ → ℕ) (k v : ℕ) → put rank k v k ≡ v
-unfolding put
-put-here rank k v = ap (λ (t : Bool). cond t v (rank k)) (eq-eqb k k refl)
-
-put-other : (rank : ℕ → ℕ) (k v i : ℕ) → (i ≡ k → ⊥) → put rank k v i ≡ rank i
-unfolding put
-put-other rank k v i ne = ap (λ (t : Bool). cond t v (rank i)) (ne-eqb i k ne)
+-- what is decided in every state, asked of any number
+abbrev within? : (n : ℕ) (P : ℕ → Type 0) → ((q : ℕ) → q < n → Dec (P q)) → (q : ℕ) → Dec ((q < n) × P q)
+within? n P P? q = both? (lt? q n) (P? q)
 
 abbrev startRank : {Q : Type 0} → Dec Q → ℕ
 startRank (yes _) = 0
 startRank (no _) = never
 
-module _ (G : Arena) (few : positions G < never) (D : Sides G) (Safe Goal : ℕ → Type 0) (safe? : (q : ℕ) → q < G .structure .states → Dec (Safe q)) (goal? : (q : ℕ) → q < G .structure .states → Dec (Goal q)) where
-  -- ranks on the way
-  record Ranks (rank : ℕ → ℕ) : Type 0 where
-    sound : Sound G Safe Goal (λ x. rank (number G x)) (D .Attack)
-    crowded : Crowded (positions G) rank
+abbrev stored : {Q : Type 0} → Dec Q → List ℕ → ℕ → ℕ → List ℕ
+stored (yes _) l k v = set l k v
+stored (no _) l k v = l
 
-  -- the defence holds the rank at p
-  Held : (ℕ → ℕ) → Position → Type 0
-  Held rank p = D .Defend p (λ x. rank (number G p) ≤ suc (rank (number G x)))
+-- v is 0 at the goal, never elsewhere
+abbrev pub Starts : (ℕ → Type 0) → ℕ → ℕ → Type 0
+Starts Goal q v = (Goal q × (v ≡ 0)) ⊎ ((Goal q → ⊥) × (v ≡ never))
 
-  -- where it does not, the rank can be lowered
-  module _ (rank : ℕ → ℕ) (ranks : Ranks rank) (p : Position) (fits : IsPosition G p) (safe : Safe (p .state)) (positive : 0 < rank (number G p)) (loose : Held rank p → ⊥) where
-    reaches? : (v : ℕ) → Dec (D .Attack p (λ x. rank (number G x) < v))
-    reaches? v = D .attack? p (λ x. rank (number G x) < v) (λ x. lt? (rank (number G x)) v)
+module _ (G : Arena) (Goal : ℕ → Type 0) (goal? : (q : ℕ) → q < G .structure .states → Dec (Goal q)) where
+  abbrev startAt : ℕ → ℕ
+  startAt n = startRank (within? (G .structure .states) Goal goal? (positionOf G n .state))
 
-    reaches-lower : D .Attack p (λ x. rank (number G x) < rank (number G p) - 1)
-    unfolding Held
-    reaches-lower =
-        D .attack-weakens p fits (λ x. rank (number G p) ≤ suc (rank (number G x)) → ⊥) (λ x. rank (number G x) < rank (number G p) - 1) (λ x _ h. omega (arith, h))
-        (D .overcome p (λ x. rank (number G p) ≤ suc (rank (number G x))) (λ x. le? (rank (number G p)) (suc (rank (number G x)))) loose)
+  abbrev pub firstRanks : List ℕ
+  firstRanks = values startAt (positions G)
 
-    lowest : (v : ℕ) × Smallest (λ v. D .Attack p (λ x. rank (number G x) < v)) v
-    lowest = smallest (λ v. D .Attack p (λ x. rank (number G x) < v)) reaches? (rank (number G p) - 1) reaches-lower
-
-    -- the least value is one more than the rank of an outcome
-    above-outcome : (v : ℕ) → Smallest (λ v. D .Attack p (λ x. rank (number G x) < v)) v → (x : Position) × IsPosition G x × (v ≡ suc (rank (number G x)))
-    above-outcome zero (reach, none) = absurd (D .alive p fits (D .attack-weakens p fits (λ x. rank (number G x) < 0) (λ _. ⊥) (λ x _ h. omega (arith, h)) reach))
-    above-outcome (suc j) (reach, none) =
-        let (x, inside, below, above) = D .meets p fits _ _ reach (D .prevent p (λ x. rank (number G x) < j) (λ x. lt? (rank (number G x)) j) (none j (omega arith))) in
-        (x, inside, omega (arith, below, above))
-
-    improved : (rank′ : ℕ → ℕ) × Ranks rank′ × (total rank′ (positions G) < total rank (positions G))
-    improved = (
-      rank′,
-      record {
-        sound = lower-sound G Safe Goal (D .Attack) (D .attack-weakens) (D .attack-transfers) rank rank′ p fits others (rw here (omega (arith, witness .2))) less safe
-            (rw here (lowest .1 .0)) (ranks .sound);
-        crowded = lower-crowded (positions G) rank rank′ k (number-below G p fits) others less (number G (witness .0)) (number-below G (witness .0) (witness .1)) (here ∙ witness .2) (ranks .crowded);
-      },
-      total-falls (positions G) rank rank′ k (number-below G p fits) others less (positions G) (number-below G p fits),
-    )
-      where
-        k : ℕ
-        k = number G p
-
-        v : ℕ
-        v = lowest .0
-
-        rank′ : ℕ → ℕ
-        rank′ = put rank k v
-
-        here : rank′ k ≡ v
-        here = put-here rank k v
-
-        others : (i : ℕ) → (i ≡ k → ⊥) → rank′ i ≡ rank i
-        others = put-other rank k v
-
-        witness : (x : Position) × IsPosition G x × (v ≡ suc (rank (number G x)))
-        witness = above-outcome v (lowest .1)
-
-        lower : v ≤ rank k - 1
-        lower = go (le? v (rank k - 1))
-          where
-            go : Dec (v ≤ rank k - 1) → v ≤ rank k - 1
-            go (yes h) = h
-            go (no h) = absurd (lowest .1 .1 (rank k - 1) (omega arith) reaches-lower)
-
-        less : rank′ k < rank k
-        less = omega (arith, here, lower, positive)
-
-  -- at rest everywhere, or somewhere loose
-  Rest : (ℕ → ℕ) → Position → Type 0
-  Rest rank p = Safe (p .state) → 0 < rank (number G p) → Held rank p
-
-  rest? : (rank : ℕ → ℕ) (n : ℕ) → n < positions G → Dec (Rest rank (positionOf G n))
-  unfolding Rest Held
-  rest? rank n l =
-      let p = positionOf G n in
-      implies? (safe? (p .state) (position-fits G n l .0)) λ _.
-      implies? (lt? 0 (rank (number G p))) λ _.
-      D .defend? p (λ x. rank (number G p) ≤ suc (rank (number G x))) (λ x. le? (rank (number G p)) (suc (rank (number G x))))
-
-  -- what rests at the position of each number rests everywhere
-  rests : (rank : ℕ → ℕ) → ((n : ℕ) → n < positions G → Rest rank (positionOf G n)) → (p : Position) → IsPosition G p → Rest rank p
-  unfolding Rest Held
-  rests rank all p fits safe positive =
-      subst (λ (k : ℕ). D .Defend p (λ x. k ≤ suc (rank (number G x)))) e
-      (D .defend-transfers (λ n _. rank (number G x) ≤ suc (rank n)) x p s (all (number G p) (number-below G p fits) (subst Safe (sym (s .0)) safe) (omega (arith, e, positive))))
+  first-starts : (n : ℕ) → n < positions G → Starts Goal (positionOf G n .state) (rankOf firstRanks n)
+  first-starts n l = subst (Starts Goal q) (sym (value-at startAt (positions G) n l)) (go (within? (G .structure .states) Goal goal? q))
     where
-      x : Position
-      x = positionOf G (number G p)
+      q : ℕ
+      q = positionOf G n .state
 
-      s : Same G x p
-      s = same-sym G p x (position-same G p fits)
+      go : (d : Dec ((q < G .structure .states) × Goal q)) → Starts Goal q (startRank d)
+      go (yes (_, g)) = inl (g, refl)
+      go (no fails) = inr ((λ g. fails (position-fits G n l .0, g)), refl)
 
-      e : rank (number G x) ≡ rank (number G p)
-      e = ap rank (same-number G x p s)
+  pub starts-at : (p : Position) → IsPosition G p → Starts Goal (p .state) (rankOf firstRanks (number G p))
+  starts-at p fits = subst (λ (q : ℕ). Starts Goal q (rankOf firstRanks (number G p))) (sym (position-same G p fits .0)) (first-starts (number G p) (number-below G p fits))
 
-  -- the ranks are right, or one of them can be lowered
-  step : (rank : ℕ → ℕ) → Ranks rank
-      → Ranked G Safe Goal (λ x. rank (number G x)) (D .Attack) (D .Defend) ⊎ ((rank′ : ℕ → ℕ) × Ranks rank′ × (total rank′ (positions G) < total rank (positions G)))
-  unfolding Rest Held
-  step rank ranks = go (all-or-some (λ n. Rest rank (positionOf G n)) (positions G) (rest? rank))
-    where
-      go : ((n : ℕ) → n < positions G → Rest rank (positionOf G n)) ⊎ ((n : ℕ) × (n < positions G) × (Rest rank (positionOf G n) → ⊥))
-          → Ranked G Safe Goal (λ x. rank (number G x)) (D .Attack) (D .Defend) ⊎ ((rank′ : ℕ → ℕ) × Ranks rank′ × (total rank′ (positions G) < total rank (positions G)))
-      go (inl all) = inl (at-rest G Safe Goal (D .Attack) (D .Defend) (D .defend-weakens) rank few (ranks .crowded) (ranks .sound) (rests rank all))
-      go (inr (n, l, loose)) =
-          let p = positionOf G n in
-          let fits = position-fits G n l in
-          inr (improved rank ranks p fits
-          (not-not (safe? (p .state) (fits .0)) (λ fails. loose (λ safe. absurd (fails safe))))
-          (not-not (lt? 0 (rank (number G p))) (λ fails. loose (λ _ positive. absurd (fails positive))))
-          (λ held. loose (λ _ _. held)))
+module _ (G : Arena) (D : Sides G) (Safe : ℕ → Type 0) (safe? : (q : ℕ) → q < G .structure .states → Dec (Safe q)) where
+  -- a rank that is one more than the value
+  abbrev better : List ℕ → Position → List ℕ
+  better l p = set l (number G p) (suc (D .value (rankOf l) p))
 
-  lowering : (fuel : ℕ) (rank : ℕ → ℕ) → total rank (positions G) ≤ fuel → Ranks rank → (rank′ : ℕ → ℕ) × Ranked G Safe Goal (λ x. rank′ (number G x)) (D .Attack) (D .Defend)
-  lowering zero rank enough ranks = go (step rank ranks)
-    where
-      go : Ranked G Safe Goal (λ x. rank (number G x)) (D .Attack) (D .Defend) ⊎ ((rank′ : ℕ → ℕ) × Ranks rank′ × (total rank′ (positions G) < total rank (positions G)))
-          → (rank′ : ℕ → ℕ) × Ranked G Safe Goal (λ x. rank′ (number G x)) (D .Attack) (D .Defend)
-      go (inl right) = (rank, right)
-      go (inr (_, _, less)) = absurd (omega arith)
-  lowering (suc fuel) rank enough ranks = go (step rank ranks) (lowering fuel)
-    where
-      go : Ranked G Safe Goal (λ x. rank (number G x)) (D .Attack) (D .Defend) ⊎ ((rank′ : ℕ → ℕ) × Ranks rank′ × (total rank′ (positions G) < total rank (positions G)))
-          → ((rank : ℕ → ℕ) → total rank (positions G) ≤ fuel → Ranks rank → (rank′ : ℕ → ℕ) × Ranked G Safe Goal (λ x. rank′ (number G x)) (D .Attack) (D .Defend))
-          → (rank′ : ℕ → ℕ) × Ranked G Safe Goal (λ x. rank′ (number G x)) (D .Attack) (D .Defend)
-      go (inl right) again = (rank, right)
-      go (inr (rank′, ranks′, less)) again = again rank′ (omega arith) ranks′
+  -- lowered to it, where it is lower; the value is bound, so that it is computed once
+  abbrev lowerAt : List ℕ → Position → List ℕ
+  lowerAt l p =
+      let v = D .value (rankOf l) p in
+      stored (both? (within? (G .structure .states) Safe safe? (p .state)) (λ _. lt? (suc v) (rankOf l (number G p)))) l (number G p) (suc v)
 
-  -- at first: 0 at the goal, never elsewhere
-  firstAt : (n : ℕ) → Dec (n < positions G) → ℕ
-  firstAt n (yes l) = startRank (goal? (positionOf G n .state) (position-fits G n l .0))
-  firstAt n (no _) = never
+  -- at the numbers below n, one after another
+  abbrev sweep : ℕ → List ℕ → List ℕ
+  sweep zero l = l
+  sweep (suc n) l = lowerAt (sweep n l) (positionOf G n)
 
-  firstRank : ℕ → ℕ
-  firstRank n = firstAt n (lt? n (positions G))
+  abbrev sumOf : List ℕ → ℕ
+  sumOf l = total (rankOf l) (positions G)
 
-  first-cases : (p : Position) → IsPosition G p → (Goal (p .state) × (firstRank (number G p) ≡ 0)) ⊎ ((Goal (p .state) → ⊥) × (firstRank (number G p) ≡ never))
-  unfolding firstRank firstAt
-  first-cases p fits = go (lt? (number G p) (positions G))
-    where
-      same : positionOf G (number G p) .state ≡ p .state
-      same = sym (position-same G p fits .0)
+  -- the fuel is a large number, so this is shut and computes only where it is asked to
+  unfoldable pub lowering : ℕ → List ℕ → List ℕ
+  lowering zero l = l
+  lowering (suc fuel) l =
+      let l′ = sweep (positions G) l in
+      elim (lt? (sumOf l′) (sumOf l)) [ yes _ ↦ lowering fuel l′ | no _ ↦ l ]
 
-      go : (d : Dec (number G p < positions G)) → (Goal (p .state) × (firstAt (number G p) d ≡ 0)) ⊎ ((Goal (p .state) → ⊥) × (firstAt (number G p) d ≡ never))
-      go (yes l) = at (goal? (positionOf G (number G p) .state) (position-fits G (number G p) l .0))
+  abbrev pub lowered : List ℕ → List ℕ
+  lowered l = lowering (sumOf l) l
+
+  module _ (few : positions G < never) (Goal : ℕ → Type 0) where
+    -- ranks on the way
+    record Ranks (l : List ℕ) : Type 0 where
+      sized : length l ≡ positions G
+      kept : Kept G Safe Goal (D .Attack) (rankOf l)
+
+    RightRanks : List ℕ → Type 0
+    RightRanks l = Ranked G Safe Goal (λ x. rankOf l (number G x)) (D .Attack) (D .Defend)
+
+    -- no rank to lower
+    Rest : List ℕ → Position → Type 0
+    Rest l p = Safe (p .state) → rankOf l (number G p) ≤ suc (D .value (rankOf l) p)
+
+    -- the sum falls, or nothing changed and Q holds
+    FallsOr : Type 0 → List ℕ → List ℕ → Type 0
+    FallsOr Q l l′ = (sumOf l′ < sumOf l) ⊎ ((l′ ≡ l) × Q)
+
+    module _ (l : List ℕ) (ranks : Ranks l) (p : Position) (fits : IsPosition G p) where
+      improved : Safe (p .state) → suc (D .value (rankOf l) p) < rankOf l (number G p) → Ranks (better l p) × (sumOf (better l p) < sumOf l)
+      improved safe less = (
+        record {
+          sized = length-set l k (suc v) ∙ ranks .sized;
+          kept = record {
+            sound = lower-sound G Safe Goal (D .Attack) (D .attack-weakens) (D .attack-transfers) (rankOf l) (rankOf (better l p)) p fits others (omega (arith, here)) falls safe
+                (D .attack-weakens p fits _ _ (λ x _ h. omega (arith, h, here)) attack) (ranks .kept .sound);
+            crowded = lower-crowded (positions G) (rankOf l) (rankOf (better l p)) k inside others falls (number G (at .0)) (number-below G (at .0) (at .1)) (omega (arith, here, at .2, at .3)) (ranks .kept .crowded);
+          };
+        },
+        total-falls (positions G) (rankOf l) (rankOf (better l p)) k inside others falls (positions G) inside,
+      )
         where
-          at : (g : Dec (Goal (positionOf G (number G p) .state))) → (Goal (p .state) × (startRank g ≡ 0)) ⊎ ((Goal (p .state) → ⊥) × (startRank g ≡ never))
-          at (yes h) = inl (subst Goal same h, refl)
-          at (no fails) = inr ((λ h. fails (subst Goal (sym same) h)), refl)
-      go (no fails) = absurd (fails (number-below G p fits))
+          k : ℕ
+          k = number G p
 
-  first-small : (n : ℕ) → firstRank n < never → firstRank n ≡ 0
-  unfolding firstRank firstAt
-  first-small n finite = go (lt? n (positions G)) finite
-    where
-      at : {q : ℕ} (g : Dec (Goal q)) → startRank g < never → startRank g ≡ 0
-      at (yes _) h = refl
-      at (no _) h = absurd (omega arith)
+          v : ℕ
+          v = D .value (rankOf l) p
 
-      go : (d : Dec (n < positions G)) → firstAt n d < never → firstAt n d ≡ 0
-      go (yes l) h = at (goal? (positionOf G n .state) (position-fits G n l .0)) h
-      go (no _) h = absurd (omega arith)
+          inside : k < positions G
+          inside = number-below G p fits
 
-  first-ranks : Ranks firstRank
-  first-ranks = record {
-    sound = first-sound G Safe Goal (D .Attack) (λ x. firstRank (number G x))
-        (λ p fits g. pick-goal p g (first-cases p fits)) (λ p fits ng. pick-other p ng (first-cases p fits)) (λ p fits. goal? (p .state) (fits .0));
-    crowded = λ i l finite. omega (arith, first-small i finite);
-  }
-    where
-      pick-goal : (p : Position) → Goal (p .state) → (Goal (p .state) × (firstRank (number G p) ≡ 0)) ⊎ ((Goal (p .state) → ⊥) × (firstRank (number G p) ≡ never)) → firstRank (number G p) ≡ 0
-      pick-goal p g (inl (_, e)) = e
-      pick-goal p g (inr (ng, _)) = absurd (ng g)
+          here : rankOf (better l p) k ≡ suc v
+          here = getD-set-same l k (suc v) 0 (omega (arith, ranks .sized, inside))
 
-      pick-other : (p : Position) → (Goal (p .state) → ⊥) → (Goal (p .state) × (firstRank (number G p) ≡ 0)) ⊎ ((Goal (p .state) → ⊥) × (firstRank (number G p) ≡ never)) → firstRank (number G p) ≡ never
-      pick-other p ng (inl (g, _)) = absurd (ng g)
-      pick-other p ng (inr (_, e)) = e
+          others : (i : ℕ) → (i ≡ k → ⊥) → rankOf (better l p) i ≡ rankOf l i
+          others i ne = getD-set-other l k i (suc v) 0 ne
 
-  pub solved : (rank : ℕ → ℕ) × Ranked G Safe Goal (λ x. rank (number G x)) (D .Attack) (D .Defend)
-  solved = lowering (total firstRank (positions G)) firstRank (omega arith) first-ranks
+          falls : rankOf (better l p) k < rankOf l k
+          falls = omega (arith, here, less)
+
+          attack : D .Attack p (λ x. rankOf l (number G x) ≤ v)
+          attack = D .attained (rankOf l) p (omega (arith, ranks .kept .sound .bounded p fits, less))
+
+          -- an outcome whose rank is the value
+          at : (x : Position) × IsPosition G x × (rankOf l (number G x) ≤ v) × (v ≤ rankOf l (number G x))
+          at = D .meets p fits _ _ attack (D .defended (rankOf l) p fits)
+
+      lower-step : Ranks (lowerAt l p) × FallsOr (Rest l p) l (lowerAt l p)
+      unfolding Rest FallsOr
+      lower-step = go (both? (within? (G .structure .states) Safe safe? (p .state)) (λ _. lt? (suc v) (rankOf l k)))
+        where
+          k : ℕ
+          k = number G p
+
+          v : ℕ
+          v = D .value (rankOf l) p
+
+          go : (d : Dec (((p .state < G .structure .states) × Safe (p .state)) × (suc v < rankOf l k))) → Ranks (stored d l k (suc v)) × FallsOr (Rest l p) l (stored d l k (suc v))
+          go (yes ((_, safe), less)) = let (ranks′, falls) = improved safe less in (ranks′, inl falls)
+          go (no fails) = (ranks, inr (refl, λ safe. rests safe (le? (rankOf l k) (suc v))))
+            where
+              rests : Safe (p .state) → Dec (rankOf l k ≤ suc v) → rankOf l k ≤ suc v
+              rests safe (yes h) = h
+              rests safe (no h) = absurd (fails ((fits .0, safe), omega arith))
+
+    sweep-step : (n : ℕ) → n ≤ positions G → (l : List ℕ) → Ranks l → Ranks (sweep n l) × FallsOr ((i : ℕ) → i < n → Rest l (positionOf G i)) l (sweep n l)
+    unfolding FallsOr
+    sweep-step zero small l ranks = (ranks, inr (refl, λ i h. absurd (omega arith)))
+    sweep-step (suc n) small l ranks = go (sweep n l) (sweep-step n (omega arith) l ranks)
+      where
+        p : Position
+        p = positionOf G n
+
+        both : (l′ l″ : List ℕ) → FallsOr ((i : ℕ) → i < n → Rest l (positionOf G i)) l l′ → FallsOr (Rest l′ p) l′ l″ → FallsOr ((i : ℕ) → i < suc n → Rest l (positionOf G i)) l l″
+        both l′ l″ (inl less) (inl less′) = inl (omega arith)
+        both l′ l″ (inl less) (inr (same, _)) = inl (subst (λ (x : List ℕ). sumOf x < sumOf l) (sym same) less)
+        both l′ l″ (inr (same, _)) (inl less) = inl (subst (λ (x : List ℕ). sumOf l″ < sumOf x) same less)
+        both l′ l″ (inr (same, rests)) (inr (same′, rest)) = inr (same′ ∙ same, below-suc {P = λ i. Rest l (positionOf G i)} n rests (subst (λ (x : List ℕ). Rest x p) same rest))
+
+        go : (l′ : List ℕ) → Ranks l′ × FallsOr ((i : ℕ) → i < n → Rest l (positionOf G i)) l l′ → Ranks (lowerAt l′ p) × FallsOr ((i : ℕ) → i < suc n → Rest l (positionOf G i)) l (lowerAt l′ p)
+        go l′ (ranks′, before) =
+            let (ranks″, here) = lower-step l′ ranks′ p (position-fits G n small) in
+            (ranks″, both l′ (lowerAt l′ p) before here)
+
+    -- at rest everywhere
+    rested : (l : List ℕ) → Ranks l → ((n : ℕ) → n < positions G → Rest l (positionOf G n)) → RightRanks l
+    unfolding Rest RightRanks
+    rested l ranks all = at-rest G Safe Goal (D .Attack) (D .Defend) (D .defend-weakens) (rankOf l) few (ranks .kept .crowded) (ranks .kept .sound) λ p fits safe _. held p fits safe
+      where
+        held : (p : Position) → IsPosition G p → Safe (p .state) → D .Defend p (λ y. rankOf l (number G p) ≤ suc (rankOf l (number G y)))
+        held p fits safe =
+            D .defend-transfers (λ n _. rankOf l (number G p) ≤ suc (rankOf l n)) x p s
+            (D .defend-weakens x inside _ _ (λ y _ h. omega (arith, h, low)) (D .defended (rankOf l) x inside))
+          where
+            x : Position
+            x = positionOf G (number G p)
+
+            inside : IsPosition G x
+            inside = position-fits G (number G p) (number-below G p fits)
+
+            s : Same G x p
+            s = same-sym G p x (position-same G p fits)
+
+            low : rankOf l (number G p) ≤ suc (D .value (rankOf l) x)
+            low = subst (λ (n : ℕ). rankOf l n ≤ suc (D .value (rankOf l) x)) (same-number G x p s) (all (number G p) (number-below G p fits) (subst Safe (sym (s .0)) safe))
+
+    -- a sweep that does not lower the sum leaves right ranks
+    swept : (l : List ℕ) → Ranks l → (sumOf (sweep (positions G) l) < sumOf l → ⊥) → RightRanks l
+    unfolding FallsOr
+    swept l ranks stays = go (sweep-step (positions G) (omega arith) l ranks .1)
+      where
+        go : FallsOr ((n : ℕ) → n < positions G → Rest l (positionOf G n)) l (sweep (positions G) l) → RightRanks l
+        go (inl less) = absurd (stays less)
+        go (inr (_, all)) = rested l ranks all
+
+    lowering-right : (fuel : ℕ) (l : List ℕ) → sumOf l ≤ fuel → Ranks l → RightRanks (lowering fuel l)
+    unfolding lowering
+    lowering-right zero l enough ranks = swept l ranks (λ less. omega arith)
+    lowering-right (suc fuel) l enough ranks = go (lt? (sumOf l′) (sumOf l)) (lowering-right fuel l′)
+      where
+        l′ : List ℕ
+        l′ = sweep (positions G) l
+
+        go : (d : Dec (sumOf l′ < sumOf l)) → (sumOf l′ ≤ fuel → Ranks l′ → RightRanks (lowering fuel l′)) → RightRanks (elim d [ yes _ ↦ lowering fuel l′ | no _ ↦ l ])
+        go (yes less) again = again (omega arith) (sweep-step (positions G) (omega arith) l ranks .0)
+        go (no stays) again = swept l ranks stays
+
+    module _ (goal? : (q : ℕ) → q < G .structure .states → Dec (Goal q)) where
+      first-ranks : Ranks (firstRanks G Goal goal?)
+      first-ranks = record {
+        sized = values-length _ 0 (positions G);
+        kept = record {
+          sound = first-sound G Safe Goal (D .Attack) (λ x. rankOf (firstRanks G Goal goal?) (number G x))
+              (λ p fits g. at-goal g (starts-at G Goal goal? p fits)) (λ p fits ng. elsewhere ng (starts-at G Goal goal? p fits)) (λ p fits. goal? (p .state) (fits .0));
+          crowded = λ i l finite. omega (arith, zero-first finite (first-starts G Goal goal? i l));
+        };
+      }
+        where
+          at-goal : {q v : ℕ} → Goal q → Starts Goal q v → v ≡ 0
+          at-goal g (inl (_, e)) = e
+          at-goal g (inr (ng, _)) = absurd (ng g)
+
+          elsewhere : {q v : ℕ} → (Goal q → ⊥) → Starts Goal q v → v ≡ never
+          elsewhere ng (inl (g, _)) = absurd (ng g)
+          elsewhere ng (inr (_, e)) = e
+
+          zero-first : {q v : ℕ} → v < never → Starts Goal q v → v ≡ 0
+          zero-first finite (inl (_, e)) = e
+          zero-first finite (inr (_, e)) = absurd (omega arith)
+
+      pub solved : Ranked G Safe Goal (λ x. rankOf (lowered (firstRanks G Goal goal?)) (number G x)) (D .Attack) (D .Defend)
+      unfolding RightRanks
+      solved = lowering-right (sumOf (firstRanks G Goal goal?)) (firstRanks G Goal goal?) (omega arith) first-ranks
