@@ -26,6 +26,10 @@ use Rattle.game.proofs.Solving.Solver.{rankOf, firstRanks, lowered, Sta
 abbrev pub listed : List ℕ → List ℕ → Table
 listed ranks moves = record { rank = rankOf ranks; move = λ n. getD moves n 0 }
 
+-- ranks with no moves yet
+abbrev bare : (ℕ → ℕ) → Table
+bare rank = record { rank = rank; move = λ n. noMove }
+
 -- a rank of next
 abbrev nextRank : {Q : Type 0} → Dec Q → ℕ
 nextRank (yes _) = 1
@@ -91,23 +95,23 @@ module _ (G : Arena) (proper : Proper (G .structure)) where
         go (no high) = inr (refl, answer-transfers G (λ _ q. left q → ⊥) x p s (answer (omega arith)))
 
   -- the moves that go with ranks
-  module _ (t : Objective) (rows : RowsDecided G t) (ranks : List ℕ) where
+  module _ (t : Objective) (rows : RowsDecided G t) (rank : ℕ → ℕ) where
     abbrev moveIn : (p : Position) → Dec (IsPosition G p) → ℕ
     moveIn p (yes fits) =
-        let X = listed ranks [] in
+        let X = bare rank in
         picked (claims? G X t p) (met? G proper X t p) (first-below (Good G X t p) (good? G proper X p fits t rows) (4 ^ G .structure .agents))
     moveIn p (no _) = noMove
 
     unfoldable pub foundMoves : List ℕ
     foundMoves = values (λ n. moveIn (positionOf G n) (position? G (positionOf G n))) (positions G)
 
-    module _ (facts : RankFacts G t (λ x. rankOf ranks (number G x))) where
-      move-is : (p : Position) → IsPosition G p → (d : Dec (IsPosition G p)) → MoveIs G (listed ranks []) t (Claims G (listed ranks []) t) p (moveIn p d)
+    module _ (facts : RankFacts G t (λ x. rank (number G x))) where
+      move-is : (p : Position) → IsPosition G p → (d : Dec (IsPosition G p)) → MoveIs G (bare rank) t (Claims G (bare rank) t) p (moveIn p d)
       move-is p fits (no fails) = absurd (fails fits)
       move-is p fits (yes fits′) = go (claims? G X t p) (met? G proper X t p) (first-below (Good G X t p) (good? G proper X p fits′ t rows) (4 ^ G .structure .agents))
         where
           X : Table
-          X = listed ranks []
+          X = bare rank
 
           go : (claimed : Dec (Claims G X t p)) (met : Dec (Met G X t p)) (found : ((k : ℕ) × Smallest (Good G X t p) k) ⊎ ((k : ℕ) → k < 4 ^ G .structure .agents → Good G X t p k → ⊥))
               → MoveIs G X t (Claims G X t) p (picked claimed met found)
@@ -118,12 +122,12 @@ module _ (G : Arena) (proper : Proper (G .structure)) where
               let (m, good) = good-exists G X t facts p fits claim unmet in
               absurd (none m (good .0 .0 .0) good)
 
-      pub moves-found : Facts G (listed ranks foundMoves) t
+      pub moves-found : Facts G (record { rank = rank; move = λ n. getD foundMoves n 0 }) t
       unfolding foundMoves
       moves-found = record { ranks = facts; moves = moves; decided = left-decided G t rows }
         where
           X : Table
-          X = listed ranks foundMoves
+          X = record { rank = rank; move = λ n. getD foundMoves n 0 }
 
           moves : (p : Position) → IsPosition G p → MoveIs G X t (Claims G X t) p (moveAt G X p)
           moves p fits = move-same G X t x p s (subst (MoveIs G X t (Claims G X t) x) shown (same-ranks (move-is x inside (position? G x))))
@@ -142,7 +146,7 @@ module _ (G : Arena) (proper : Proper (G .structure)) where
                   sym (ap (λ (n : ℕ). getD foundMoves n 0) (same-number G x p s) ∙ value-at (λ n. moveIn (positionOf G n) (position? G (positionOf G n))) (positions G) (number G p) (number-below G p fits))
 
               -- only the ranks matter
-              same-ranks : {m : ℕ} → MoveIs G (listed ranks []) t (Claims G (listed ranks []) t) x m → MoveIs G X t (Claims G X t) x m
+              same-ranks : {m : ℕ} → MoveIs G (bare rank) t (Claims G (bare rank) t) x m → MoveIs G X t (Claims G X t) x m
               same-ranks at = record { lost = at .lost; met = at .met; best = at .best }
 
   unfoldable pub solvedRanks : (t : Objective) → RowsDecided G t → List ℕ
@@ -151,7 +155,7 @@ module _ (G : Arena) (proper : Proper (G .structure)) where
   solvedRanks (next left) rows = nextRanks left rows
 
   abbrev pub solvedTable : (t : Objective) → RowsDecided G t → Table
-  solvedTable t rows = listed (solvedRanks t rows) (foundMoves t rows (solvedRanks t rows))
+  solvedTable t rows = listed (solvedRanks t rows) (foundMoves t rows (rankOf (solvedRanks t rows)))
 
   module _ (few : positions G < never) where
     ranks-solved : (t : Objective) (rows : RowsDecided G t) → RankFacts G t (λ x. rankOf (solvedRanks t rows) (number G x))
@@ -162,4 +166,4 @@ module _ (G : Arena) (proper : Proper (G .structure)) where
 
     -- the solver's table has the facts
     pub solved-facts : (t : Objective) (rows : RowsDecided G t) → Facts G (solvedTable t rows) t
-    solved-facts t rows = moves-found t rows (solvedRanks t rows) (ranks-solved t rows)
+    solved-facts t rows = moves-found t rows (rankOf (solvedRanks t rows)) (ranks-solved t rows)
