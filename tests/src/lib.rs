@@ -1,11 +1,13 @@
-//! A second implementation, made from document 01 alone, to compare the
-//! library with, and the means to make many jobs and to damage them.
+//! A second implementation, made from documents 01 and 003 alone, to compare
+//! the library with, and the means to make many jobs and to damage them.
 
 pub mod agree;
 pub mod block;
+pub mod checker;
 pub mod damage;
 pub mod ffi;
 pub mod full;
+pub mod games;
 pub mod jobs;
 pub mod layout;
 pub mod random;

@@ -1,0 +1,170 @@
+//! Random jobs with something to play for: states that lead on to one another,
+//! costs that a bound pays for several times, and mostly strategic rows.
+
+use crate::layout::*;
+use crate::random::Rng;
+
+/// What the jobs of a kind have in common.
+#[derive(Clone, Copy)]
+pub struct Shape {
+    pub sizes: Sizes,
+    /// The most actions, the largest cost and the largest limited bound.
+    pub actions: usize,
+    pub cost: u8,
+    pub bound: u8,
+    /// Every agent has that many actions, and every bound is that bound.
+    pub fixed: bool,
+}
+
+/// So small that strategies can be tried outright.
+pub fn tiny(rng: &mut Rng) -> Vec<u8> {
+    let sizes = Sizes {
+        agents: rng.within(1..=2),
+        resources: rng.within(1..=2),
+        states: rng.within(1..=4),
+        propositions: 2,
+        rows: rng.within(5..=7),
+    };
+    let bound = rng.within(0..=if sizes.resources == 1 { 3 } else { 1 }) as u8;
+    let shape = Shape {
+        sizes,
+        actions: 2,
+        cost: 2,
+        bound,
+        fixed: false,
+    };
+    block(rng, shape)
+}
+
+pub fn small(rng: &mut Rng) -> Vec<u8> {
+    let sizes = Sizes {
+        agents: rng.within(1..=MAX_AGENTS),
+        resources: rng.within(1..=MAX_RESOURCES),
+        states: rng.within(1..=6),
+        propositions: rng.within(2..=3),
+        rows: rng.within(5..=9),
+    };
+    let shape = Shape {
+        sizes,
+        actions: rng.within(2..=MAX_ACTIONS),
+        cost: rng.pick(&[1, 2, 3, 5, MAX_COST]),
+        bound: rng.pick(&[1, 3, 6, MAX_BOUND]),
+        fixed: false,
+    };
+    block(rng, shape)
+}
+
+/// As many positions as there can be: 24 states and bounds 15 and 15, three
+/// agents with four actions everywhere.
+pub fn full(rng: &mut Rng) -> Vec<u8> {
+    let rows = rng.within(7..=9);
+    let shape = Shape {
+        sizes: Sizes {
+            rows,
+            ..Sizes::FULL
+        },
+        actions: MAX_ACTIONS,
+        cost: rng.pick(&[1, 2, 4, MAX_COST]),
+        bound: MAX_BOUND,
+        fixed: true,
+    };
+    block(rng, shape)
+}
+
+/// Rows 0 to 3 are a rare proposition, a common one, not the rare one, and
+/// true.
+fn block(rng: &mut Rng, shape: Shape) -> Vec<u8> {
+    let mut block = vec![0; BLOCK_BYTES];
+    shape.sizes.store(&mut block);
+    let reach = rng.within(0..=3);
+    for state in 0..shape.sizes.states {
+        fill_actions(rng, &mut block, shape, state);
+        fill_next(rng, &mut block, state, reach);
+        block[mask(state)] = propositions(rng, shape.sizes.propositions);
+    }
+    block[row(1, LEFT)] = 1;
+    block[row(2, KIND)] = NOT;
+    block[row(3, KIND)] = OR;
+    block[row(3, RIGHT)] = 2;
+    for i in 4..shape.sizes.rows {
+        fill_row(rng, &mut block, shape, i);
+    }
+    block
+}
+
+/// Proposition 0 is rare, the others common.
+fn propositions(rng: &mut Rng, count: usize) -> u8 {
+    let rare = u8::from(rng.one_in(5));
+    (1..count).fold(rare, |mask, k| mask | u8::from(!rng.one_in(4)) << k)
+}
+
+fn fill_actions(rng: &mut Rng, block: &mut [u8], shape: Shape, state: usize) {
+    for agent in 0..shape.sizes.agents {
+        let actions = match shape.fixed {
+            true => shape.actions,
+            false => rng.within(1..=shape.actions),
+        };
+        block[count(state, agent)] = actions as u8;
+        for action in 1..actions {
+            for resource in 0..shape.sizes.resources {
+                let free = rng.one_in(3);
+                let spent = if free {
+                    0
+                } else {
+                    rng.within(0..=shape.cost.into())
+                };
+                block[cost(state, agent, action, resource)] = spent as u8;
+            }
+        }
+    }
+}
+
+/// Mostly a state or its successor, so that plays are long; with reach 0 any.
+fn fill_next(rng: &mut Rng, block: &mut [u8], state: usize, reach: usize) {
+    let states = Sizes::of(block).states;
+    let joints: Vec<usize> = joint_actions(block, state).collect();
+    for joint in joints {
+        let target = match reach {
+            0 => rng.below(states),
+            _ if rng.one_in(16) => rng.below(states),
+            _ => (state + rng.within(0..=reach)) % states,
+        };
+        block[next(state, joint)] = target as u8;
+    }
+}
+
+fn fill_row(rng: &mut Rng, block: &mut [u8], shape: Shape, i: usize) {
+    let kind = rng.pick(&[
+        PROP, NOT, OR, NEXT, NEXT, ALWAYS, ALWAYS, ALWAYS, UNTIL, UNTIL, UNTIL, UNTIL,
+    ]);
+    block[row(i, KIND)] = kind;
+    block[row(i, LEFT)] = match kind {
+        PROP => rng.below(shape.sizes.propositions),
+        UNTIL if rng.one_in(2) => rng.pick(&[1, 3]),
+        ALWAYS if rng.one_in(2) => rng.pick(&[1, 2]),
+        _ => operand(rng, i),
+    } as u8;
+    if uses_right(kind) {
+        block[row(i, RIGHT)] = operand(rng, i) as u8;
+    }
+    if is_strategic(kind) {
+        let coalitions = (1 << shape.sizes.agents) - 1;
+        block[row(i, COALITION)] = rng.within(1..=coalitions) as u8;
+        for resource in 0..shape.sizes.resources {
+            block[row(i, BOUND + resource)] = match shape.fixed {
+                true => shape.bound,
+                false if rng.one_in(5) => UNLIMITED,
+                false => rng.within(0..=shape.bound.into()) as u8,
+            };
+        }
+    }
+}
+
+/// A lower row, most often the rare proposition, and true not at all.
+fn operand(rng: &mut Rng, i: usize) -> usize {
+    match rng.within(0..=i) {
+        3 => 0,
+        row if row == i => 0,
+        row => row,
+    }
+}
