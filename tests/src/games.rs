@@ -71,6 +71,64 @@ pub fn full(rng: &mut Rng) -> Vec<u8> {
     block(rng, shape)
 }
 
+/// A ring of full size that the coalition can go round once for each unit of
+/// its stock. Every step is forced but one: in the gate, which is the last state
+/// on the way, it goes on to the end, where proposition 1 holds and proposition
+/// 0 does not, unless an agent of the coalition pays. Rows 2, 3 and 4 are always,
+/// until and next. A play lasts as long as any can, and `rising` says whether
+/// its states come in rising order.
+pub fn ring(coalition: u8, rising: bool) -> Vec<u8> {
+    let mut block = vec![0; BLOCK_BYTES];
+    let sizes = Sizes {
+        rows: 5,
+        ..Sizes::FULL
+    };
+    sizes.store(&mut block);
+    let state = |place: usize| {
+        if rising {
+            place
+        } else {
+            MAX_STATES - 1 - place
+        }
+    };
+    let (gate, end) = (MAX_STATES - 2, MAX_STATES - 1);
+    for place in 0..MAX_STATES {
+        block[mask(state(place))] = if place == end { 2 } else { 1 };
+        fill_paying_actions(&mut block, state(place));
+        for joint in 0..JOINTS {
+            let pays = |agent| coalition >> agent & 1 == 1 && actions(joint)[agent] != 0;
+            let target = match (0..MAX_AGENTS).any(pays) {
+                true if place == gate => 0,
+                _ => end.min(place + 1),
+            };
+            block[next(state(place), joint)] = state(target) as u8;
+        }
+    }
+    let rows = [(PROP, 0), (PROP, 1), (ALWAYS, 0), (UNTIL, 0), (NEXT, 0)];
+    for (i, (kind, left)) in rows.into_iter().enumerate() {
+        block[row(i, KIND)] = kind;
+        block[row(i, LEFT)] = left;
+        if is_strategic(kind) {
+            block[row(i, RIGHT)] = u8::from(kind == UNTIL);
+            block[row(i, COALITION)] = coalition;
+            block[row(i, BOUND)..row(i, PADDING)].fill(MAX_BOUND);
+        }
+    }
+    block
+}
+
+/// Actions 1, 2 and 3 take one unit of the first, the second or both resources.
+fn fill_paying_actions(block: &mut [u8], state: usize) {
+    for agent in 0..MAX_AGENTS {
+        block[count(state, agent)] = MAX_ACTIONS as u8;
+        for action in 1..MAX_ACTIONS {
+            for resource in 0..MAX_RESOURCES {
+                block[cost(state, agent, action, resource)] = (action >> resource & 1) as u8;
+            }
+        }
+    }
+}
+
 /// Rows 0 to 3 are a rare proposition, a common one, not the rare one, and
 /// true.
 fn block(rng: &mut Rng, shape: Shape) -> Vec<u8> {

@@ -11,6 +11,7 @@ pub mod games;
 pub mod jobs;
 pub mod layout;
 pub mod random;
+pub mod solver;
 pub mod text;
 pub mod text_damage;
 
@@ -23,4 +24,5 @@ pub mod refusal {
     pub const ROW: u8 = 5;
     pub const UNUSED: u8 = 6;
     pub const FORM: u8 = 7;
+    pub const ROW_CHOICE: u8 = 8;
 }

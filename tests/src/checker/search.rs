@@ -1,10 +1,9 @@
 //! Positions, ranks, moves and replies (document 01, "When a row is true"), by
 //! layers: from the settled positions outwards, counting for each move the
-//! outcomes, and for each position the moves, that are still open.
+//! replies, and for each position the moves, that are still open.
 
 use super::structure::*;
 use super::{NEVER, NO_MOVE};
-use std::collections::BTreeSet;
 
 /// The table of a strategic row.
 pub struct Table {
@@ -24,22 +23,26 @@ enum Row {
 
 /// The positions of a row, and what the coalition can afford in each.
 struct Arena {
+    /// The moves of each state.
+    moves: Vec<Vec<Move>>,
+    /// Stock places of each resource, and of all together.
     sizes: Vec<usize>,
+    stocks: usize,
+    /// The state of each position.
     states: Vec<usize>,
     choices: Vec<Choice>,
     /// The choices of each position, in rising number.
     of: Vec<Vec<usize>>,
-    /// The choices that have the position as an outcome.
+    /// The choices that have the position as an outcome, once for each reply.
     into: Vec<Vec<usize>>,
 }
 
-/// An affordable move at a position.
+/// An affordable move at a position: its place among the state's moves, and the
+/// stock place that it leaves.
 struct Choice {
     position: usize,
-    number: u8,
-    outcomes: BTreeSet<usize>,
-    /// Each reply and where it leads.
-    replies: Vec<(u8, usize)>,
+    place: usize,
+    left_over: usize,
 }
 
 /// The set of each row.
@@ -93,8 +96,7 @@ pub fn table(structure: &Structure, row: usize, sets: &[Set]) -> Option<Table> {
 impl Table {
     /// The position of a state with its whole bound in stock.
     pub fn full_stock(&self, state: usize) -> usize {
-        let stocks: usize = self.arena.sizes.iter().product();
-        state * stocks + stocks - 1
+        state * self.arena.stocks + self.arena.stocks - 1
     }
 
     /// The position of a state and a stock for each resource.
@@ -113,7 +115,7 @@ impl Table {
     /// The numbers of the affordable moves.
     pub fn affordable(&self, position: usize) -> Vec<u8> {
         let choices = self.arena.of[position].iter();
-        choices.map(|&c| self.arena.choices[c].number).collect()
+        choices.map(|&c| self.arena.move_of(c).number).collect()
     }
 
     fn smallest(&self, position: usize) -> u8 {
@@ -124,14 +126,14 @@ impl Table {
         if matches!(self.row, Row::Until { .. }) && rank == 0 {
             return 0;
         }
-        let good = |&outcome: &usize| match self.row {
+        let good = |outcome: usize| match self.row {
             Row::Next { left } => contains(left, self.arena.states[outcome]),
             Row::Always { .. } => self.ranks[outcome] == NEVER,
             Row::Until { .. } => self.ranks[outcome] < rank,
         };
         let mut choices = self.arena.of[position].iter();
-        let choice = choices.find(|&&c| self.arena.choices[c].outcomes.iter().all(good));
-        self.arena.choices[*choice.expect("a winning move")].number
+        let choice = choices.find(|&&c| self.arena.outcomes(c).all(good));
+        self.arena.move_of(*choice.expect("a winning move")).number
     }
 
     /// The reply to an affordable move where the coalition does not win.
@@ -147,10 +149,11 @@ impl Table {
             Row::Until { .. } => !self.wins(outcome),
         };
         let mut choices = self.arena.of[position].iter();
-        let choice = choices.find(|&&c| self.arena.choices[c].number == number);
-        let choice = &self.arena.choices[*choice.expect("an affordable move")];
-        let reply = choice.replies.iter().find(|(_, outcome)| good(*outcome));
-        reply.expect("a reply that spoils the move").0
+        let choice = choices.find(|&&c| self.arena.move_of(c).number == number);
+        let choice = *choice.expect("an affordable move");
+        let place = self.arena.outcomes(choice).position(good);
+        let place = place.expect("a reply that spoils the move");
+        self.arena.move_of(choice).replies[place].number
     }
 
     /// Whether the state alone makes the row false.
@@ -172,42 +175,50 @@ impl Arena {
         let stocks: usize = sizes.iter().product();
         let positions = structure.states * stocks;
         let mut arena = Arena {
+            moves: structure.moves(ability.coalition),
             sizes,
+            stocks,
             states: (0..positions).map(|position| position / stocks).collect(),
             choices: Vec::new(),
             of: vec![Vec::new(); positions],
             into: vec![Vec::new(); positions],
         };
-        let moves = structure.moves(ability.coalition);
         for position in 0..positions {
-            for mv in &moves[position / stocks] {
-                arena.add_choice(ability.bound, position, mv);
-            }
+            arena.add_choices(ability.bound, position);
         }
         arena
     }
 
-    /// Adds the move at the position if the stock can pay it.
-    fn add_choice(&mut self, bound: Amounts, position: usize, mv: &Move) {
-        let Some(left_over) = self.left_over(bound, position, mv.cost) else {
-            return;
-        };
-        let stocks: usize = self.sizes.iter().product();
-        let outcome = |reply: &Reply| (reply.number, reply.target * stocks + left_over);
-        let replies: Vec<(u8, usize)> = mv.replies.iter().map(outcome).collect();
-        let outcomes = replies.iter().map(|&(_, outcome)| outcome);
-        let outcomes: BTreeSet<usize> = outcomes.collect();
-        let choice = self.choices.len();
-        self.of[position].push(choice);
-        for &outcome in &outcomes {
-            self.into[outcome].push(choice);
+    /// Adds the moves at the position that the stock can pay.
+    fn add_choices(&mut self, bound: Amounts, position: usize) {
+        for place in 0..self.moves[self.states[position]].len() {
+            let cost = self.moves[self.states[position]][place].cost;
+            let Some(left_over) = self.left_over(bound, position, cost) else {
+                continue;
+            };
+            let choice = self.choices.len();
+            self.choices.push(Choice {
+                position,
+                place,
+                left_over,
+            });
+            self.of[position].push(choice);
+            for reply in &self.moves[self.states[position]][place].replies {
+                self.into[reply.target * self.stocks + left_over].push(choice);
+            }
         }
-        self.choices.push(Choice {
-            position,
-            number: mv.number,
-            outcomes,
-            replies,
-        });
+    }
+
+    fn move_of(&self, choice: usize) -> &Move {
+        let choice = &self.choices[choice];
+        &self.moves[self.states[choice.position]][choice.place]
+    }
+
+    /// The outcome of each reply.
+    fn outcomes(&self, choice: usize) -> impl Iterator<Item = usize> + '_ {
+        let left_over = self.choices[choice].left_over;
+        let replies = self.move_of(choice).replies.iter();
+        replies.map(move |reply| reply.target * self.stocks + left_over)
     }
 
     /// The stock place after a cost; an unlimited resource pays anything.
@@ -225,18 +236,18 @@ impl Arena {
     }
 
     fn next_ranks(&self, left: Set) -> Vec<u16> {
-        let good = |&outcome: &usize| contains(left, self.states[outcome]);
-        let able = |&choice: &usize| self.choices[choice].outcomes.iter().all(good);
+        let good = |outcome: usize| contains(left, self.states[outcome]);
+        let able = |&choice: &usize| self.outcomes(choice).all(good);
         let positions = self.of.iter();
         let ranks = positions.map(|choices| if choices.iter().any(able) { 1 } else { NEVER });
         ranks.collect()
     }
 
-    /// A move is done when its last outcome is; the first move that is done
+    /// A move is done when its last reply is; the first move that is done
     /// gives its position the next layer, if left holds there.
     fn until_ranks(&self, left: Set, right: Set) -> Vec<u16> {
-        let choices = self.choices.iter();
-        let mut open: Vec<usize> = choices.map(|choice| choice.outcomes.len()).collect();
+        let choices = 0..self.choices.len();
+        let mut open: Vec<usize> = choices.map(|c| self.move_of(c).replies.len()).collect();
         self.layers(right, |choice| {
             open[choice] -= 1;
             let state = self.states[self.choices[choice].position];
@@ -272,14 +283,13 @@ impl Arena {
         while !layer.is_empty() {
             layer.iter().for_each(|&position| ranks[position] = number);
             number += 1;
-            let mut following = BTreeSet::new();
-            for choice in layer.iter().flat_map(|&position| &self.into[position]) {
-                let position = self.choices[*choice].position;
-                if joins(*choice) && ranks[position] == NEVER {
-                    following.insert(position);
-                }
-            }
-            layer = following.into_iter().collect();
+            let into = layer.iter().flat_map(|&position| &self.into[position]);
+            let joining = into.filter(|&&choice| joins(choice));
+            let positions = joining.map(|&choice| self.choices[choice].position);
+            let mut following: Vec<usize> = positions.filter(|&p| ranks[p] == NEVER).collect();
+            following.sort();
+            following.dedup();
+            layer = following;
         }
         ranks
     }
