@@ -72,26 +72,14 @@ pub fn full(rng: &mut Rng) -> Vec<u8> {
 }
 
 /// A ring of full size that the coalition can go round once for each unit of
-/// its stock. Every step is forced but one: in the gate, which is the last state
-/// on the way, it goes on to the end, where proposition 1 holds and proposition
-/// 0 does not, unless an agent of the coalition pays. Rows 2, 3 and 4 are always,
-/// until and next. A play lasts as long as any can, and `rising` says whether
-/// its states come in rising order.
-pub fn ring(coalition: u8, rising: bool) -> Vec<u8> {
-    let mut block = vec![0; BLOCK_BYTES];
-    let sizes = Sizes {
-        rows: 5,
-        ..Sizes::FULL
-    };
-    sizes.store(&mut block);
-    let state = |place: usize| {
-        if rising {
-            place
-        } else {
-            MAX_STATES - 1 - place
-        }
-    };
+/// its stock, the longest play that there can be for always. Every step is
+/// forced but one: the gate, the last state on the way, leads to the end, where
+/// proposition 1 holds and proposition 0 does not, unless an agent of the
+/// coalition pays. `rising` says whether the states come in rising order.
+pub fn ring(kind: u8, coalition: u8, rising: bool) -> Vec<u8> {
+    let mut block = full_frame(kind, coalition);
     let (gate, end) = (MAX_STATES - 2, MAX_STATES - 1);
+    let state = |place: usize| if rising { place } else { end - place };
     for place in 0..MAX_STATES {
         block[mask(state(place))] = if place == end { 2 } else { 1 };
         fill_paying_actions(&mut block, state(place));
@@ -104,16 +92,52 @@ pub fn ring(coalition: u8, rising: bool) -> Vec<u8> {
             block[next(state(place), joint)] = state(target) as u8;
         }
     }
-    let rows = [(PROP, 0), (PROP, 1), (ALWAYS, 0), (UNTIL, 0), (NEXT, 0)];
-    for (i, (kind, left)) in rows.into_iter().enumerate() {
-        block[row(i, KIND)] = kind;
-        block[row(i, LEFT)] = left;
-        if is_strategic(kind) {
-            block[row(i, RIGHT)] = u8::from(kind == UNTIL);
-            block[row(i, COALITION)] = coalition;
-            block[row(i, BOUND)..row(i, PADDING)].fill(MAX_BOUND);
+    block
+}
+
+/// A random job of full size. A move of the coalition leads to the same state
+/// whatever the reply, with a few exceptions; the state is at most `reach` places
+/// on, or, with reach 0, any. Proposition 0 is common, and 1 is rare.
+pub fn maze(rng: &mut Rng, kind: u8, coalition: u8, reach: usize) -> Vec<u8> {
+    let mut block = full_frame(kind, coalition);
+    let shape = Shape {
+        sizes: Sizes::of(&block),
+        actions: MAX_ACTIONS,
+        cost: 2,
+        bound: MAX_BOUND,
+        fixed: true,
+    };
+    for state in 0..MAX_STATES {
+        fill_actions(rng, &mut block, shape, state);
+        fill_next(rng, &mut block, state, reach);
+        for joint in 0..JOINTS {
+            let ours = |agent: &usize| coalition >> agent & 1 == 1;
+            let digits = (0..MAX_AGENTS).filter(ours);
+            let number: usize = digits.map(|a| actions(joint)[a] << (2 * a)).sum();
+            if !rng.one_in(32) {
+                block[next(state, joint)] = block[next(state, number)];
+            }
         }
+        block[mask(state)] = u8::from(!rng.one_in(12)) + 2 * u8::from(rng.one_in(12));
     }
+    block
+}
+
+/// The rows of a job of full size: propositions 0 and 1, and a row of the kind
+/// over them with bounds 15 and 15.
+fn full_frame(kind: u8, coalition: u8) -> Vec<u8> {
+    let mut block = vec![0; BLOCK_BYTES];
+    let rows = 3;
+    let sizes = Sizes {
+        rows,
+        ..Sizes::FULL
+    };
+    sizes.store(&mut block);
+    block[row(1, LEFT)] = 1;
+    block[row(2, KIND)] = kind;
+    block[row(2, RIGHT)] = u8::from(kind == UNTIL);
+    block[row(2, COALITION)] = coalition;
+    block[row(2, BOUND)..row(2, PADDING)].fill(MAX_BOUND);
     block
 }
 

@@ -119,15 +119,11 @@ fn all_positions() {
 #[test]
 fn longest_plays() {
     for (coalition, rising) in [(1, true), (2, false), (6, true), (7, false)] {
-        let job = games::ring(coalition, rising);
-        for (i, longest) in [(2, 31 * 23), (3, 23), (4, 1)] {
-            let (ranks, _) = table(&job, i);
+        for (kind, longest) in [(ALWAYS, 31 * 23), (UNTIL, 23), (NEXT, 1)] {
+            let (ranks, _) = table(&games::ring(kind, coalition, rising), 2);
             let finite = ranks.iter().filter(|&&rank| rank != NEVER);
-            assert_eq!(
-                finite.max(),
-                Some(&longest),
-                "row {i}, coalition {coalition}"
-            );
+            let what = format!("kind {kind}, coalition {coalition}");
+            assert_eq!(finite.max(), Some(&longest), "{what}");
         }
     }
 }
