@@ -2,6 +2,7 @@
 //! the library with, and the means to make many jobs and to damage them.
 
 pub mod agree;
+pub mod answers;
 pub mod block;
 pub mod checker;
 pub mod damage;

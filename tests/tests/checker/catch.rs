@@ -4,7 +4,6 @@
 use super::*;
 use rbatl_tests::checker::splits;
 use rbatl_tests::checker::NEVER;
-use rbatl_tests::layout::*;
 use rbatl_tests::{block, jobs};
 use std::fmt::Write;
 
@@ -78,11 +77,7 @@ fn catch_has_its_replies() {
 /// Catch and a seventh row, `always,2,0,1`.
 #[test]
 fn catch_has_its_seventh_row() {
-    let mut job = jobs::load("catch.job");
-    job[ROWS] = 7;
-    for (field, value) in [(KIND, ALWAYS), (LEFT, 1), (COALITION, 2), (BOUND, 0)] {
-        job[row(6, field)] = value;
-    }
+    let job = jobs::catch_with_always();
     assert_eq!(block::check(&job), 0);
     let solved = Solved::of(&job);
     assert_eq!(solved.sets[6], 1);

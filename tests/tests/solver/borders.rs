@@ -2,6 +2,7 @@
 //! refusal changes no buffer but the room, and number 1 not even that.
 
 use super::*;
+use rbatl_tests::damage::BORDERS;
 use rbatl_tests::jobs;
 use rbatl_tests::layout::*;
 
@@ -12,11 +13,6 @@ const DAMAGES: [(u8, usize, u8); 5] = [
     (4, 677, 3),
     (5, 2253, 6),
     (6, 28, 1),
-];
-
-/// Values at both sides of every border in document 01.
-const BORDERS: [u8; 24] = [
-    0, 1, 2, 3, 4, 5, 6, 7, 8, 9, 14, 15, 16, 17, 23, 24, 25, 31, 32, 33, 127, 128, 254, 255,
 ];
 
 fn catch() -> Vec<u8> {
@@ -191,8 +187,5 @@ fn changed_bytes() {
             seen[number(outcome.answer)] += 1;
         }
     }
-    println!("answers from 0: {seen:?}");
-    for number in [0, 2, 3, 4, 5, 6] {
-        assert!(seen[number] > 0, "answer {number} did not come: {seen:?}");
-    }
+    assert_each_came(&seen, &[0, 2, 3, 4, 5, 6], 10);
 }

@@ -2,7 +2,6 @@
 
 use super::*;
 use rbatl_tests::jobs;
-use rbatl_tests::layout::*;
 
 const NEVER: u16 = 65535;
 
@@ -74,11 +73,7 @@ fn rows_without_a_table() {
 /// action 1; from state 1 agent 0 goes on alone.
 #[test]
 fn seventh_row() {
-    let mut job = catch();
-    job[ROWS] = 7;
-    for (field, value) in [(KIND, ALWAYS), (LEFT, 1), (COALITION, 2), (BOUND, 0)] {
-        job[row(6, field)] = value;
-    }
+    let job = jobs::catch_with_always();
     expect_sets(&job, &[4, 3, 7, 6, 7, 6, 1]);
     expect_table(&job, 6, &[NEVER, 1, 0], &[4, 255, 255]);
 }

@@ -7,6 +7,7 @@ mod limits;
 mod random;
 
 use rbatl_tests::agree::{self, Outcome};
+use rbatl_tests::answers::{assert_each_came, number};
 use rbatl_tests::solver::*;
 
 /// What the lent buffers hold before a call.
@@ -47,9 +48,4 @@ impl Lent {
         let lent = [&self.ranks[..], &self.moves[..]];
         agree::table(block, model, row, lent, || what.to_string())
     }
-}
-
-/// The index of an answer: 0, or the number of a refusal.
-fn number(answer: i32) -> usize {
-    usize::try_from(-answer).expect("no answer is above 0")
 }

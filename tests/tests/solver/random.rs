@@ -44,8 +44,7 @@ fn whole_jobs() {
         let lent = &lents[(case % 3) as usize];
         all_calls(&job, lent, &format!("case {case}"), &mut seen);
     }
-    println!("answers from 0: {seen:?}");
-    assert!(seen[0] > cases(CASES) * 3, "{seen:?}");
+    assert_each_came(&seen, &[0], 3 * cases(CASES));
     assert_eq!(
         seen[1..8],
         [0; 7],
@@ -68,13 +67,7 @@ fn damaged_jobs() {
             &mut seen,
         );
     }
-    println!("answers from 0: {seen:?}");
-    for number in [0, 1, 2, 3, 4, 5, 6, 8] {
-        assert!(
-            seen[number] >= cases(CASES) / 50,
-            "answer {number}: {seen:?}"
-        );
-    }
+    assert_each_came(&seen, &[0, 1, 2, 3, 4, 5, 6, 8], cases(CASES) / 50);
     assert_eq!(seen[7], 0, "no call on a block answers 7");
 }
 
@@ -87,6 +80,5 @@ fn full_jobs() {
         let lent = &lents[(case % 3) as usize];
         all_calls(&job, lent, &format!("case {case}"), &mut seen);
     }
-    println!("answers from 0: {seen:?}");
-    assert!(seen[0] > 3 * FULL_CASES, "{seen:?}");
+    assert_each_came(&seen, &[0, 8], 3 * FULL_CASES);
 }
