@@ -14,6 +14,8 @@ pub struct Shape {
     pub bound: u8,
     /// Every agent has that many actions, and every bound is that bound.
     pub fixed: bool,
+    /// The coalition whose move mostly decides the next state, or none.
+    pub driver: u8,
 }
 
 /// So small that strategies can be tried outright.
@@ -32,6 +34,7 @@ pub fn tiny(rng: &mut Rng) -> Vec<u8> {
         cost: 2,
         bound,
         fixed: false,
+        driver: driver(rng, sizes.agents),
     };
     block(rng, shape)
 }
@@ -50,6 +53,7 @@ pub fn small(rng: &mut Rng) -> Vec<u8> {
         cost: rng.pick(&[1, 2, 3, 5, MAX_COST]),
         bound: rng.pick(&[1, 3, 6, MAX_BOUND]),
         fixed: false,
+        driver: driver(rng, sizes.agents),
     };
     block(rng, shape)
 }
@@ -67,8 +71,17 @@ pub fn full(rng: &mut Rng) -> Vec<u8> {
         cost: rng.pick(&[1, 2, 4, MAX_COST]),
         bound: MAX_BOUND,
         fixed: true,
+        driver: driver(rng, MAX_AGENTS),
     };
     block(rng, shape)
+}
+
+/// None in one job of three.
+fn driver(rng: &mut Rng, agents: usize) -> u8 {
+    match rng.one_in(3) {
+        true => 0,
+        false => rng.within(1..=(1 << agents) - 1) as u8,
+    }
 }
 
 /// A ring of full size that the coalition can go round once for each unit of
@@ -95,9 +108,9 @@ pub fn ring(kind: u8, coalition: u8, rising: bool) -> Vec<u8> {
     block
 }
 
-/// A random job of full size. A move of the coalition leads to the same state
-/// whatever the reply, with a few exceptions; the state is at most `reach` places
-/// on, or, with reach 0, any. Proposition 0 is common, and 1 is rare.
+/// A random job of full size that the coalition drives. A move leads at most
+/// `reach` states on, or, with reach 0, anywhere. Proposition 0 is common, and 1
+/// is rare.
 pub fn maze(rng: &mut Rng, kind: u8, coalition: u8, reach: usize) -> Vec<u8> {
     let mut block = full_frame(kind, coalition);
     let shape = Shape {
@@ -106,18 +119,11 @@ pub fn maze(rng: &mut Rng, kind: u8, coalition: u8, reach: usize) -> Vec<u8> {
         cost: 2,
         bound: MAX_BOUND,
         fixed: true,
+        driver: coalition,
     };
     for state in 0..MAX_STATES {
         fill_actions(rng, &mut block, shape, state);
-        fill_next(rng, &mut block, state, reach);
-        for joint in 0..JOINTS {
-            let ours = |agent: &usize| coalition >> agent & 1 == 1;
-            let digits = (0..MAX_AGENTS).filter(ours);
-            let number: usize = digits.map(|a| actions(joint)[a] << (2 * a)).sum();
-            if !rng.one_in(32) {
-                block[next(state, joint)] = block[next(state, number)];
-            }
-        }
+        fill_next(rng, &mut block, shape, state, reach);
         block[mask(state)] = u8::from(!rng.one_in(12)) + 2 * u8::from(rng.one_in(12));
     }
     block
@@ -161,7 +167,7 @@ fn block(rng: &mut Rng, shape: Shape) -> Vec<u8> {
     let reach = rng.within(0..=3);
     for state in 0..shape.sizes.states {
         fill_actions(rng, &mut block, shape, state);
-        fill_next(rng, &mut block, state, reach);
+        fill_next(rng, &mut block, shape, state, reach);
         block[mask(state)] = propositions(rng, shape.sizes.propositions);
     }
     block[row(1, LEFT)] = 1;
@@ -201,18 +207,29 @@ fn fill_actions(rng: &mut Rng, block: &mut [u8], shape: Shape, state: usize) {
     }
 }
 
-/// Mostly a state or its successor, so that plays are long; with reach 0 any.
-fn fill_next(rng: &mut Rng, block: &mut [u8], state: usize, reach: usize) {
-    let states = Sizes::of(block).states;
+/// Mostly at most `reach` states on, so that plays are long; with reach 0 any.
+/// Where a coalition drives, its move mostly leads where the idle reply does.
+fn fill_next(rng: &mut Rng, block: &mut [u8], shape: Shape, state: usize, reach: usize) {
+    let states = shape.sizes.states;
     let joints: Vec<usize> = joint_actions(block, state).collect();
     for joint in joints {
+        let number = part(joint, shape.driver);
         let target = match reach {
+            _ if shape.driver != 0 && number != joint && !rng.one_in(32) => {
+                block[next(state, number)].into()
+            }
             0 => rng.below(states),
             _ if rng.one_in(16) => rng.below(states),
             _ => (state + rng.within(0..=reach)) % states,
         };
         block[next(state, joint)] = target as u8;
     }
+}
+
+/// The coalition's part of a joint action.
+fn part(joint: usize, coalition: u8) -> usize {
+    let agents = (0..MAX_AGENTS).filter(|agent| coalition >> agent & 1 == 1);
+    agents.map(|a| actions(joint)[a] << (2 * a)).sum()
 }
 
 fn fill_row(rng: &mut Rng, block: &mut [u8], shape: Shape, i: usize) {
@@ -231,7 +248,10 @@ fn fill_row(rng: &mut Rng, block: &mut [u8], shape: Shape, i: usize) {
     }
     if is_strategic(kind) {
         let coalitions = (1 << shape.sizes.agents) - 1;
-        block[row(i, COALITION)] = rng.within(1..=coalitions) as u8;
+        block[row(i, COALITION)] = match shape.driver {
+            driver if driver != 0 && rng.one_in(2) => driver,
+            _ => rng.within(1..=coalitions) as u8,
+        };
         for resource in 0..shape.sizes.resources {
             block[row(i, BOUND + resource)] = match shape.fixed {
                 true => shape.bound,
