@@ -7,7 +7,7 @@ use rbatl_tests::random::Rng;
 /// The strategic row.
 pub const ROW: usize = 2;
 
-const SEED: u64 = 0x6265_6E63_68;
+const SEED: u64 = 0x62_656E_6368;
 
 pub struct Case {
     pub name: String,

@@ -37,20 +37,17 @@ impl Model {
     /// The labelling call. A refusal leaves the sets as they were; the room
     /// holds zeros afterwards, unless a length is wrong.
     pub fn label(&self, sets: &mut [u8], room: &mut [u8]) -> i32 {
-        let job = match &self.job {
-            _ if sets.len() != SETS_BYTES || room.len() != ROOM_BYTES => Err(refusal::LENGTH),
-            Err(number) => Err(*number),
-            Ok(job) => Ok(job),
-        };
-        if !matches!(job, Err(refusal::LENGTH)) {
-            room.fill(0);
+        let lengths = sets.len() == SETS_BYTES && room.len() == ROOM_BYTES;
+        if !lengths || self.number() == refusal::LENGTH {
+            return -i32::from(refusal::LENGTH);
         }
-        match job {
+        room.fill(0);
+        match &self.job {
             Ok(job) => {
                 store(sets, job.sets.iter().flat_map(|set| set.to_le_bytes()));
                 0
             }
-            Err(number) => -i32::from(number),
+            Err(number) => -i32::from(*number),
         }
     }
 

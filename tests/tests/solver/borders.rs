@@ -67,42 +67,36 @@ fn whole_and_damaged() -> Vec<(Vec<u8>, u8)> {
     blocks
 }
 
+/// Buffers of which one, at this place among them, has another length.
+fn misfits(place: usize, right: usize) -> impl Iterator<Item = (Lent, String)> {
+    other_lengths(right).into_iter().map(move |length| {
+        let mut lent = Lent::patterned();
+        let buffers = [
+            &mut lent.sets,
+            &mut lent.room,
+            &mut lent.ranks,
+            &mut lent.moves,
+        ];
+        *buffers[place] = agree::pattern(length);
+        (lent, format!("buffer {place} of {length}"))
+    })
+}
+
 #[test]
 fn lent_lengths() {
     for (block, number) in whole_and_damaged() {
-        for row in [0, 3, 4, 6, 255] {
-            for length in other_lengths(RANKS_BYTES) {
-                let mut lent = Lent::patterned();
-                lent.ranks = agree::pattern(length);
-                refused_table(
-                    &block,
-                    row,
-                    &lent,
-                    1,
-                    &format!("ranks of {length}, {number}"),
-                );
-            }
-            for length in other_lengths(MOVES_BYTES) {
-                let mut lent = Lent::patterned();
-                lent.moves = agree::pattern(length);
-                refused_table(
-                    &block,
-                    row,
-                    &lent,
-                    1,
-                    &format!("moves of {length}, {number}"),
-                );
+        for (place, right) in [(0, SETS_BYTES), (1, ROOM_BYTES)] {
+            for (lent, what) in misfits(place, right) {
+                refused_label(&block, &lent, 1, &format!("{what}, damage {number}"));
             }
         }
-        for length in other_lengths(SETS_BYTES) {
-            let mut lent = Lent::patterned();
-            lent.sets = agree::pattern(length);
-            refused_label(&block, &lent, 1, &format!("sets of {length}, {number}"));
-        }
-        for length in other_lengths(ROOM_BYTES) {
-            let mut lent = Lent::patterned();
-            lent.room = agree::pattern(length);
-            refused_label(&block, &lent, 1, &format!("room of {length}, {number}"));
+        for (place, right) in [(2, RANKS_BYTES), (3, MOVES_BYTES)] {
+            for (lent, what) in misfits(place, right) {
+                for row in [0, 3, 4, 6, 255] {
+                    let what = format!("{what}, damage {number}");
+                    refused_table(&block, row, &lent, 1, &what);
+                }
+            }
         }
     }
 }
@@ -167,6 +161,35 @@ fn row_numbers() {
                 refused_row(&block, &model, i, &lent, 8, &format!("{name}, row {i}"));
             }
         }
+    }
+}
+
+/// The largest values of a job of full size pass, and those above are refused.
+#[test]
+fn full_sizes() {
+    let lent = Lent::patterned();
+    let job = jobs::load("full.job");
+    for (place, passes, refused, number) in [
+        (AGENTS, 3, 4, 2),
+        (RESOURCES, 2, 3, 2),
+        (STATES, 24, 25, 2),
+        (PROPOSITIONS, 8, 9, 2),
+        (ROWS, 32, 33, 2),
+        (count(23, 2), 4, 5, 3),
+        (cost(23, 2, 3, 1), 15, 16, 3),
+        (next(23, 63), 23, 24, 4),
+        (row(31, BOUND), 15, 16, 5),
+        (row(31, BOUND + 1), 255, 254, 5),
+    ] {
+        let mut block = job.clone();
+        block[place] = passes;
+        let (model, what) = (Model::of(&block), format!("byte {place} = {passes}"));
+        assert_eq!(lent.label(&block, &model, &what).answer, 0, "{what}");
+        assert_eq!(lent.table(&block, &model, 31, &what).answer, 0, "{what}");
+        block[place] = refused;
+        let what = format!("byte {place} = {refused}");
+        refused_label(&block, &lent, number, &what);
+        refused_table(&block, 31, &lent, number, &what);
     }
 }
 
