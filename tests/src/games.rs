@@ -108,9 +108,9 @@ pub fn ring(kind: u8, coalition: u8, rising: bool) -> Vec<u8> {
     block
 }
 
-/// A random job of full size that the coalition drives. A move leads at most
-/// `reach` states on, or, with reach 0, anywhere. Proposition 0 is common, and 1
-/// is rare.
+/// A random job of full size. A joint action leads at most `reach` states on,
+/// or, with reach 0, anywhere. Proposition 0 is common, and 1 is rare. The
+/// coalition drives, but not in always, which it would win at once.
 pub fn maze(rng: &mut Rng, kind: u8, coalition: u8, reach: usize) -> Vec<u8> {
     let mut block = full_frame(kind, coalition);
     let shape = Shape {
@@ -119,7 +119,7 @@ pub fn maze(rng: &mut Rng, kind: u8, coalition: u8, reach: usize) -> Vec<u8> {
         cost: 2,
         bound: MAX_BOUND,
         fixed: true,
-        driver: coalition,
+        driver: if kind == ALWAYS { 0 } else { coalition },
     };
     for state in 0..MAX_STATES {
         fill_actions(rng, &mut block, shape, state);
