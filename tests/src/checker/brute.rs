@@ -4,7 +4,6 @@
 //! they idle and spend nothing.
 
 use super::structure::*;
-use super::{NEVER, NO_MOVE};
 use crate::layout::MAX_RESOURCES;
 use std::collections::HashMap;
 
@@ -77,7 +76,12 @@ pub struct Trial<'a> {
     pub bound: Amounts,
     /// No more strategies than these are tried.
     pub limit: usize,
+    /// The opponents' rule, if they keep to one.
+    pub rule: Option<Rule<'a>>,
 }
+
+/// Picks the reply from the state, the stock and the coalition's present move.
+pub type Rule<'a> = &'a dyn Fn(usize, Amounts, u8) -> u8;
 
 impl Trial<'_> {
     /// Whether some strategy within the bound meets the aim in n moves on every
@@ -116,13 +120,17 @@ impl Trial<'_> {
         if let Some(met) = self.decided(history, n) {
             return met;
         }
-        let moves = &self.moves[history[history.len() - 1]];
+        let state = history[history.len() - 1];
+        let moves = &self.moves[state];
         let mv = &moves[strategy.choice(history, moves.len())];
+        let stock = left_over(self.bound, spent);
         let spent = sum(spent, mv.cost);
         if !at_most(spent, self.bound) {
             return false;
         }
-        mv.replies.iter().all(|reply| {
+        let ruled = self.rule.map(|rule| rule(state, stock, mv.number));
+        let possible = |reply: &&Reply| ruled.is_none_or(|number| reply.number == number);
+        mv.replies.iter().filter(possible).all(|reply| {
             history.push(reply.target);
             let met = self.every_computation(strategy, history, spent, n);
             if met {
@@ -133,7 +141,7 @@ impl Trial<'_> {
     }
 
     /// Whether the aim is met, as soon as the states so far decide it.
-    fn decided(&self, history: &History, n: usize) -> Option<bool> {
+    pub(super) fn decided(&self, history: &[usize], n: usize) -> Option<bool> {
         let state = history[history.len() - 1];
         let made = history.len() - 1;
         match self.aim {
@@ -147,177 +155,10 @@ impl Trial<'_> {
     }
 }
 
-/// What the trials say of a row: its set and, if it is strategic, its table.
-pub struct Verdict {
-    pub set: Set,
-    pub ranks: Vec<u16>,
-    pub moves: Vec<u8>,
-    /// Where the coalition does not win, each affordable move and its reply.
-    pub replies: Vec<Vec<(u8, u8)>>,
-}
-
-/// All rows; none if some trial has more than `limit` strategies.
-pub fn solve(structure: &Structure, limit: usize) -> Option<Vec<Verdict>> {
-    let mut verdicts: Vec<Verdict> = Vec::new();
-    for &formula in &structure.formulas {
-        let set = |row: usize| verdicts[row].set;
-        let verdict = match formula {
-            Formula::Prop(proposition) => plain(structure.holds(proposition)),
-            Formula::Not(left) => plain(structure.all() & !set(left)),
-            Formula::Or(left, right) => plain(set(left) | set(right)),
-            Formula::Next(ability, left) => {
-                let aim = Aim::Next { left: set(left) };
-                strategic(structure, ability, aim, limit)?
-            }
-            Formula::Always(ability, left) => {
-                let aim = Aim::Always { left: set(left) };
-                strategic(structure, ability, aim, limit)?
-            }
-            Formula::Until(ability, left, right) => {
-                let (left, right) = (set(left), set(right));
-                strategic(structure, ability, Aim::Until { left, right }, limit)?
-            }
-        };
-        verdicts.push(verdict);
-    }
-    Some(verdicts)
-}
-
-fn plain(set: Set) -> Verdict {
-    Verdict {
-        set,
-        ranks: Vec::new(),
-        moves: Vec::new(),
-        replies: Vec::new(),
-    }
-}
-
-fn strategic(structure: &Structure, ability: Ability, aim: Aim, limit: usize) -> Option<Verdict> {
-    let moves = &structure.moves(ability.coalition);
-    let stocks = stocks(ability.bound);
-    let positions = structure.states * stocks.len();
-    let mut verdict = plain(0);
-    for start in 0..structure.states {
-        for &bound in &stocks {
-            let trial = Trial {
-                moves,
-                aim,
-                start,
-                bound,
-                limit,
-            };
-            let (rank, mv) = trial.rank_and_move(positions)?;
-            verdict.ranks.push(rank);
-            verdict.moves.push(mv);
-            if bound == ability.bound && mv != NO_MOVE {
-                verdict.set |= 1 << start;
-            }
-            verdict.replies.push(match mv {
-                NO_MOVE => trial.replies(rank.into(), positions)?,
-                _ => Vec::new(),
-            });
-        }
-    }
-    Some(verdict)
-}
-
-/// The stocks of a state's positions, in order; an unlimited resource stays so.
-fn stocks(bound: Amounts) -> Vec<Amounts> {
-    let mut stocks = vec![bound];
-    for resource in 0..MAX_RESOURCES {
-        if bound[resource] != INFINITE {
-            let with = |stock: &Amounts, amount| {
-                let mut stock = *stock;
-                stock[resource] = amount;
-                stock
-            };
-            let amounts = |stock| (0..=bound[resource]).map(move |amount| with(stock, amount));
-            stocks = stocks.iter().flat_map(amounts).collect();
-        }
-    }
-    stocks
-}
-
-impl Trial<'_> {
-    /// A play of as many moves as there are positions comes to one twice, so
-    /// what can be enforced at all can be within fewer.
-    fn rank_and_move(&self, positions: usize) -> Option<(u16, u8)> {
-        let all = 0..positions;
-        match self.aim {
-            Aim::Next { .. } => match self.any(1)? {
-                true => Some((1, self.smallest(1)?)),
-                false => Some((NEVER, NO_MOVE)),
-            },
-            Aim::Always { .. } => match first(all, |n| self.any(n).map(|kept| !kept))? {
-                Some(n) => Some((n as u16, NO_MOVE)),
-                None => Some((NEVER, self.smallest(positions)?)),
-            },
-            Aim::Until { .. } => match first(all, |n| self.any(n))? {
-                Some(0) => Some((0, 0)),
-                Some(n) => Some((n as u16, self.smallest(n)?)),
-                None => Some((NEVER, NO_MOVE)),
-            },
-        }
-    }
-
-    /// The smallest move with which a strategy can begin that meets the aim in
-    /// n moves.
-    fn smallest(&self, n: usize) -> Option<u8> {
-        let moves = &self.moves[self.start];
-        let choice = first(0..moves.len(), |choice| self.any_starting_with(choice, n))?;
-        Some(moves[choice.expect("a strategy was found")].number)
-    }
-}
-
-impl Trial<'_> {
-    /// Each affordable move and the smallest reply that keeps the row false: no
-    /// strategy goes on from the outcome to meet until or next; none goes on to
-    /// keep always for as long as one could from here.
-    fn replies(&self, rank: usize, positions: usize) -> Option<Vec<(u8, u8)>> {
-        let mut replies = Vec::new();
-        for mv in &self.moves[self.start] {
-            if !at_most(mv.cost, self.bound) {
-                continue;
-            }
-            let spoils = |place: usize| self.spoils(mv, &mv.replies[place], rank, positions);
-            let reply = match self.decided(&vec![self.start], positions) {
-                Some(false) => 0,
-                _ => {
-                    let place = first(0..mv.replies.len(), spoils)?;
-                    mv.replies[place.expect("a reply to a losing move")].number
-                }
-            };
-            replies.push((mv.number, reply));
-        }
-        Some(replies)
-    }
-
-    fn spoils(&self, mv: &Move, reply: &Reply, rank: usize, positions: usize) -> Option<bool> {
-        let mut trial = Trial {
-            start: reply.target,
-            ..*self
-        };
-        for (stock, spent) in trial.bound.iter_mut().zip(mv.cost) {
-            *stock -= if *stock == INFINITE { 0 } else { spent };
-        }
-        match self.aim {
-            Aim::Next { left } => Some(!contains(left, reply.target)),
-            Aim::Always { .. } => trial.any(rank - 1).map(|kept| !kept),
-            Aim::Until { .. } => trial.any(positions).map(|met| !met),
-        }
-    }
-}
-
-/// The first number for which the trial says yes; none if it cannot say.
-fn first(
-    mut numbers: std::ops::Range<usize>,
-    trial: impl Fn(usize) -> Option<bool>,
-) -> Option<Option<usize>> {
-    loop {
-        match numbers.next() {
-            None => return Some(None),
-            Some(n) if trial(n)? => return Some(Some(n)),
-            Some(_) => {}
-        }
-    }
+/// What a cost within the bound leaves of it.
+pub(super) fn left_over(bound: Amounts, cost: Amounts) -> Amounts {
+    std::array::from_fn(|resource| match bound[resource] {
+        INFINITE => INFINITE,
+        limit => limit - cost[resource],
+    })
 }

@@ -1,8 +1,9 @@
 //! Strategies tried outright, on tiny jobs: sets, ranks, moves and replies.
 
 use super::*;
-use rbatl_tests::checker::brute::{self, Verdict};
 use rbatl_tests::checker::splits;
+use rbatl_tests::checker::structure::{Amounts, INFINITE};
+use rbatl_tests::checker::verdict::{self, Verdict};
 use rbatl_tests::checker::NEVER;
 use rbatl_tests::layout::{row, ROWS};
 use rbatl_tests::random::{cases, Rng};
@@ -17,6 +18,8 @@ const LIMIT: usize = 2_000;
 #[derive(Default)]
 struct Seen {
     jobs: u64,
+    /// Rows whose replies were played against every strategy.
+    rules: u64,
     positions: usize,
     replies: usize,
     /// The largest finite rank.
@@ -26,7 +29,7 @@ struct Seen {
 fn compare(job: &[u8], limit: usize, seen: &mut Seen, what: &str) {
     assert_eq!(block::check(job), 0, "{what}");
     let solved = Solved::of(job);
-    let Some(verdicts) = brute::solve(&solved.structure, limit) else {
+    let Some(verdicts) = verdict::solve(&solved.structure, limit) else {
         return;
     };
     seen.jobs += 1;
@@ -35,9 +38,26 @@ fn compare(job: &[u8], limit: usize, seen: &mut Seen, what: &str) {
     assert_eq!(splits::label(&solved.structure), sets, "{what}: splits");
     for (row, verdict) in verdicts.iter().enumerate() {
         if let Some(table) = solved.table(row) {
-            compare_table(&table, verdict, seen, &format!("{what}, row {row}"));
+            let what = format!("{what}, row {row}");
+            compare_table(&table, verdict, seen, &what);
+            let rule = |state, stock: Amounts, mv| table.reply(position(&table, state, stock), mv);
+            let wins = verdict::rule_wins(&solved.structure, row, &verdicts, &rule, limit);
+            assert_ne!(wins, Some(false), "{what}: the replies lose a play");
+            seen.rules += u64::from(wins == Some(true));
         }
     }
+}
+
+/// The number of a position; the stock of an unlimited resource is 0.
+fn position(table: &Table, state: usize, stock: Amounts) -> usize {
+    let stock = stock.map(|amount| {
+        if amount == INFINITE {
+            0
+        } else {
+            amount as usize
+        }
+    });
+    table.position(state, &stock)
 }
 
 fn compare_table(table: &Table, verdict: &Verdict, seen: &mut Seen, what: &str) {
@@ -67,10 +87,11 @@ fn all_three_agree_on_tiny_jobs() {
         compare(&job, LIMIT, &mut seen, &format!("case {case}"));
     }
     println!(
-        "{} jobs, {} positions, {} replies, ranks to {}",
-        seen.jobs, seen.positions, seen.replies, seen.longest
+        "{} jobs, {} rules, {} positions, {} replies, ranks to {}",
+        seen.jobs, seen.rules, seen.positions, seen.replies, seen.longest
     );
     assert!(seen.jobs * 2 > cases, "only {} of {cases} jobs", seen.jobs);
+    assert!(seen.rules > seen.jobs, "only {} rules", seen.rules);
     assert!(seen.longest >= 3);
 }
 
