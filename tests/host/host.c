@@ -262,12 +262,153 @@ static void check_write(void)
     }
 }
 
+#ifdef RBATL_SOLVER
+
+/* Lengths of the lent buffers. */
+#define SETS 128
+#define ROOM 12288
+#define RANKS 12288
+#define MOVES 6144
+
+/* The sets of Catch, and ranks and moves of its row 4: three states, each with
+ * stocks 0 to 5. */
+#define NEVER 65535
+static const uint32_t catch_sets[] = {4, 3, 7, 6, 7, 6};
+static const uint16_t catch_ranks[] = {
+    NEVER, NEVER, NEVER, NEVER, NEVER, 2, NEVER, NEVER, NEVER, 1, 1, 1, 0, 0, 0, 0, 0, 0,
+};
+static const uint8_t catch_moves[] = {
+    255, 255, 255, 255, 255, 1, 255, 255, 255, 1, 1, 1, 0, 0, 0, 0, 0, 0,
+};
+
+/* The bytes of a word, lowest first, must stand there. */
+static int holds(const uint8_t *bytes, uint32_t word, size_t length)
+{
+    for (size_t i = 0; i < length; i++)
+        if (bytes[i] != (uint8_t)(word >> 8 * i))
+            return 0;
+    return 1;
+}
+
+/* The sets must be those of Catch, or, refused, be as they were; the room must
+ * hold zeros, or, after a wrong length, be as it was. */
+static void expect_label(const char *name, const uint8_t *block, size_t length, size_t sets_length,
+                         size_t room_length, int32_t expected)
+{
+    static uint8_t sets[SETS + 1], room[ROOM + 1];
+    const size_t words = sizeof catch_sets / sizeof catch_sets[0];
+    int same = 1;
+    char what[64];
+
+    memset(sets, FILL, sizeof sets);
+    memset(room, FILL, sizeof room);
+    int32_t answer = rbatl_label(block, length, sets, sets_length, room, room_length);
+    snprintf(what, sizeof what, "label answers %ld, not %ld", (long)answer, (long)expected);
+    count(answer == expected, name, what);
+    if (expected == 0) {
+        for (size_t i = 0; i < words; i++)
+            same &= holds(sets + 4 * i, catch_sets[i], 4);
+        count(same && all(sets + 4 * words, SETS - 4 * words, 0), name, "other sets");
+        count(sets[SETS] == FILL, name, "sets written too far");
+    } else {
+        count(all(sets, sizeof sets, FILL), name, "refused, but the sets have changed");
+    }
+    if (expected == -RBATL_LENGTH)
+        count(all(room, sizeof room, FILL), name, "a wrong length, but the room has changed");
+    else
+        count(all(room, ROOM, 0) && room[ROOM] == FILL, name, "no zeros in the room");
+}
+
+static void check_label(void)
+{
+    static uint8_t bytes[RBATL_BLOCK_BYTES + 1];
+    const size_t size = RBATL_BLOCK_BYTES;
+
+    fill_catch(bytes);
+    expect_label("Catch", bytes, size, SETS, ROOM, 0);
+    expect_label("a short block", bytes, size - 1, SETS, ROOM, -RBATL_LENGTH);
+    expect_label("a long block", bytes, size + 1, SETS, ROOM, -RBATL_LENGTH);
+    expect_label("short sets", bytes, size, SETS - 1, ROOM, -RBATL_LENGTH);
+    expect_label("long sets", bytes, size, SETS + 1, ROOM, -RBATL_LENGTH);
+    expect_label("a short room", bytes, size, SETS, ROOM - 1, -RBATL_LENGTH);
+    expect_label("a long room", bytes, size, SETS, ROOM + 1, -RBATL_LENGTH);
+    for (size_t i = 0; i < sizeof damages / sizeof damages[0]; i++) {
+        if (damages[i].answer == 0)
+            continue;
+        fill_catch(bytes);
+        bytes[damages[i].change.place] = damages[i].change.value;
+        expect_label(damages[i].name, bytes, size, SETS, ROOM, damages[i].answer);
+    }
+}
+
+/* The table must be that of Catch's row 4, or, refused, leave both buffers as
+ * they were. */
+static void expect_table(const char *name, const uint8_t *block, size_t length, uint8_t row,
+                         size_t ranks_length, size_t moves_length, int32_t expected)
+{
+    static uint8_t ranks[RANKS + 1], moves[MOVES + 1];
+    const size_t positions = sizeof catch_moves;
+    int same = 1;
+    char what[64];
+
+    memset(ranks, FILL, sizeof ranks);
+    memset(moves, FILL, sizeof moves);
+    int32_t answer =
+        rbatl_table(block, length, row, ranks, ranks_length, moves, moves_length);
+    snprintf(what, sizeof what, "table answers %ld, not %ld", (long)answer, (long)expected);
+    count(answer == expected, name, what);
+    if (expected != 0) {
+        count(all(ranks, sizeof ranks, FILL), name, "refused, but the ranks have changed");
+        count(all(moves, sizeof moves, FILL), name, "refused, but the moves have changed");
+        return;
+    }
+    for (size_t i = 0; i < positions; i++)
+        same &= holds(ranks + 2 * i, catch_ranks[i], 2);
+    count(same && all(ranks + 2 * positions, RANKS - 2 * positions, 0), name, "other ranks");
+    count(memcmp(moves, catch_moves, positions) == 0, name, "other moves");
+    count(all(moves + positions, MOVES - positions, 0), name, "no zeros after the moves");
+    count(ranks[RANKS] == FILL && moves[MOVES] == FILL, name, "written too far");
+}
+
+static void check_table(void)
+{
+    static const uint8_t tableless[] = {0, 1, 2, 6, 31, 32, 255};
+    static uint8_t bytes[RBATL_BLOCK_BYTES + 1];
+    const size_t size = RBATL_BLOCK_BYTES;
+
+    fill_catch(bytes);
+    expect_table("Catch", bytes, size, 4, RANKS, MOVES, 0);
+    expect_table("a short block", bytes, size - 1, 4, RANKS, MOVES, -RBATL_LENGTH);
+    expect_table("a long block", bytes, size + 1, 4, RANKS, MOVES, -RBATL_LENGTH);
+    expect_table("short ranks", bytes, size, 4, RANKS - 1, MOVES, -RBATL_LENGTH);
+    expect_table("long ranks", bytes, size, 4, RANKS + 1, MOVES, -RBATL_LENGTH);
+    expect_table("short moves", bytes, size, 4, RANKS, MOVES - 1, -RBATL_LENGTH);
+    expect_table("long moves", bytes, size, 255, RANKS, MOVES + 1, -RBATL_LENGTH);
+    for (size_t i = 0; i < sizeof tableless; i++)
+        expect_table("a row without a table", bytes, size, tableless[i], RANKS, MOVES,
+                     -RBATL_ROW_CHOICE);
+    for (size_t i = 0; i < sizeof damages / sizeof damages[0]; i++) {
+        if (damages[i].answer == 0)
+            continue;
+        fill_catch(bytes);
+        bytes[damages[i].change.place] = damages[i].change.value;
+        expect_table(damages[i].name, bytes, size, 4, RANKS, MOVES, damages[i].answer);
+        expect_table(damages[i].name, bytes, size, 255, RANKS, MOVES, damages[i].answer);
+    }
+}
+
+#endif
+
 int main(void)
 {
     check_damages();
     check_lengths();
     check_read();
     check_write();
+#ifdef RBATL_SOLVER
+    check_label();
+    check_table();
+#endif
     printf("%d passed, %d failed\n", passed, failed);
     return failed != 0;
 }

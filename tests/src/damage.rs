@@ -5,7 +5,7 @@ use crate::layout::*;
 use crate::random::Rng;
 
 /// Values at both sides of every border in document 01.
-const BORDERS: [u8; 25] = [
+pub const BORDERS: [u8; 25] = [
     0, 1, 2, 3, 4, 5, 6, 7, 8, 9, 14, 15, 16, 17, 23, 24, 25, 31, 32, 33, 127, 128, 253, 254, 255,
 ];
 

@@ -25,3 +25,63 @@ pub fn write(block: &[u8], text: &mut [u8]) -> i32 {
     // borrowed mutably, overlaps no block.
     unsafe { rbatl_write(block.as_ptr(), block.len(), text.as_mut_ptr(), text.len()) }
 }
+
+/// The calls that the feature `solver` waits for.
+#[cfg(feature = "solver")]
+mod solver {
+    extern "C" {
+        fn rbatl_label(
+            block: *const u8,
+            block_len: usize,
+            sets: *mut u8,
+            sets_len: usize,
+            room: *mut u8,
+            room_len: usize,
+        ) -> i32;
+        fn rbatl_table(
+            block: *const u8,
+            block_len: usize,
+            row: u8,
+            ranks: *mut u8,
+            ranks_len: usize,
+            moves: *mut u8,
+            moves_len: usize,
+        ) -> i32;
+    }
+
+    /// 0, or minus the refusal number.
+    pub fn label(block: &[u8], sets: &mut [u8], room: &mut [u8]) -> i32 {
+        // SAFETY: each pointer is valid for the length beside it, and the two
+        // buffers, borrowed mutably, overlap nothing.
+        unsafe {
+            rbatl_label(
+                block.as_ptr(),
+                block.len(),
+                sets.as_mut_ptr(),
+                sets.len(),
+                room.as_mut_ptr(),
+                room.len(),
+            )
+        }
+    }
+
+    /// 0, or minus the refusal number.
+    pub fn table(block: &[u8], row: u8, ranks: &mut [u8], moves: &mut [u8]) -> i32 {
+        // SAFETY: each pointer is valid for the length beside it, and the two
+        // buffers, borrowed mutably, overlap nothing.
+        unsafe {
+            rbatl_table(
+                block.as_ptr(),
+                block.len(),
+                row,
+                ranks.as_mut_ptr(),
+                ranks.len(),
+                moves.as_mut_ptr(),
+                moves.len(),
+            )
+        }
+    }
+}
+
+#[cfg(feature = "solver")]
+pub use solver::{label, table};

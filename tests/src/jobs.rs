@@ -1,5 +1,6 @@
-//! The files of jobs/.
+//! The files of jobs/, and other jobs that tests start from.
 
+use crate::layout::*;
 use crate::text;
 use std::path::{Path, PathBuf};
 
@@ -25,4 +26,40 @@ pub fn text(name: &str) -> Vec<u8> {
 /// The block of a job file.
 pub fn load(name: &str) -> Vec<u8> {
     text::read(&text(name)).unwrap_or_else(|number| panic!("{name} is refused: {number}"))
+}
+
+/// The smallest job of these sizes: everyone idles, every next state is 0, and
+/// every row is `prop,0`.
+pub fn smallest(
+    agents: usize,
+    resources: usize,
+    states: usize,
+    propositions: usize,
+    rows: usize,
+) -> Vec<u8> {
+    let mut block = vec![0; BLOCK_BYTES];
+    let sizes = Sizes {
+        agents,
+        resources,
+        states,
+        propositions,
+        rows,
+    };
+    sizes.store(&mut block);
+    for state in 0..states {
+        for agent in 0..agents {
+            block[count(state, agent)] = 1;
+        }
+    }
+    block
+}
+
+/// Catch with the seventh row of document 01, `always,2,0,1`.
+pub fn catch_with_always() -> Vec<u8> {
+    let mut block = load("catch.job");
+    block[ROWS] = 7;
+    for (field, value) in [(KIND, ALWAYS), (LEFT, 1), (COALITION, 2), (BOUND, 0)] {
+        block[row(6, field)] = value;
+    }
+    block
 }

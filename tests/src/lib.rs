@@ -1,14 +1,18 @@
-//! A second implementation, made from document 01 alone, to compare the
-//! library with, and the means to make many jobs and to damage them.
+//! A second implementation, made from documents 01 and 003 alone, to compare
+//! the library with, and the means to make many jobs and to damage them.
 
 pub mod agree;
+pub mod answers;
 pub mod block;
+pub mod checker;
 pub mod damage;
 pub mod ffi;
 pub mod full;
+pub mod games;
 pub mod jobs;
 pub mod layout;
 pub mod random;
+pub mod solver;
 pub mod text;
 pub mod text_damage;
 
@@ -21,4 +25,5 @@ pub mod refusal {
     pub const ROW: u8 = 5;
     pub const UNUSED: u8 = 6;
     pub const FORM: u8 = 7;
+    pub const ROW_CHOICE: u8 = 8;
 }

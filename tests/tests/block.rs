@@ -1,5 +1,6 @@
 //! `rbatl_check` against the check made from document 01, on many blocks.
 
+use rbatl_tests::answers::assert_each_came;
 use rbatl_tests::damage::damage;
 use rbatl_tests::random::{any_block, cases, Rng};
 use rbatl_tests::{block, ffi, jobs, layout};
@@ -39,13 +40,7 @@ fn agrees_on_damaged_jobs() {
         let how = damage(&mut rng, &mut bytes);
         seen[agreed(&bytes, || format!("case {case}, damage: {how}"))] += 1;
     }
-    println!("answers 0 to 6: {seen:?}");
-    for (number, &times) in seen.iter().enumerate() {
-        assert!(
-            times >= cases / 40,
-            "answer {number} came only {times} times: {seen:?}"
-        );
-    }
+    assert_each_came(&seen, &[0, 1, 2, 3, 4, 5, 6], cases / 40);
 }
 
 /// Every place and every value of every job in jobs/: none of their borders is

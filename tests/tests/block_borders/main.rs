@@ -7,6 +7,7 @@ mod sizes;
 mod states;
 mod unused;
 
+use rbatl_tests::jobs::smallest;
 use rbatl_tests::layout::*;
 use rbatl_tests::{block, ffi};
 
@@ -59,35 +60,9 @@ impl Cases {
     }
 }
 
-/// The smallest job of these sizes: everyone idles, every next state is 0, and
-/// every row is `prop,0`.
-fn job(
-    agents: usize,
-    resources: usize,
-    states: usize,
-    propositions: usize,
-    rows: usize,
-) -> Vec<u8> {
-    let mut block = vec![0; BLOCK_BYTES];
-    Sizes {
-        agents,
-        resources,
-        states,
-        propositions,
-        rows,
-    }
-    .store(&mut block);
-    for state in 0..states {
-        for agent in 0..agents {
-            block[count(state, agent)] = 1;
-        }
-    }
-    block
-}
-
 /// A job of full size: four actions everywhere, without costs.
 fn full() -> Vec<u8> {
-    let mut block = job(3, 2, 24, 8, 32);
+    let mut block = smallest(3, 2, 24, 8, 32);
     block[count(0, 0)..count(MAX_STATES, 0)].fill(MAX_ACTIONS as u8);
     block
 }
@@ -95,7 +70,7 @@ fn full() -> Vec<u8> {
 /// Rows 0 to i - 1 are `prop,0`, and row i is of the kind, on row 0, with
 /// coalition {0} and no budget.
 fn job_with_row(kind: u8, i: usize) -> Vec<u8> {
-    let mut block = job(2, 2, 2, 2, i + 1);
+    let mut block = smallest(2, 2, 2, 2, i + 1);
     block[row(i, KIND)] = kind;
     block[row(i, COALITION)] = u8::from(is_strategic(kind));
     block

@@ -7,7 +7,7 @@ use super::*;
 type Damage = [(u8, Change); 5];
 
 fn base() -> Vec<u8> {
-    job(2, 1, 3, 1, 2)
+    smallest(2, 1, 3, 1, 2)
 }
 
 /// The lower the number, the earlier its place.

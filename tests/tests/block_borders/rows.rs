@@ -56,15 +56,20 @@ fn proposition_exists() {
     let place = row(0, LEFT);
     cases.values(
         "prop, P 1",
-        &job(1, 1, 1, 1, 1),
+        &smallest(1, 1, 1, 1, 1),
         place,
         &[(0, 0), (1, 5), (255, 5)],
     );
-    cases.values("prop, P 8", &job(1, 1, 1, 8, 1), place, &[(7, 0), (8, 5)]);
+    cases.values(
+        "prop, P 8",
+        &smallest(1, 1, 1, 8, 1),
+        place,
+        &[(7, 0), (8, 5)],
+    );
     // A proposition is no row: it may be above its own row's number.
     cases.values(
         "prop in row 31, P 2",
-        &job(1, 1, 1, 2, 32),
+        &smallest(1, 1, 1, 2, 32),
         row(31, LEFT),
         &[(1, 0), (2, 5)],
     );
@@ -76,7 +81,7 @@ fn coalition_of_agents_that_exist() {
     let mut cases = Cases::default();
     for kind in STRATEGIC {
         for agents in 1..=MAX_AGENTS {
-            let mut block = job(agents, 1, 1, 1, 2);
+            let mut block = smallest(agents, 1, 1, 1, 2);
             block[row(1, KIND)] = kind;
             let absent = 1 << agents;
             let numbers = [

@@ -6,7 +6,7 @@ use super::*;
 fn length() {
     let mut cases = Cases::default();
     for (length, number) in [(0, 1), (1, 1), (2468, 1), (2469, 0), (2470, 1), (4938, 1)] {
-        let mut block = job(1, 1, 1, 1, 1);
+        let mut block = smallest(1, 1, 1, 1, 1);
         block.resize(length, 0);
         cases.expect(&format!("length {length}"), &block, &[], number);
     }
@@ -16,11 +16,11 @@ fn length() {
 #[test]
 fn agents() {
     let mut cases = Cases::default();
-    cases.expect("N 1", &job(1, 1, 1, 1, 1), &[], 0);
-    cases.expect("N 3", &job(3, 1, 1, 1, 1), &[], 0);
+    cases.expect("N 1", &smallest(1, 1, 1, 1, 1), &[], 0);
+    cases.expect("N 3", &smallest(3, 1, 1, 1, 1), &[], 0);
     cases.values(
         "N",
-        &job(1, 1, 1, 1, 1),
+        &smallest(1, 1, 1, 1, 1),
         AGENTS,
         &[(0, 2), (4, 2), (255, 2)],
     );
@@ -32,7 +32,7 @@ fn resources() {
     let mut cases = Cases::default();
     cases.values(
         "R",
-        &job(1, 1, 1, 1, 1),
+        &smallest(1, 1, 1, 1, 1),
         RESOURCES,
         &[(0, 2), (1, 0), (2, 0), (3, 2), (255, 2)],
     );
@@ -42,11 +42,11 @@ fn resources() {
 #[test]
 fn states() {
     let mut cases = Cases::default();
-    cases.expect("M 1", &job(1, 1, 1, 1, 1), &[], 0);
-    cases.expect("M 24", &job(1, 1, 24, 1, 1), &[], 0);
+    cases.expect("M 1", &smallest(1, 1, 1, 1, 1), &[], 0);
+    cases.expect("M 24", &smallest(1, 1, 24, 1, 1), &[], 0);
     cases.values(
         "M",
-        &job(1, 1, 24, 1, 1),
+        &smallest(1, 1, 24, 1, 1),
         STATES,
         &[(0, 2), (25, 2), (255, 2)],
     );
@@ -56,7 +56,7 @@ fn states() {
 #[test]
 fn propositions() {
     let mut cases = Cases::default();
-    let block = job(1, 1, 1, 1, 1);
+    let block = smallest(1, 1, 1, 1, 1);
     cases.values(
         "P",
         &block,
@@ -70,7 +70,7 @@ fn propositions() {
 fn rows() {
     let mut cases = Cases::default();
     // A row of zeros is `prop,0`, so every number of rows in range passes.
-    let block = job(1, 1, 1, 1, 1);
+    let block = smallest(1, 1, 1, 1, 1);
     cases.values(
         "F",
         &block,

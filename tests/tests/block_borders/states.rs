@@ -8,31 +8,31 @@ fn mask_below_the_propositions() {
     let last = mask(2);
     cases.values(
         "mask, P 1",
-        &job(1, 1, 3, 1, 1),
+        &smallest(1, 1, 3, 1, 1),
         last,
         &[(0, 0), (1, 0), (2, 3), (3, 3)],
     );
     cases.values(
         "mask, P 7",
-        &job(1, 1, 3, 7, 1),
+        &smallest(1, 1, 3, 7, 1),
         last,
         &[(64, 0), (127, 0), (128, 3), (255, 3)],
     );
     cases.values(
         "mask, P 8",
-        &job(1, 1, 3, 8, 1),
+        &smallest(1, 1, 3, 8, 1),
         last,
         &[(128, 0), (255, 0)],
     );
     cases.values(
         "mask of state 0, P 1",
-        &job(1, 1, 3, 1, 1),
+        &smallest(1, 1, 3, 1, 1),
         mask(0),
         &[(1, 0), (2, 3)],
     );
     cases.values(
         "mask of state 23, P 7",
-        &job(3, 2, 24, 7, 1),
+        &smallest(3, 2, 24, 7, 1),
         mask(23),
         &[(64, 0), (128, 3)],
     );
@@ -43,7 +43,7 @@ fn mask_below_the_propositions() {
 fn count_1_to_4() {
     let mut cases = Cases::default();
     let numbers = [(0, 3), (1, 0), (4, 0), (5, 3), (255, 3)];
-    let block = job(3, 2, 24, 1, 1);
+    let block = smallest(3, 2, 24, 1, 1);
     for (state, agent) in [(0, 0), (0, 2), (1, 1), (23, 0), (23, 2)] {
         let name = format!("count of agent {agent} in state {state}");
         cases.values(&name, &block, count(state, agent), &numbers);

@@ -5,7 +5,7 @@ use super::*;
 
 /// A job of three states that leaves something of every sort unused.
 fn small() -> Vec<u8> {
-    let mut block = job(2, 1, 3, 1, 2);
+    let mut block = smallest(2, 1, 3, 1, 2);
     block[count(1, 0)] = 2;
     block[count(1, 1)] = 3;
     block
@@ -26,13 +26,13 @@ fn byte_28() {
     cases.values("byte 28 of three states", &small(), 28, &[(0, 0), (1, 6)]);
     cases.values(
         "byte 28 of 23 states",
-        &job(1, 1, 23, 1, 1),
+        &smallest(1, 1, 23, 1, 1),
         28,
         &[(0, 0), (1, 6)],
     );
     cases.values(
         "byte 28 of 24 states",
-        &job(1, 1, 24, 1, 1),
+        &smallest(1, 1, 24, 1, 1),
         28,
         &[(0, 0), (1, 0)],
     );
@@ -59,7 +59,7 @@ fn agents_that_do_not_exist() {
         &block,
         (0..3).flat_map(|state| next(state, 16)..next(state, 64)),
     );
-    let alone = job(1, 1, 1, 1, 1);
+    let alone = smallest(1, 1, 1, 1, 1);
     refuses_all("count of agents 1 and 2", &alone, count(0, 1)..count(1, 0));
     refuses_all(
         "next state with agent 1 or 2",
@@ -111,7 +111,7 @@ fn joint_actions_that_do_not_exist() {
 /// Agent 2's digit, at and above its count.
 #[test]
 fn joint_actions_of_the_third_agent() {
-    let mut block = job(3, 1, 2, 1, 1);
+    let mut block = smallest(3, 1, 2, 1, 1);
     block[count(0, 2)] = 3;
     let mut cases = Cases::default();
     cases.values("agent 2's action 2", &block, next(0, 32), &[(1, 0), (2, 4)]);

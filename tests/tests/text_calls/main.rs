@@ -7,6 +7,7 @@ mod lengths;
 mod random;
 mod round;
 
+use rbatl_tests::answers::{assert_each_came, number};
 use rbatl_tests::layout::*;
 use rbatl_tests::random::{any_sizes, block, cases, small_sizes, Rng};
 
@@ -22,21 +23,4 @@ fn any_job(rng: &mut Rng) -> Vec<u8> {
         _ => small_sizes(rng),
     };
     block(rng, sizes)
-}
-
-/// Answer 0 and a refusal's number, as an index; a length counts as 0.
-fn number(answer: i32) -> usize {
-    usize::try_from(-answer).unwrap_or(0)
-}
-
-/// Each of these answers must have come at least so often.
-fn assert_each_came(seen: &[u64], answers: &[usize], least: u64) {
-    println!("answers from 0: {seen:?}");
-    for &answer in answers {
-        assert!(
-            seen[answer] >= least,
-            "answer {answer} came only {} times: {seen:?}",
-            seen[answer]
-        );
-    }
 }

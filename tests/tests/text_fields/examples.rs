@@ -41,8 +41,8 @@ fn catch_with_byte_28() {
 /// gives 5."
 #[test]
 fn borders_not_starred() {
-    expect(&text_of(&job(2, 1, 24, 1, 6)), 0, "M 24");
-    let mut four = job(1, 1, 1, 1, 1);
+    expect(&text_of(&smallest(2, 1, 24, 1, 6)), 0, "M 24");
+    let mut four = smallest(1, 1, 1, 1, 1);
     four[count(0, 0)] = 4;
     let four = text_of(&four);
     assert!(four.contains("acts,0,0,4,0,0,0,0\n"));

@@ -43,7 +43,7 @@ fn sizes_in_range() {
             let mut sizes = [2, 1, 3, 1, 6];
             sizes[size] = value;
             let [agents, resources, states, propositions, rows] = sizes;
-            let expected = job(agents, resources, states, propositions, rows);
+            let expected = smallest(agents, resources, states, propositions, rows);
             let text = text_of(&expected);
             let block = expect(&text, 0, &format!("sizes {sizes:?}"));
             assert!(block == expected, "sizes {sizes:?}");

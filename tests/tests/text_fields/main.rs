@@ -8,6 +8,7 @@ mod order;
 mod rows;
 mod states;
 
+use rbatl_tests::jobs::smallest;
 use rbatl_tests::layout::*;
 use rbatl_tests::text_damage::NO_NUMBERS;
 use rbatl_tests::{agree, ffi, jobs, text};
@@ -171,32 +172,6 @@ impl Field {
 /// number, whose own end may be the right one.
 fn continues(other: &str, rest: &str) -> bool {
     other.is_empty() && rest.starts_with(|c: char| c.is_ascii_digit())
-}
-
-/// The smallest job of these sizes: everyone idles, every next state is 0, and
-/// every row is `prop,0`.
-fn job(
-    agents: usize,
-    resources: usize,
-    states: usize,
-    propositions: usize,
-    rows: usize,
-) -> Vec<u8> {
-    let mut block = vec![0; BLOCK_BYTES];
-    let sizes = Sizes {
-        agents,
-        resources,
-        states,
-        propositions,
-        rows,
-    };
-    sizes.store(&mut block);
-    for state in 0..states {
-        for agent in 0..agents {
-            block[count(state, agent)] = 1;
-        }
-    }
-    block
 }
 
 fn text_of(block: &[u8]) -> String {

@@ -7,7 +7,7 @@ fn proposition_exists() {
     Field::of(WIDE, "prop,[2]").holds(row(0, LEFT), 0..=2, 5);
     Field::of(WIDE, "prop,[0]").holds(row(6, LEFT), 0..=2, 5);
     Field::of(&catch(), "prop,[0]").holds(row(0, LEFT), 0..=0, 5);
-    let text = text_of(&job(1, 1, 1, 8, 1));
+    let text = text_of(&smallest(1, 1, 1, 8, 1));
     Field::of(&text, "prop,[0]").holds(row(0, LEFT), 0..=7, 5);
 }
 
@@ -34,7 +34,7 @@ fn operands_name_lower_rows() {
 /// Row 31, the last that there can be, of every kind with operands.
 #[test]
 fn operands_of_row_31() {
-    let rows = text_of(&job(1, 1, 1, 1, 32));
+    let rows = text_of(&smallest(1, 1, 1, 1, 32));
     let front = rows.strip_suffix("prop,0\n").expect("the last row");
     for (marked, operand) in [
         ("not,[30]", LEFT),
@@ -53,7 +53,7 @@ fn operands_of_row_31() {
 /// There is no row below row 0.
 #[test]
 fn row_0_has_no_operand() {
-    let front = text_of(&job(2, 1, 1, 1, 1));
+    let front = text_of(&smallest(2, 1, 1, 1, 1));
     let front = front.strip_suffix("prop,0\n").expect("the only row");
     for row in [
         "not,0",
@@ -69,7 +69,7 @@ fn row_0_has_no_operand() {
 #[test]
 fn team_of_agents_that_exist() {
     for agents in 1..=MAX_AGENTS {
-        let text = text_of(&job(agents, 1, 1, 1, 2));
+        let text = text_of(&smallest(agents, 1, 1, 1, 2));
         let front = text.strip_suffix("prop,0\n").expect("the last row");
         for marked in ["next,[1],0,0", "always,[1],0,0", "until,[1],0,0,0"] {
             let text = format!("{front}{}\n", marked.replace(['[', ']'], ""));

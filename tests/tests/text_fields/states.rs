@@ -15,7 +15,7 @@ fn state_index() {
 /// A state number of two digits.
 #[test]
 fn state_index_23() {
-    let text = text_of(&job(1, 1, 24, 1, 1));
+    let text = text_of(&smallest(1, 1, 24, 1, 1));
     Field::of(&text, "state,[23],0").is_fixed();
     Field::of(&text, "acts,[23],0,1,0").is_fixed();
     Field::of(&text, "go,[23],0,0").is_fixed();
@@ -27,7 +27,7 @@ fn mask_of_propositions_that_exist() {
     Field::of(WIDE, "state,1,[0]").holds(mask(1), 0..=7, 3);
     Field::of(&catch(), "state,2,[1]").holds(mask(2), 0..=1, 3);
     for propositions in 1..=MAX_PROPOSITIONS {
-        let text = text_of(&job(1, 1, 1, propositions, 1));
+        let text = text_of(&smallest(1, 1, 1, propositions, 1));
         let most = ((1 << propositions) - 1) as u8;
         Field::of(&text, "state,0,[0]").holds(mask(0), 0..=most, 3);
     }
@@ -70,7 +70,7 @@ fn count_in_range() {
     for agents in 1..=MAX_AGENTS {
         for resources in 1..=MAX_RESOURCES {
             for actions in 1..=MAX_ACTIONS {
-                let mut expected = job(agents, resources, 2, 1, 1);
+                let mut expected = smallest(agents, resources, 2, 1, 1);
                 expected[count(1, agents - 1)] = actions as u8;
                 let name = format!("N {agents}, R {resources}, count {actions}");
                 let text = text_of(&expected);
@@ -196,7 +196,7 @@ fn next_state_exists() {
     Field::of(WIDE, "go,0,1,0,1,[0]").holds(next(0, 17), 0..=1, 4);
     Field::of(&catch(), "go,0,1,1,[0]").holds(next(0, 5), 0..=2, 4);
     for states in [1, 2, 9, 10, 11, 24] {
-        let text = text_of(&job(1, 1, states, 1, 1));
+        let text = text_of(&smallest(1, 1, states, 1, 1));
         let last = states as u8 - 1;
         Field::of(&text, "go,0,0,[0]").holds(next(0, 0), 0..=last, 4);
         let marked = format!("go,{last},0,[0]");

@@ -1,0 +1,37 @@
+//! The jobs that are timed. Each has one strategic row, over two propositions.
+
+use rbatl_tests::games;
+use rbatl_tests::layout::{ALWAYS, NEXT, UNTIL};
+use rbatl_tests::random::Rng;
+
+/// The strategic row.
+pub const ROW: usize = 2;
+
+const SEED: u64 = 0x62_656E_6368;
+
+pub struct Case {
+    pub name: String,
+    pub job: Vec<u8>,
+}
+
+/// Short plays go anywhere, steps lead to near states, and in a ring the play
+/// is as long as it can be, along the sweep's order of states or against it.
+pub fn all() -> Vec<Case> {
+    let mut cases = Vec::new();
+    for (kind, word) in [(UNTIL, "until"), (ALWAYS, "always"), (NEXT, "next")] {
+        for (coalition, size) in [(1, "one agent"), (3, "two agents"), (7, "three agents")] {
+            let mut add = |plays: &str, job| {
+                let name = format!("{word}, {size}, {plays}");
+                cases.push(Case { name, job });
+            };
+            let mut rng = Rng::for_case(SEED, coalition.into());
+            add("short", games::maze(&mut rng, kind, coalition, 0));
+            if kind != NEXT {
+                add("steps", games::maze(&mut rng, kind, coalition, 2));
+                add("long", games::ring(kind, coalition, true));
+                add("long back", games::ring(kind, coalition, false));
+            }
+        }
+    }
+    cases
+}

@@ -1,0 +1,208 @@
+//! The same sweeps in plain Rust: in place, over states, the coalition's moves
+//! and the stock places that can pay them, until nothing changes; then one pass
+//! for the moves. The moves of each state are worked out once beforehand.
+
+use rbatl_tests::layout::*;
+
+const NEVER: u16 = u16::MAX;
+const NO_MOVE: u8 = u8::MAX;
+
+/// A coalition's move: its number, where the replies lead, and its cost.
+struct Move {
+    number: u8,
+    targets: Vec<usize>,
+    cost: [usize; 2],
+}
+
+/// The strategic row of a job of full size, over two rows of propositions.
+pub struct Sweeper {
+    kind: u8,
+    left: Vec<bool>,
+    right: Vec<bool>,
+    /// Stock places of each resource, and of both.
+    sizes: [usize; 2],
+    stocks: usize,
+    moves: Vec<Vec<Move>>,
+}
+
+impl Sweeper {
+    pub fn of(block: &[u8]) -> Sweeper {
+        let field = |field| block[row(crate::cases::ROW, field)];
+        let holds = |operand: u8| {
+            let proposition = block[row(operand.into(), LEFT)];
+            let states = 0..MAX_STATES;
+            states
+                .map(|s| block[mask(s)] >> proposition & 1 == 1)
+                .collect()
+        };
+        let sizes = [0, 1].map(|resource| usize::from(field(BOUND + resource)) + 1);
+        let states = 0..MAX_STATES;
+        Sweeper {
+            kind: field(KIND),
+            left: holds(field(LEFT)),
+            right: holds(field(RIGHT)),
+            sizes,
+            stocks: sizes[0] * sizes[1],
+            moves: states.map(|s| moves(block, s, field(COALITION))).collect(),
+        }
+    }
+
+    /// The set of states that win at full stock.
+    pub fn set(&self) -> u32 {
+        let ranks = self.ranks();
+        let wins = |state| self.wins(ranks[state * self.stocks + self.stocks - 1]);
+        (0..MAX_STATES)
+            .map(|state| u32::from(wins(state)) << state)
+            .sum()
+    }
+
+    pub fn table(&self) -> (Vec<u16>, Vec<u8>) {
+        let ranks = self.ranks();
+        let mut moves = vec![NO_MOVE; ranks.len()];
+        for state in 0..MAX_STATES {
+            self.fill_moves(state, &ranks, &mut moves);
+        }
+        (ranks, moves)
+    }
+
+    fn wins(&self, rank: u16) -> bool {
+        (rank == NEVER) == (self.kind == ALWAYS)
+    }
+
+    fn ranks(&self) -> Vec<u16> {
+        let mut ranks = vec![NEVER; MAX_STATES * self.stocks];
+        for state in 0..MAX_STATES {
+            let settled = match self.kind {
+                UNTIL => self.right[state],
+                ALWAYS => !self.left[state],
+                _ => false,
+            };
+            if settled {
+                ranks[state * self.stocks..][..self.stocks].fill(0);
+            }
+        }
+        let step = match self.kind {
+            NEXT => Sweeper::next_step,
+            ALWAYS => Sweeper::always_step,
+            _ => Sweeper::until_step,
+        };
+        let mut changed = true;
+        while changed {
+            changed = false;
+            for state in 0..MAX_STATES {
+                changed |= step(self, state, &mut ranks);
+            }
+            changed &= self.kind != NEXT;
+        }
+        ranks
+    }
+
+    /// The stock places that can pay the cost, each with the place left.
+    fn payable(&self, cost: [usize; 2]) -> impl Iterator<Item = (usize, usize)> {
+        let sizes = self.sizes;
+        let spent = cost[0] * sizes[1] + cost[1];
+        (cost[0]..sizes[0]).flat_map(move |stock| {
+            let places = stock * sizes[1] + cost[1]..(stock + 1) * sizes[1];
+            places.map(move |place| (place, place - spent))
+        })
+    }
+
+    fn until_step(&self, state: usize, ranks: &mut [u16]) -> bool {
+        let mut changed = false;
+        if !self.left[state] || self.right[state] {
+            return false;
+        }
+        for mv in &self.moves[state] {
+            for (place, rest) in self.payable(mv.cost) {
+                let outcomes = mv.targets.iter().map(|&t| ranks[t * self.stocks + rest]);
+                let worst = outcomes.max().unwrap_or(NEVER);
+                let rank = &mut ranks[state * self.stocks + place];
+                if worst < NEVER && worst + 1 < *rank {
+                    *rank = worst + 1;
+                    changed = true;
+                }
+            }
+        }
+        changed
+    }
+
+    fn always_step(&self, state: usize, ranks: &mut [u16]) -> bool {
+        if !self.left[state] {
+            return false;
+        }
+        let mut best = vec![0; self.stocks];
+        for mv in &self.moves[state] {
+            for (place, rest) in self.payable(mv.cost) {
+                let outcomes = mv.targets.iter().map(|&t| ranks[t * self.stocks + rest]);
+                best[place] = outcomes.min().unwrap_or(0).max(best[place]);
+            }
+        }
+        let mut changed = false;
+        for (place, best) in best.into_iter().enumerate() {
+            let rank = &mut ranks[state * self.stocks + place];
+            if best < NEVER && best + 1 < *rank {
+                *rank = best + 1;
+                changed = true;
+            }
+        }
+        changed
+    }
+
+    fn next_step(&self, state: usize, ranks: &mut [u16]) -> bool {
+        for mv in &self.moves[state] {
+            if mv.targets.iter().all(|&target| self.left[target]) {
+                for (place, _) in self.payable(mv.cost) {
+                    ranks[state * self.stocks + place] = 1;
+                }
+            }
+        }
+        true
+    }
+
+    fn fill_moves(&self, state: usize, ranks: &[u16], moves: &mut [u8]) {
+        let first = state * self.stocks;
+        for mv in &self.moves[state] {
+            for (place, rest) in self.payable(mv.cost) {
+                let rank = ranks[first + place];
+                let good = |&target: &usize| match self.kind {
+                    UNTIL => ranks[target * self.stocks + rest] < rank,
+                    ALWAYS => ranks[target * self.stocks + rest] == NEVER,
+                    _ => self.left[target],
+                };
+                let open = self.wins(rank) && moves[first + place] == NO_MOVE;
+                let settled = self.kind == UNTIL && rank == 0;
+                if open && (settled || mv.targets.iter().all(good)) {
+                    moves[first + place] = mv.number;
+                }
+            }
+        }
+    }
+}
+
+/// The moves of a state in rising number.
+fn moves(block: &[u8], state: usize, coalition: u8) -> Vec<Move> {
+    let mut moves: Vec<Move> = Vec::new();
+    let mut places = [usize::MAX; JOINTS];
+    for joint in 0..JOINTS {
+        let agents = (0..MAX_AGENTS).filter(|agent| coalition >> agent & 1 == 1);
+        let (mut number, mut spent) = (0, [0; 2]);
+        for agent in agents {
+            let action = actions(joint)[agent];
+            number += action << (2 * agent);
+            spent[0] += usize::from(block[cost(state, agent, action, 0)]);
+            spent[1] += usize::from(block[cost(state, agent, action, 1)]);
+        }
+        // The first joint action of a move is the one whose opponents idle.
+        if number == joint {
+            places[number] = moves.len();
+            moves.push(Move {
+                number: number as u8,
+                targets: Vec::new(),
+                cost: spent,
+            });
+        }
+        let target = block[next(state, joint)];
+        moves[places[number]].targets.push(target.into());
+    }
+    moves
+}

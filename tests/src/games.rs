@@ -1,0 +1,272 @@
+//! Random jobs with something to play for: states that lead on to one another,
+//! costs that a bound pays for several times, and mostly strategic rows.
+
+use crate::layout::*;
+use crate::random::Rng;
+
+/// What the jobs of a kind have in common.
+#[derive(Clone, Copy)]
+pub struct Shape {
+    pub sizes: Sizes,
+    /// The most actions, the largest cost and the largest limited bound.
+    pub actions: usize,
+    pub cost: u8,
+    pub bound: u8,
+    /// Every agent has that many actions, and every bound is that bound.
+    pub fixed: bool,
+    /// The coalition whose move mostly decides the next state, or none.
+    pub driver: u8,
+}
+
+/// So small that strategies can be tried outright.
+pub fn tiny(rng: &mut Rng) -> Vec<u8> {
+    let sizes = Sizes {
+        agents: rng.within(1..=2),
+        resources: rng.within(1..=2),
+        states: rng.within(1..=4),
+        propositions: 2,
+        rows: rng.within(5..=7),
+    };
+    let bound = rng.within(0..=if sizes.resources == 1 { 3 } else { 1 }) as u8;
+    let shape = Shape {
+        sizes,
+        actions: 2,
+        cost: 2,
+        bound,
+        fixed: false,
+        driver: driver(rng, sizes.agents),
+    };
+    block(rng, shape)
+}
+
+pub fn small(rng: &mut Rng) -> Vec<u8> {
+    let sizes = Sizes {
+        agents: rng.within(1..=MAX_AGENTS),
+        resources: rng.within(1..=MAX_RESOURCES),
+        states: rng.within(1..=6),
+        propositions: rng.within(2..=3),
+        rows: rng.within(5..=9),
+    };
+    let shape = Shape {
+        sizes,
+        actions: rng.within(2..=MAX_ACTIONS),
+        cost: rng.pick(&[1, 2, 3, 5, MAX_COST]),
+        bound: rng.pick(&[1, 3, 6, MAX_BOUND]),
+        fixed: false,
+        driver: driver(rng, sizes.agents),
+    };
+    block(rng, shape)
+}
+
+/// As many positions as there can be: 24 states and bounds 15 and 15, three
+/// agents with four actions everywhere.
+pub fn full(rng: &mut Rng) -> Vec<u8> {
+    let rows = rng.within(7..=9);
+    let shape = Shape {
+        sizes: Sizes {
+            rows,
+            ..Sizes::FULL
+        },
+        actions: MAX_ACTIONS,
+        cost: rng.pick(&[1, 2, 4, MAX_COST]),
+        bound: MAX_BOUND,
+        fixed: true,
+        driver: driver(rng, MAX_AGENTS),
+    };
+    block(rng, shape)
+}
+
+/// None in one job of three.
+fn driver(rng: &mut Rng, agents: usize) -> u8 {
+    match rng.one_in(3) {
+        true => 0,
+        false => rng.within(1..=(1 << agents) - 1) as u8,
+    }
+}
+
+/// A ring of full size that the coalition can go round once for each unit of
+/// its stock, the longest play that there can be for always. Every step is
+/// forced but one: the gate, the last state on the way, leads to the end, where
+/// proposition 1 holds and proposition 0 does not, unless an agent of the
+/// coalition pays. `rising` says whether the states come in rising order.
+pub fn ring(kind: u8, coalition: u8, rising: bool) -> Vec<u8> {
+    let mut block = full_frame(kind, coalition);
+    let (gate, end) = (MAX_STATES - 2, MAX_STATES - 1);
+    let state = |place: usize| if rising { place } else { end - place };
+    for place in 0..MAX_STATES {
+        block[mask(state(place))] = if place == end { 2 } else { 1 };
+        fill_paying_actions(&mut block, state(place));
+        for joint in 0..JOINTS {
+            let pays = |agent| coalition >> agent & 1 == 1 && actions(joint)[agent] != 0;
+            let target = match (0..MAX_AGENTS).any(pays) {
+                true if place == gate => 0,
+                _ => end.min(place + 1),
+            };
+            block[next(state(place), joint)] = state(target) as u8;
+        }
+    }
+    block
+}
+
+/// A random job of full size. A joint action leads at most `reach` states on,
+/// or, with reach 0, anywhere. Proposition 0 is common, and 1 is rare. The
+/// coalition drives, but not in always, which it would win at once.
+pub fn maze(rng: &mut Rng, kind: u8, coalition: u8, reach: usize) -> Vec<u8> {
+    let mut block = full_frame(kind, coalition);
+    let shape = Shape {
+        sizes: Sizes::of(&block),
+        actions: MAX_ACTIONS,
+        cost: 2,
+        bound: MAX_BOUND,
+        fixed: true,
+        driver: if kind == ALWAYS { 0 } else { coalition },
+    };
+    for state in 0..MAX_STATES {
+        fill_actions(rng, &mut block, shape, state);
+        fill_next(rng, &mut block, shape, state, reach);
+        block[mask(state)] = u8::from(!rng.one_in(12)) + 2 * u8::from(rng.one_in(12));
+    }
+    block
+}
+
+/// The rows of a job of full size: propositions 0 and 1, and a row of the kind
+/// over them with bounds 15 and 15.
+fn full_frame(kind: u8, coalition: u8) -> Vec<u8> {
+    let mut block = vec![0; BLOCK_BYTES];
+    let rows = 3;
+    let sizes = Sizes {
+        rows,
+        ..Sizes::FULL
+    };
+    sizes.store(&mut block);
+    block[row(1, LEFT)] = 1;
+    block[row(2, KIND)] = kind;
+    block[row(2, RIGHT)] = u8::from(kind == UNTIL);
+    block[row(2, COALITION)] = coalition;
+    block[row(2, BOUND)..row(2, PADDING)].fill(MAX_BOUND);
+    block
+}
+
+/// Actions 1, 2 and 3 take one unit of the first, the second or both resources.
+fn fill_paying_actions(block: &mut [u8], state: usize) {
+    for agent in 0..MAX_AGENTS {
+        block[count(state, agent)] = MAX_ACTIONS as u8;
+        for action in 1..MAX_ACTIONS {
+            for resource in 0..MAX_RESOURCES {
+                block[cost(state, agent, action, resource)] = (action >> resource & 1) as u8;
+            }
+        }
+    }
+}
+
+/// Rows 0 to 3 are a rare proposition, a common one, not the rare one, and
+/// true.
+fn block(rng: &mut Rng, shape: Shape) -> Vec<u8> {
+    let mut block = vec![0; BLOCK_BYTES];
+    shape.sizes.store(&mut block);
+    let reach = rng.within(0..=3);
+    for state in 0..shape.sizes.states {
+        fill_actions(rng, &mut block, shape, state);
+        fill_next(rng, &mut block, shape, state, reach);
+        block[mask(state)] = propositions(rng, shape.sizes.propositions);
+    }
+    block[row(1, LEFT)] = 1;
+    block[row(2, KIND)] = NOT;
+    block[row(3, KIND)] = OR;
+    block[row(3, RIGHT)] = 2;
+    for i in 4..shape.sizes.rows {
+        fill_row(rng, &mut block, shape, i);
+    }
+    block
+}
+
+/// Proposition 0 is rare, the others common.
+fn propositions(rng: &mut Rng, count: usize) -> u8 {
+    let rare = u8::from(rng.one_in(5));
+    (1..count).fold(rare, |mask, k| mask | u8::from(!rng.one_in(4)) << k)
+}
+
+fn fill_actions(rng: &mut Rng, block: &mut [u8], shape: Shape, state: usize) {
+    for agent in 0..shape.sizes.agents {
+        let actions = match shape.fixed {
+            true => shape.actions,
+            false => rng.within(1..=shape.actions),
+        };
+        block[count(state, agent)] = actions as u8;
+        for action in 1..actions {
+            for resource in 0..shape.sizes.resources {
+                let free = rng.one_in(3);
+                let spent = if free {
+                    0
+                } else {
+                    rng.within(0..=shape.cost.into())
+                };
+                block[cost(state, agent, action, resource)] = spent as u8;
+            }
+        }
+    }
+}
+
+/// Mostly at most `reach` states on, so that plays are long; with reach 0 any.
+/// Where a coalition drives, its move mostly leads where the idle reply does.
+fn fill_next(rng: &mut Rng, block: &mut [u8], shape: Shape, state: usize, reach: usize) {
+    let states = shape.sizes.states;
+    let joints: Vec<usize> = joint_actions(block, state).collect();
+    for joint in joints {
+        let number = part(joint, shape.driver);
+        let target = match reach {
+            _ if shape.driver != 0 && number != joint && !rng.one_in(32) => {
+                block[next(state, number)].into()
+            }
+            0 => rng.below(states),
+            _ if rng.one_in(16) => rng.below(states),
+            _ => (state + rng.within(0..=reach)) % states,
+        };
+        block[next(state, joint)] = target as u8;
+    }
+}
+
+/// The coalition's part of a joint action.
+fn part(joint: usize, coalition: u8) -> usize {
+    let agents = (0..MAX_AGENTS).filter(|agent| coalition >> agent & 1 == 1);
+    agents.map(|a| actions(joint)[a] << (2 * a)).sum()
+}
+
+fn fill_row(rng: &mut Rng, block: &mut [u8], shape: Shape, i: usize) {
+    let kind = rng.pick(&[
+        PROP, NOT, OR, NEXT, NEXT, ALWAYS, ALWAYS, ALWAYS, UNTIL, UNTIL, UNTIL, UNTIL,
+    ]);
+    block[row(i, KIND)] = kind;
+    block[row(i, LEFT)] = match kind {
+        PROP => rng.below(shape.sizes.propositions),
+        UNTIL if rng.one_in(2) => rng.pick(&[1, 3]),
+        ALWAYS if rng.one_in(2) => rng.pick(&[1, 2]),
+        _ => operand(rng, i),
+    } as u8;
+    if uses_right(kind) {
+        block[row(i, RIGHT)] = operand(rng, i) as u8;
+    }
+    if is_strategic(kind) {
+        let coalitions = (1 << shape.sizes.agents) - 1;
+        block[row(i, COALITION)] = match shape.driver {
+            driver if driver != 0 && rng.one_in(2) => driver,
+            _ => rng.within(1..=coalitions) as u8,
+        };
+        for resource in 0..shape.sizes.resources {
+            block[row(i, BOUND + resource)] = match shape.fixed {
+                true => shape.bound,
+                false if rng.one_in(5) => UNLIMITED,
+                false => rng.within(0..=shape.bound.into()) as u8,
+            };
+        }
+    }
+}
+
+/// A lower row, most often the rare proposition, and true not at all.
+fn operand(rng: &mut Rng, i: usize) -> usize {
+    match rng.within(0..=i) {
+        3 => 0,
+        row if row == i => 0,
+        row => row,
+    }
+}

@@ -1,0 +1,88 @@
+//! The calls that label rows and fill tables, from document 01 and by the
+//! checker's search on positions.
+
+use crate::checker::search;
+use crate::checker::structure::{Set, Structure};
+use crate::layout::MAX_ROWS;
+use crate::{block, refusal};
+
+pub const SETS_BYTES: usize = 4 * MAX_ROWS;
+pub const ROOM_BYTES: usize = 12_288;
+pub const RANKS_BYTES: usize = 12_288;
+pub const MOVES_BYTES: usize = 6_144;
+
+/// What the calls make of a block; it is labelled once for all of them.
+pub struct Model {
+    job: Result<Job, u8>,
+}
+
+struct Job {
+    structure: Structure,
+    sets: Vec<Set>,
+}
+
+impl Model {
+    pub fn of(bytes: &[u8]) -> Model {
+        let job = match block::check(bytes) {
+            0 => {
+                let structure = Structure::of(bytes);
+                let sets = search::label(&structure);
+                Ok(Job { structure, sets })
+            }
+            number => Err(number),
+        };
+        Model { job }
+    }
+
+    /// The labelling call. A refusal leaves the sets as they were; the room
+    /// holds zeros afterwards, unless a length is wrong.
+    pub fn label(&self, sets: &mut [u8], room: &mut [u8]) -> i32 {
+        let lengths = sets.len() == SETS_BYTES && room.len() == ROOM_BYTES;
+        if !lengths || self.number() == refusal::LENGTH {
+            return -i32::from(refusal::LENGTH);
+        }
+        room.fill(0);
+        match &self.job {
+            Ok(job) => {
+                store(sets, job.sets.iter().flat_map(|set| set.to_le_bytes()));
+                0
+            }
+            Err(number) => -i32::from(*number),
+        }
+    }
+
+    /// The table call. A refusal leaves both buffers as they were.
+    pub fn table(&self, row: u8, ranks: &mut [u8], moves: &mut [u8]) -> i32 {
+        if ranks.len() != RANKS_BYTES || moves.len() != MOVES_BYTES {
+            return -i32::from(refusal::LENGTH);
+        }
+        let job = match &self.job {
+            Ok(job) => job,
+            Err(number) => return -i32::from(*number),
+        };
+        let row = usize::from(row);
+        let exists = row < job.sets.len();
+        let table = exists.then(|| search::table(&job.structure, row, &job.sets));
+        let Some(table) = table.flatten() else {
+            return -i32::from(refusal::ROW_CHOICE);
+        };
+        store(
+            ranks,
+            table.ranks.iter().flat_map(|rank| rank.to_le_bytes()),
+        );
+        store(moves, table.moves.iter().copied());
+        0
+    }
+
+    /// The refusal number of the block, or 0.
+    pub fn number(&self) -> u8 {
+        self.job.as_ref().err().copied().unwrap_or(0)
+    }
+}
+
+/// The bytes, and zeros after them.
+fn store(buffer: &mut [u8], bytes: impl Iterator<Item = u8>) {
+    let bytes: Vec<u8> = bytes.collect();
+    buffer.fill(0);
+    buffer[..bytes.len()].copy_from_slice(&bytes);
+}

@@ -1,0 +1,98 @@
+//! Catch: its listing and its starred values, and the sensor network of
+//! document 003.
+
+use super::*;
+use rbatl_tests::checker::splits;
+use rbatl_tests::checker::NEVER;
+use rbatl_tests::{block, jobs};
+use std::fmt::Write;
+
+const LISTING: &str = "\
+list,6
+set,0,1,4
+set,1,2,3
+set,2,3,7
+set,3,2,6
+plan,3,1,1,1
+plan,3,2,0,0
+set,4,3,7
+plan,4,0,2,1
+plan,4,1,1,1
+plan,4,2,0,0
+set,5,2,6
+plan,5,1,1,1
+plan,5,2,0,0
+";
+
+fn catch() -> Solved {
+    Solved::of(&jobs::load("catch.job"))
+}
+
+/// The listing that document 01 prints.
+fn listing(job: &Solved) -> String {
+    let mut text = format!("list,{}\n", job.sets.len());
+    for (row, set) in job.sets.iter().enumerate() {
+        writeln!(text, "set,{row},{},{set}", set.count_ones()).unwrap();
+        let Some(table) = job.table(row) else {
+            continue;
+        };
+        for state in (0..job.structure.states).filter(|state| set >> state & 1 == 1) {
+            let position = table.full_stock(state);
+            let (rank, mv) = (table.ranks[position], table.moves[position]);
+            writeln!(text, "plan,{row},{state},{rank},{mv}").unwrap();
+        }
+    }
+    text
+}
+
+#[test]
+fn catch_has_its_listing() {
+    assert_eq!(listing(&catch()), LISTING);
+}
+
+#[test]
+fn catch_has_its_sets_by_splits() {
+    let sets = splits::label(&catch().structure);
+    assert_eq!(sets, [4, 3, 7, 6, 7, 6]);
+}
+
+#[test]
+fn catch_has_its_ranks() {
+    let table = catch().table(4).unwrap();
+    for (state, stock, rank) in [(0, 5, 2), (0, 4, NEVER), (1, 3, 1), (1, 2, NEVER)] {
+        let position = table.position(state, &[stock]);
+        assert_eq!(table.ranks[position], rank, "state {state}, stock {stock}");
+    }
+}
+
+#[test]
+fn catch_has_its_replies() {
+    let table = catch().table(3).unwrap();
+    let position = table.position(0, &[5]);
+    assert_eq!(table.affordable(position), [0, 1]);
+    assert_eq!(table.reply(position, 1), 4);
+    assert_eq!(table.reply(position, 0), 0);
+}
+
+/// Catch and a seventh row, `always,2,0,1`.
+#[test]
+fn catch_has_its_seventh_row() {
+    let job = jobs::catch_with_always();
+    assert_eq!(block::check(&job), 0);
+    let solved = Solved::of(&job);
+    assert_eq!(solved.sets[6], 1);
+    assert_eq!(splits::label(&solved.structure)[6], 1);
+    let table = solved.table(6).unwrap();
+    assert_eq!(table.moves[table.full_stock(0)], 4);
+}
+
+/// Section 2.4 of document 003.
+#[test]
+fn sensor_has_the_truths_of_the_paper() {
+    let solved = Solved::of(&jobs::load("sensor.job"));
+    assert_eq!(splits::label(&solved.structure), solved.sets);
+    for row in [3, 5, 7] {
+        assert!(solved.sets[row] & 1 == 1, "row {row} in state 0");
+    }
+    assert!(solved.sets[4] & 1 == 0, "row 4 in state 0");
+}

@@ -1,0 +1,51 @@
+//! `rbatl_label` and `rbatl_table` beside the checker made from document 003:
+//! the same answers and the same lent buffers afterwards, on many jobs.
+
+mod borders;
+mod catch;
+mod limits;
+mod random;
+
+use rbatl_tests::agree::{self, Outcome};
+use rbatl_tests::answers::{assert_each_came, number};
+use rbatl_tests::solver::*;
+
+/// What the lent buffers hold before a call.
+struct Lent {
+    sets: Vec<u8>,
+    room: Vec<u8>,
+    ranks: Vec<u8>,
+    moves: Vec<u8>,
+}
+
+impl Lent {
+    /// Buffers that have the right lengths and bytes of no meaning.
+    fn patterned() -> Lent {
+        Lent::with(agree::pattern)
+    }
+
+    fn filled(byte: u8) -> Lent {
+        Lent::with(|length| vec![byte; length])
+    }
+
+    fn with(buffer: impl Fn(usize) -> Vec<u8>) -> Lent {
+        Lent {
+            sets: buffer(SETS_BYTES),
+            room: buffer(ROOM_BYTES),
+            ranks: buffer(RANKS_BYTES),
+            moves: buffer(MOVES_BYTES),
+        }
+    }
+
+    /// Labelling the block, as the library and the model agree.
+    fn label(&self, block: &[u8], model: &Model, what: &str) -> Outcome {
+        let lent = [&self.sets[..], &self.room[..]];
+        agree::label(block, model, lent, || what.to_string())
+    }
+
+    /// The table of the row, as the library and the model agree.
+    fn table(&self, block: &[u8], model: &Model, row: u8, what: &str) -> Outcome {
+        let lent = [&self.ranks[..], &self.moves[..]];
+        agree::table(block, model, row, lent, || what.to_string())
+    }
+}

@@ -1,0 +1,84 @@
+//! Random jobs, whole and damaged, small and of full size.
+
+use super::*;
+use rbatl_tests::damage::damage;
+use rbatl_tests::games;
+use rbatl_tests::layout::*;
+use rbatl_tests::random::{block, cases, small_sizes, Rng};
+
+const SEED: u64 = 0x736F_6C76_6572;
+const CASES: u64 = 20_000;
+const FULL_CASES: u64 = 50;
+
+/// Some jobs with something to play for, some with rows of every shape.
+fn small_job(rng: &mut Rng) -> Vec<u8> {
+    if rng.one_in(4) {
+        let sizes = small_sizes(rng);
+        block(rng, sizes)
+    } else {
+        games::small(rng)
+    }
+}
+
+/// What the buffers hold beforehand must not matter.
+fn lents() -> [Lent; 3] {
+    [Lent::patterned(), Lent::filled(0), Lent::filled(255)]
+}
+
+/// Labels the job and fills the table of each row, and asks for rows that have
+/// none. Counts the answers.
+fn all_calls(job: &[u8], lent: &Lent, what: &str, seen: &mut [u64; 9]) {
+    let model = Model::of(job);
+    seen[number(lent.label(job, &model, what).answer)] += 1;
+    let rows = job.get(ROWS).copied().unwrap_or(0).min(MAX_ROWS as u8);
+    for row in (0..=rows).chain([255]) {
+        seen[number(lent.table(job, &model, row, what).answer)] += 1;
+    }
+}
+
+#[test]
+fn whole_jobs() {
+    let (lents, mut seen) = (lents(), [0; 9]);
+    for case in 0..cases(CASES) {
+        let job = small_job(&mut Rng::for_case(SEED, case));
+        let lent = &lents[(case % 3) as usize];
+        all_calls(&job, lent, &format!("case {case}"), &mut seen);
+    }
+    assert_each_came(&seen, &[0], 3 * cases(CASES));
+    assert_eq!(
+        seen[1..8],
+        [0; 7],
+        "a whole job is refused for its row alone"
+    );
+}
+
+#[test]
+fn damaged_jobs() {
+    let (lents, mut seen) = (lents(), [0; 9]);
+    for case in 0..cases(CASES) {
+        let mut rng = Rng::for_case(!SEED, case);
+        let mut job = small_job(&mut rng);
+        let how = damage(&mut rng, &mut job);
+        let lent = &lents[(case % 3) as usize];
+        all_calls(
+            &job,
+            lent,
+            &format!("case {case}, damage: {how}"),
+            &mut seen,
+        );
+    }
+    assert_each_came(&seen, &[0, 1, 2, 3, 4, 5, 6, 8], cases(CASES) / 50);
+    assert_eq!(seen[7], 0, "no call on a block answers 7");
+}
+
+/// 6,144 positions in every strategic row.
+#[test]
+fn full_jobs() {
+    let (lents, mut seen) = (lents(), [0; 9]);
+    for case in 0..FULL_CASES.max(cases(CASES) / 400) {
+        let job = games::full(&mut Rng::for_case(SEED ^ 1, case));
+        let lent = &lents[(case % 3) as usize];
+        all_calls(&job, lent, &format!("case {case}"), &mut seen);
+    }
+    assert_each_came(&seen, &[0, 8], 3 * FULL_CASES);
+}
