@@ -4,3 +4,4 @@ pub mod Masks
 pub mod Digits
 pub mod Places
 pub mod Passing
+pub mod Zeros

@@ -10,3 +10,4 @@ pub mod Starting
 pub mod Marking
 pub mod Words
 pub mod Ranking
+pub mod Labelling

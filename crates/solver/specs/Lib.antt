@@ -6,3 +6,5 @@ pub mod Solving
 pub mod Tables
 pub mod Next
 pub mod Rows
+pub mod Calls
+pub mod Labels

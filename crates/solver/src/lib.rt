@@ -1,5 +1,6 @@
 // Ranks, moves and sets of the rows of a block, found by sweeps over the positions of a row.
 pub mod gather;
+pub mod label;
 pub mod next;
 pub mod payable;
 pub mod rows;

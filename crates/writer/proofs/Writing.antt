@@ -6,7 +6,7 @@ use Prim.Native.Nat.{ℕ, suc, _+_, _-_, _≤_, _<_}
 use native.Mathlib.Nat.{add-zero, sub-zero}
 use native.Mathlib.Numerals.{add-one}
 use native.Mathlib.Omega.{arith}
-use lib.ListN.{length, getD, take, set, replicate, replicate-append-replicate}
+use lib.ListN.{length, getD, take, set}
 use lib.Seq.{take-suc, take-suc-set, take-all}
 use borrow.Author.Tests.{lt-ltb, ne-eqb}
 use Rattle.block.specs.Layout as L
@@ -91,25 +91,3 @@ module _ {z : Sizes} {s count a : ℕ} {b : Block} {t u : List ℕ} {place next 
       ap (λ (n : ℕ). take next u ++ write (f (countsTo b s n)) b) e
       ∙ ap (λ (g : Format). take next u ++ write g b) (sym (agents-done z s count a (countsTo b s a) f (omega arith)))
       ∙ r .so f
-
--- zeros have been stored from a place up to i
-pub record Zeroed (t : List ℕ) (place : ℕ) (u : List ℕ) (i : ℕ) : Type 0 where
-  pub so : take i u ≡ take place t ++ replicate (i - place) 0
-
-pub zeroed-none : {t : List ℕ} {place : ℕ} → Zeroed t place t place
-zeroed-none {t} {place} =
-    let none : place - place ≡ 0 = omega arith in
-    record { so = rw (none, append-nil) refl }
-
-module _ {t u : List ℕ} {place i : ℕ} (z : Zeroed t place u i) (h : place ≤ i) where
-  pub zeroed-more : i < length u → Zeroed t place (set u i 0) (i + 1)
-  zeroed-more l =
-      let more : i + 1 - place ≡ i - place + 1 = omega arith in
-      record {
-        so =
-            rw (more, ← replicate-append-replicate {A = ℕ} (i - place) 1 0, ← append-assoc, add-one i, take-suc-set u i 0)
-            (ap (λ (l : List ℕ). l ++ 0 ∷ []) (z .so));
-      }
-
-  pub zeroed-all : length u ≤ i → i ≡ length t → u ≡ take place t ++ replicate (length t - place) 0
-  zeroed-all l e = sym (take-all i u l) ∙ z .so ∙ ap (λ (n : ℕ). take place t ++ replicate (n - place) 0) e

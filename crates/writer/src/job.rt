@@ -1,13 +1,12 @@
-// The text of a block, and the zeros after it.
+// The text of a block.
 use crate::output::number;
 use crate::output::word;
 use crate::rows::row_lines;
 use crate::states::states;
 use block::layout;
-ghost use mathlib.Core.List.{_++_};
 ghost use mathlib.Core.Path.{_≡_};
-ghost use Prim.Native.Nat.{_+_, _-_, _≤_};
-ghost use lib.ListN.{length, take, replicate};
+ghost use Prim.Native.Nat.{_+_, _≤_};
+ghost use lib.ListN.{length, take};
 ghost use Rattle.block.specs.Valid.{Valid};
 ghost use Rattle.text.specs.Job as J;
 ghost use Rattle.text.specs.Text.{textBytes, textOf};
@@ -34,16 +33,4 @@ pub fn job(block: &[u8], text: &mut [u8]) -> usize
     let lines = header_line(block, text, 0);
     let rows = states(block, text, lines);
     row_lines(block, text, rows)
-}
-
-// Zeros from a place on.
-pub fn zeros(text: &mut [u8], at: usize)
-    requires { ⌜ at ≤ length (now text) ⌝ }
-    ensures { λ _. ⌜ now (text .exit) ≡ take at (now (text .entry)) ++ replicate (length (now (text .entry)) - at) 0 ⌝ }
-{
-    let mut i = at;
-    while i < text.len() {
-        text[i] = 0;
-        i += 1;
-    }
 }

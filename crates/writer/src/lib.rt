@@ -6,10 +6,10 @@ mod rows;
 mod states;
 pub mod written;
 
+use block::fill;
 use block::refusal::Checked;
 use block::refusal::Refusal;
 use job::job;
-use job::zeros;
 use text::TEXT_BYTES;
 use written::Written;
 ghost use Rattle.writer.specs.Call.{WriteCall};
@@ -24,7 +24,7 @@ pub fn write(block: &[u8], text: &mut [u8]) -> Written
     match block::check(block) {
         Checked::Passed => {
             let length = job(block, text);
-            zeros(text, length);
+            fill::zeros(text, length);
             Written::Length(length)
         }
         Checked::Refused(r) => Written::Refused(r),

@@ -3,21 +3,21 @@ use mathlib.Core.Path.{_≡_, refl}
 use Prim.Native.Nat.{_-_, _≤_}
 use native.Mathlib.Omega.{arith}
 use lib.ListN.{length, length-set}
-use Rattle.writer.proofs.Writing.{Zeroed, zeroed-none, zeroed-more, zeroed-all}
-use Rattle.writer.proofs.job.zeros.Statement.{statement}
-use Rattle.writer.proofs.job.zeros.Tie as tie
+use Rattle.block.proofs.Zeros.{Zeroed, zeroed-none, zeroed-more, zeroed-all}
+use Rattle.block.proofs.fill.zeros.Statement.{statement}
+use Rattle.block.proofs.fill.zeros.Tie as tie
 
 abbrev Inv-loop : tie.InvT-loop
-Inv-loop text₀ at i₀ text i = (at ≤ i) × ((i ≤ length text) × ((length text ≡ length text₀) × Zeroed text₀ at text i))
+Inv-loop buffer₀ at i₀ buffer i = (at ≤ i) × ((i ≤ length buffer) × ((length buffer ≡ length buffer₀) × Zeroed buffer₀ at buffer i))
 
 abbrev μ-loop : tie.MeasureT-loop
-μ-loop text₀ at i₀ text i = length text - i
+μ-loop buffer₀ at i₀ buffer i = length buffer - i
 
 loop-holds : tie.Need-loop-holds Inv-loop μ-loop
 loop-holds c = (omega arith, (omega arith, (refl, zeroed-none)))
 
-slice-write-text : tie.Need-slice-write-text Inv-loop μ-loop
-slice-write-text c = omega arith
+slice-write-buffer : tie.Need-slice-write-buffer Inv-loop μ-loop
+slice-write-buffer c = omega arith
 
 add-i : tie.Need-add-i Inv-loop μ-loop
 add-i c = omega arith
@@ -41,7 +41,7 @@ zeros-spec =
     Inv-loop
     μ-loop
     loop-holds
-    slice-write-text
+    slice-write-buffer
     add-i
     loop-less
     loop-again

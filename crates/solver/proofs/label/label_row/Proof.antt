@@ -1,0 +1,74 @@
+-- `label_row` ranks a strategic row and stores the word of the states in which the row is true. Assumes nothing.
+use mathlib.Core.List.{List}
+use mathlib.Core.Logic.{⊎-elim}
+use mathlib.Core.Path.{_≡_, refl, sym, _∙_, ap, subst}
+use Prim.Native.Nat.{ℕ, _≤_, _<_}
+use native.Mathlib.Omega.{arith}
+use lib.ListN.{length}
+use borrow.Author.Needs.{needs}
+use Rattle.block.specs.Layout as L
+use Rattle.game.specs.Buffers.{wordIn}
+use Rattle.game.specs.Model.{RowSet}
+use Rattle.solver.specs.Tables.{RanksOf}
+use Rattle.solver.proofs.Labelling.{row-labelled}
+use Rattle.solver.proofs.label.label_row.Statement.{statement}
+use Rattle.solver.proofs.label.label_row.Tie as tie
+
+left-set-requires : tie.Need-left-set-requires
+left-set-requires c κs = search needs
+
+right-set-requires : tie.Need-right-set-requires
+right-set-requires c κs = search needs
+
+kind-requires : tie.Need-kind-requires
+kind-requires c κs = search needs
+
+rank-row-requires : tie.Need-rank-row-requires
+rank-row-requires c κs =
+    let pre = c .before .before .before .before .before .before .before .before .before .before .pre in
+    (pre .0, (pre .1 .0 .0, (omega (arith, c .before .before .kind .ensures, c .before .if1 .taken), pre .0 .row-fits (c .before .before .before .before .before .before .before .before .before .before .args .i) (pre .1 .0 .0) .known), pre .1 .0 .2))
+
+-- the ranks keep their length
+long : (c : tie.Joined1) → length (c .if1 .ranks) ≡ length (c .before .before .before .before .before .before .before .before .before .args .ranks .now)
+long c = ⊎-elim (λ w. ap length (w .5) ∙ w .2 .ensures .1) (λ w. ap length (w .1)) (c .if1 .came)
+
+row-word-requires : tie.Need-row-word-requires
+row-word-requires c κs = let pre = c .before .before .before .before .before .before .before .before .before .before .pre in (pre .0, (pre .1 .0 .0, omega (arith, long (c .before), pre .1 .0 .2)))
+
+set-word-requires : tie.Need-set-word-requires
+set-word-requires c κs = search needs
+
+same-length : tie.Need-same-length
+same-length c = search needs
+
+same-length-2 : tie.Need-same-length-2
+same-length-2 c = long (c .before .before .before .before .before .before)
+
+-- a strategic row has its ranks
+ranked : (c : tie.Joined1) → L.Strategic (L.kind (c .before .before .before .before .before .before .before .before .before .args .block .now) (c .before .before .before .before .before .before .before .before .before .args .i)) → RanksOf (c .before .before .before .before .before .before .before .before .before .args .block .now) (c .before .before .before .before .before .before .before .before .before .args .i) (c .before .before .before .before .left-set .result) (c .before .before .right-set .result) (c .if1 .ranks)
+ranked c strategic =
+    ⊎-elim
+    (λ w. subst (RanksOf (c .before .before .before .before .before .before .before .before .before .args .block .now) (c .before .before .before .before .before .before .before .before .before .args .i) (c .before .before .before .before .left-set .result) (c .before .before .right-set .result)) (sym (w .5)) (w .2 .ensures .0))
+    (λ w. absurd (omega (arith, c .before .kind .ensures, w .0 .left, strategic)))
+    (c .if1 .came)
+
+returns : tie.Need-returns
+returns c =
+    let start = c .before .before .before .before .before .before .before .before .before .before .before .before .before .before .before in
+    let args = start .args in
+    let pre = start .pre in
+    let b = args .block .now in
+    let row = pre .0 .row-fits (args .i) (pre .1 .0 .0) in
+    let left = c .before .before .before .before .before .before .before .before .before .before .left-set in
+    let right = c .before .before .before .before .before .before .before .before .right-set in
+    let word = c .before .before .before .before .row-word in
+    let stored = c .before .before .set-word .ensures in
+    let set : RowSet b (args .i) (word .result) =
+    row-labelled b (pre .0) (args .i) (pre .1 .0 .0) (left .result) (right .result)
+    (λ uses. subst (RowSet b (L.left b (args .i))) (sym (left .ensures uses)) (pre .1 .1 (L.left b (args .i)) (row .left-lower uses)))
+    (λ uses. subst (RowSet b (L.right b (args .i))) (sym (right .ensures uses)) (pre .1 .1 (L.right b (args .i)) (row .right-lower uses)))
+    (c .before .before .before .before .before .before .if1 .ranks) (word .result) (word .ensures) (ranked (c .before .before .before .before .before .before)) in
+    (record { set = subst (RowSet b (args .i)) (sym (stored .stored)) set; others = stored .others; long = stored .kept }, long (c .before .before .before .before .before .before))
+
+pub label-row-spec : {M : Type 1} → statement M
+label-row-spec = tie.close (tie.spec left-set-requires right-set-requires kind-requires rank-row-requires row-word-requires set-word-requires same-length same-length-2 returns)

@@ -1,0 +1,68 @@
+// Labelling: the sets of the rows, each from the sets of lower rows.
+use crate::rows;
+use block::layout;
+use game::buffers;
+ghost use mathlib.Core.Path.{_≡_};
+ghost use Prim.Native.Nat.{ℕ, _≤_, _<_};
+ghost use lib.ListN.{length};
+ghost use Rattle.block.specs.Layout as L;
+ghost use Rattle.block.specs.Valid.{Valid};
+ghost use Rattle.game.specs.Buffers.{wordIn};
+ghost use Rattle.solver.specs.Labels.{LowerSets, RowLabelled};
+
+// The set of the row that row i names left; 0 where it names none.
+pub fn left_set(block: &[u8], sets: &[u8], i: usize) -> usize
+    requires { ⌜ Valid (now block) ⌝ }
+    requires { ⌜ (i < L.rows (now block)) × (128 ≤ length (now sets)) ⌝ }
+    ensures { λ r. ⌜ (L.propKind < L.kind (now (block .entry)) i → r ≡ wordIn (now (sets .entry)) (L.left (now (block .entry)) i)) ⌝ }
+{
+    if layout::kind(block, i) == 0 {
+        return 0;
+    }
+    buffers::word_at(sets, layout::left(block, i))
+}
+
+// The set of the row that row i names right; 0 where it names none.
+pub fn right_set(block: &[u8], sets: &[u8], i: usize) -> usize
+    requires { ⌜ Valid (now block) ⌝ }
+    requires { ⌜ (i < L.rows (now block)) × (128 ≤ length (now sets)) ⌝ }
+    ensures { λ r. ⌜ (L.Binary (L.kind (now (block .entry)) i) → r ≡ wordIn (now (sets .entry)) (L.right (now (block .entry)) i)) ⌝ }
+{
+    let kind = layout::kind(block, i);
+    if kind == 2 || kind == 5 {
+        return buffers::word_at(sets, layout::right(block, i));
+    }
+    0
+}
+
+// Stores the set of row i, where lower rows have theirs. The ranks are working room.
+fn label_row(block: &[u8], i: usize, sets: &mut [u8], ranks: &mut [u8])
+    requires { ⌜ Valid (now block) ⌝ }
+    requires { ⌜ (i < L.rows (now block)) × (128 ≤ length (now sets)) × (12288 ≤ length (now ranks)) ⌝ }
+    requires { ⌜ LowerSets (now block) i (now sets) ⌝ }
+    ensures { λ _. ⌜ RowLabelled (now (block .entry)) i (now (sets .entry)) (now (sets .exit)) ⌝ }
+    ensures { λ _. ⌜ length (now (ranks .exit)) ≡ length (now (ranks .entry)) ⌝ }
+{
+    let left = left_set(block, sets, i);
+    let right = right_set(block, sets, i);
+    if layout::kind(block, i) >= 3 {
+        rows::rank_row(block, i, left, right, ranks);
+    }
+    let w = rows::row_word(block, i, left, right, ranks);
+    buffers::set_word(sets, i, w);
+}
+
+// Stores the sets of the first n rows. The ranks are working room.
+pub fn label_rows(block: &[u8], n: usize, sets: &mut [u8], ranks: &mut [u8])
+    requires { ⌜ Valid (now block) ⌝ }
+    requires { ⌜ (n ≤ L.rows (now block)) × (128 ≤ length (now sets)) × (12288 ≤ length (now ranks)) ⌝ }
+    ensures { λ _. ⌜ LowerSets (now (block .entry)) n (now (sets .exit)) ⌝ }
+    ensures { λ _. ⌜ ((j : ℕ) → n ≤ j → wordIn (now (sets .exit)) j ≡ wordIn (now (sets .entry)) j) ⌝ }
+    ensures { λ _. ⌜ (length (now (sets .exit)) ≡ length (now (sets .entry))) × (length (now (ranks .exit)) ≡ length (now (ranks .entry))) ⌝ }
+{
+    let mut i = 0;
+    while i < n {
+        label_row(block, i, sets, ranks);
+        i += 1;
+    }
+}
