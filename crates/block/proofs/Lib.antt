@@ -5,3 +5,4 @@ pub mod Digits
 pub mod Places
 pub mod Passing
 pub mod Zeros
+pub mod Refusals

@@ -11,3 +11,4 @@ pub mod Marking
 pub mod Words
 pub mod Ranking
 pub mod Labelling
+pub mod Calls

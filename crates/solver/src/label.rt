@@ -1,6 +1,9 @@
 // Labelling: the sets of the rows, each from the sets of lower rows.
 use crate::rows;
+use block::fill;
 use block::layout;
+use block::refusal::Checked;
+use block::refusal::Refusal;
 use game::buffers;
 ghost use mathlib.Core.Path.{_≡_};
 ghost use Prim.Native.Nat.{ℕ, _≤_, _<_};
@@ -8,6 +11,7 @@ ghost use lib.ListN.{length};
 ghost use Rattle.block.specs.Layout as L;
 ghost use Rattle.block.specs.Valid.{Valid};
 ghost use Rattle.game.specs.Buffers.{wordIn};
+ghost use Rattle.solver.specs.Calls.{LabelCall};
 ghost use Rattle.solver.specs.Labels.{LowerSets, RowLabelled};
 
 // The set of the row that row i names left; 0 where it names none.
@@ -64,5 +68,32 @@ pub fn label_rows(block: &[u8], n: usize, sets: &mut [u8], ranks: &mut [u8])
     while i < n {
         label_row(block, i, sets, ranks);
         i += 1;
+    }
+}
+
+// The sets of all rows of a block that passes the check. The room is left filled with zeros, unless a buffer has another length.
+pub fn label(block: &[u8], sets: &mut [u8], room: &mut [u8]) -> Checked
+    ensures { λ r. ⌜ LabelCall (now (block .entry)) (now (sets .entry)) (now (room .entry)) (now (sets .exit)) (now (room .exit)) r ⌝ }
+{
+    if block.len() != layout::BLOCK_BYTES {
+        return Checked::Refused(Refusal::Length);
+    }
+    if sets.len() != 128 {
+        return Checked::Refused(Refusal::Length);
+    }
+    if room.len() != 12288 {
+        return Checked::Refused(Refusal::Length);
+    }
+    match block::check(block) {
+        Checked::Passed => {
+            fill::zeros(sets, 0);
+            label_rows(block, layout::rows(block), sets, room);
+            fill::zeros(room, 0);
+            Checked::Passed
+        }
+        Checked::Refused(r) => {
+            fill::zeros(room, 0);
+            Checked::Refused(r)
+        }
     }
 }

@@ -8,20 +8,15 @@ use native.Mathlib.Omega.{arith}
 use lib.ListN.{length, take, replicate}
 use lib.Seq.{length-take-le}
 use Rattle.block.specs.Layout.{Block}
-use Rattle.block.specs.Refusal.{numberOf, First, none, here, later}
+use Rattle.block.specs.Refusal.{numberOf, First, here}
 use Rattle.block.specs.Check.{Verdict, blockOrder}
 use Rattle.block.specs.declared.refusal.Refusal.{Refusal}
 use Rattle.block.specs.declared.refusal.Refusal.the-variants.{Length}
 use Rattle.text.specs.Text.{textBytes, textOf}
 use Rattle.writer.specs.Call.{Unwritable, WriteCall}
 use Rattle.writer.specs.declared.written.Written.the-variants as written
+use Rattle.block.proofs.Refusals.{first-same}
 use Rattle.text.proofs.Accepts.{round-trip}
-
--- the first condition that holds, of conditions that hold for the same refusals
-first-same : {P Q : Refusal → Type 0} {rs : List Refusal} {n : ℕ} → ((r : Refusal) → P r → Q r) → ((r : Refusal) → Q r → P r) → First P rs n → First Q rs n
-first-same f g (none e) = none e
-first-same f g (here h e) = here (f _ h) e
-first-same f g (later h w) = later (λ q. h (g _ q)) (first-same f g w)
 
 module _ {b : Block} (t : List ℕ) where
   -- with a buffer of the right length, the number is the check's

@@ -1,0 +1,101 @@
+-- `label` refuses first, and then labels every row into sets that hold zeros. Assumes nothing.
+use mathlib.Core.List.{List}
+use mathlib.Core.Logic.{inl, inr}
+use mathlib.Core.Path.{_≡_, sym, _∙_, ap, subst}
+use Prim.Native.Nat.{ℕ, _≤_, _<_}
+use native.Mathlib.Omega.{arith}
+use lib.ListN.{length}
+use Rattle.block.specs.Layout as L
+use Rattle.block.proofs.Passing.{passing}
+use Rattle.game.specs.Buffers.{wordIn}
+use Rattle.solver.specs.Labels.{LowerSets}
+use Rattle.solver.proofs.Calls.{cleared, zero-word, label-length, label-refused, label-passed}
+use borrow.Author.Needs.{needs}
+use Rattle.solver.proofs.label.label.Statement.{statement}
+use Rattle.solver.proofs.label.label.Tie as tie
+
+returns : tie.Need-returns
+returns c = let args = c .before .before .before .before .args in label-length (args .block .now) (args .sets .now) (args .room .now) (inl (c .if1 .taken))
+
+returns-2 : tie.Need-returns-2
+returns-2 c = let args = c .before .before .before .before .before .args in label-length (args .block .now) (args .sets .now) (args .room .now) (inr (inl (c .if2 .taken)))
+
+returns-3 : tie.Need-returns-3
+returns-3 c = let args = c .before .before .before .before .before .before .args in label-length (args .block .now) (args .sets .now) (args .room .now) (inr (inr (c .if3 .taken)))
+
+check-requires : tie.Need-check-requires
+check-requires c κs = search needs
+
+enum-told : tie.Need-enum-told
+enum-told c = search needs
+
+zeros-requires : tie.Need-zeros-requires
+zeros-requires c κs = search needs
+
+rows-requires : tie.Need-rows-requires
+rows-requires c κs = search needs
+
+label-rows-requires : tie.Need-label-rows-requires
+label-rows-requires c κs = (
+  passing (rw (c .before .before .before .before .before .before .before .enum-told .given .1) at (c .before .before .before .before .before .before .before .before .before .check .ensures)),
+  (omega (arith, c .before .before .rows .ensures), omega (arith, c .before .before .before .before .before .zeros .kept .0, c .before .before .before .before .before .before .before .before .before .before .before .if2 .left), omega (arith, c .before .before .before .before .before .before .before .before .before .before .if3 .left)),
+)
+
+zeros-requires-2 : tie.Need-zeros-requires-2
+zeros-requires-2 c κs = search needs
+
+enum-known-r : tie.Need-enum-known-r
+enum-known-r c = search needs
+
+zeros-requires-3 : tie.Need-zeros-requires-3
+zeros-requires-3 c κs = search needs
+
+same-length : tie.Need-same-length
+same-length c = search needs
+
+same-length-2 : tie.Need-same-length-2
+same-length-2 c = search needs
+
+returns-4 : tie.Need-returns-4
+returns-4 c =
+    let args = c .before .before .before .before .before .before .before .before .before .before .before .before .before .before .before .before .before .before .before .before .before .before .before .before .before .args in
+    let b = args .block .now in
+    let rows = c .before .before .before .before .before .before .before .before .label-rows in
+    let first = cleared (args .sets .now) (c .before .before .before .before .before .before .before .before .before .before .before .before .before .before .zeros .last .0) 128 (c .before .before .before .before .before .before .before .before .before .before .before .before .before .before .zeros .ensures) (c .before .before .before .before .before .before .before .before .before .before .before .before .before .before .before .before .before .before .before .before .if2 .left) in
+    let all = c .before .before .before .before .before .before .before .before .before .before .before .rows .ensures in
+    label-passed b (args .sets .now) (args .room .now) (c .before .before .before .before .before .before .before .before .before .before .before .before .before .before .before .before .before .before .before .before .before .if1 .left) (c .before .before .before .before .before .before .before .before .before .before .before .before .before .before .before .before .before .before .before .before .if2 .left) (c .before .before .before .before .before .before .before .before .before .before .before .before .before .before .before .before .before .before .before .if3 .left) (rows .last .1 .1 .0) (c .before .before .zeros2 .last .0)
+    (rw (c .before .before .before .before .before .before .before .before .before .before .before .before .before .before .before .before .enum-told .given .1) at (c .before .before .before .before .before .before .before .before .before .before .before .before .before .before .before .before .before .before .check .ensures))
+    (subst (λ (n : ℕ). LowerSets b n (rows .last .1 .1 .0)) all (rows .ensures .0))
+    (λ j l. rows .ensures .1 .0 j (omega (arith, all)) ∙ ap (λ (x : List ℕ). wordIn x j) first ∙ zero-word 128 j)
+    (omega (arith, rows .ensures .1 .1 .0, c .before .before .before .before .before .before .before .before .before .before .before .before .before .before .zeros .kept .0, c .before .before .before .before .before .before .before .before .before .before .before .before .before .before .before .before .before .before .before .before .if2 .left))
+    (cleared (rows .last .1 .1 .1 .0) (c .before .before .zeros2 .last .0) 12288 (c .before .before .zeros2 .ensures) (omega (arith, rows .ensures .1 .1 .1, c .before .before .before .before .before .before .before .before .before .before .before .before .before .before .before .before .before .before .before .if3 .left)))
+
+same-length-3 : tie.Need-same-length-3
+same-length-3 c = search needs
+
+returns-5 : tie.Need-returns-5
+returns-5 c =
+    let args = c .before .before .before .before .before .before .before .before .before .before .before .before .before .before .args in
+    label-refused (args .block .now) (args .sets .now) (args .room .now) (c .before .before .before .before .before .before .before .before .before .before .if1 .left) (c .before .before .before .before .before .before .before .before .before .if2 .left) (c .before .before .before .before .before .before .before .before .if3 .left) (c .before .before .before .before .before .r .given .0 .0) (c .before .before .zeros3 .last .0)
+    (rw (c .before .before .before .before .before .r .given .1) at (c .before .before .before .before .before .before .before .check .ensures)) (cleared (args .room .now) (c .before .before .zeros3 .last .0) 12288 (c .before .before .zeros3 .ensures) (c .before .before .before .before .before .before .before .before .if3 .left))
+
+pub label-spec : {M : Type 1} → statement M
+label-spec =
+    tie.close
+    (tie.spec
+    returns
+    returns-2
+    returns-3
+    check-requires
+    enum-told
+    zeros-requires
+    rows-requires
+    label-rows-requires
+    zeros-requires-2
+    enum-known-r
+    zeros-requires-3
+    same-length
+    same-length-2
+    returns-4
+    same-length-3
+    returns-5)
