@@ -7,3 +7,4 @@ pub mod Valuing
 pub mod Lowering
 pub mod Sweeping
 pub mod Starting
+pub mod Choosing

@@ -5,3 +5,4 @@ pub mod Sweeps
 pub mod Solving
 pub mod Tables
 pub mod Next
+pub mod Choices
