@@ -8,3 +8,4 @@ pub mod Lowering
 pub mod Sweeping
 pub mod Starting
 pub mod Choosing
+pub mod Hitting

@@ -1,12 +1,22 @@
 // The moves of a row's table. Each move is tried at every position before the next, so that the first that is good is the smallest.
+use crate::next;
+use crate::payable;
+use block::layout;
 use game::buffers;
+use game::moves;
+use game::positions;
 use game::replies;
 ghost use mathlib.Core.Path.{_≡_};
 ghost use Prim.Native.Nat.{ℕ, _+_, _*_, _-_, _≤_, _<_};
 ghost use lib.ListN.{length, getD};
 ghost use Rattle.block.specs.Decide.{Decides};
+ghost use Rattle.block.specs.Layout as L;
+ghost use Rattle.block.specs.Valid.{Valid};
+ghost use Rattle.game.specs.Position.{MoveOf, stockPlaces};
 ghost use Rattle.game.specs.Buffers.{rankIn};
-ghost use Rattle.solver.specs.Choices.{ClaimedBy, AimedBy, FirstMove, Tried, OneHits, HitAt};
+ghost use Rattle.game.specs.Model.{structureOf, coalitionOf, arenaOf};
+ghost use Rattle.solver.specs.Tables.{RanksOf, MovesOf};
+ghost use Rattle.solver.specs.Choices.{ClaimedBy, AimedBy, FirstMove, Tried, OneHits, Chosen, HitAt, HitsIn, HitsAny};
 
 // Whether a rank says that the coalition wins: in a next row where soon, else in an always row where ever, else in an until row.
 fn claimed(soon: bool, ever: bool, rank: usize) -> bool
@@ -114,6 +124,98 @@ fn choose(
     }
 }
 
+// Tries the move m in state s, at each stock place that pays it; c is how many stock places there are.
+fn choose_move(
+    block: &[u8],
+    i: usize,
+    s: usize,
+    m: usize,
+    c: usize,
+    soon: bool,
+    ever: bool,
+    left: usize,
+    ranks: &[u8],
+    moves: &mut [u8],
+)
+    requires { ⌜ Valid (now block) ⌝ }
+    requires { ⌜ (i < L.rows (now block)) × L.Strategic (L.kind (now block) i) × (s < L.states (now block)) ⌝ }
+    requires { ⌜ MoveOf (structureOf (now block)) (coalitionOf (now block) i) s m × (m < 64) ⌝ }
+    requires { ⌜ (c ≡ stockPlaces (arenaOf (now block) i)) × (12288 ≤ length (now ranks)) × (6144 ≤ length (now moves)) ⌝ }
+    ensures { λ _. ⌜ Tried (HitsIn (now (block .entry)) i soon ever left (now (ranks .entry)) m s) m (now (moves .entry)) (now (moves .exit)) ⌝ }
+{
+    let mut targets = [0; 64];
+    let mut places = [0; 256];
+    let n = replies::targets(block, i, s, m, c, &mut targets);
+    let count = payable::payable(block, i, s, m, &mut places);
+    let taken = positions::offset(block, i, s, m);
+    let into = next::leads_into(block, i, s, m, left);
+    choose(
+        ranks,
+        &targets,
+        n,
+        &places,
+        count,
+        taken,
+        s * c,
+        soon,
+        ever,
+        into,
+        m as u8,
+        moves,
+    );
+}
+
+// Tries the move m in every state where the team has it.
+fn choose_states(
+    block: &[u8],
+    i: usize,
+    m: usize,
+    c: usize,
+    soon: bool,
+    ever: bool,
+    left: usize,
+    ranks: &[u8],
+    moves: &mut [u8],
+)
+    requires { ⌜ Valid (now block) ⌝ }
+    requires { ⌜ (i < L.rows (now block)) × L.Strategic (L.kind (now block) i) × (m < 64) ⌝ }
+    requires { ⌜ (c ≡ stockPlaces (arenaOf (now block) i)) × (12288 ≤ length (now ranks)) × (6144 ≤ length (now moves)) ⌝ }
+    ensures { λ _. ⌜ Tried (λ (n : ℕ). HitsAny (now (block .entry)) i soon ever left (now (ranks .entry)) n m) m (now (moves .entry)) (now (moves .exit)) ⌝ }
+{
+    let states = layout::states(block);
+    let team = layout::team(block, i);
+    let mut s = 0;
+    while s < states {
+        if moves::is_move(block, s, team, m) {
+            choose_move(block, i, s, m, c, soon, ever, left, ranks, moves);
+        }
+        s += 1;
+    }
+}
+
+// Tries every move, from the smallest up.
+fn choose_all(
+    block: &[u8],
+    i: usize,
+    c: usize,
+    soon: bool,
+    ever: bool,
+    left: usize,
+    ranks: &[u8],
+    moves: &mut [u8],
+)
+    requires { ⌜ Valid (now block) ⌝ }
+    requires { ⌜ (i < L.rows (now block)) × L.Strategic (L.kind (now block) i) ⌝ }
+    requires { ⌜ (c ≡ stockPlaces (arenaOf (now block) i)) × (12288 ≤ length (now ranks)) × (6144 ≤ length (now moves)) ⌝ }
+    ensures { λ _. ⌜ Chosen (HitsAny (now (block .entry)) i soon ever left (now (ranks .entry))) 64 (now (moves .entry)) (now (moves .exit)) ⌝ }
+{
+    let mut m = 0;
+    while m < 64 {
+        choose_states(block, i, m, c, soon, ever, left, ranks, moves);
+        m += 1;
+    }
+}
+
 // The first entry of position n of count: 0 past the last position and where until is met, and elsewhere no move.
 fn first_move(soon: bool, ever: bool, count: usize, n: usize, rank: usize) -> u8
     ensures { λ r. ⌜ FirstMove soon ever count n rank r ⌝ }
@@ -145,4 +247,21 @@ fn first_moves(soon: bool, ever: bool, count: usize, ranks: &[u8], moves: &mut [
         moves[n] = first_move(soon, ever, count, n, rank);
         n += 1;
     }
+}
+
+// The moves of row i, whose left row has the set left: for the coalition the smallest good move where it wins.
+pub fn fill_moves(block: &[u8], i: usize, left: usize, ranks: &[u8], moves: &mut [u8])
+    requires { ⌜ Valid (now block) ⌝ }
+    requires { ⌜ (i < L.rows (now block)) × L.Strategic (L.kind (now block) i) ⌝ }
+    requires { ⌜ (12288 ≤ length (now ranks)) × (6144 ≤ length (now moves)) ⌝ }
+    ensures { λ _. ⌜ ((right : ℕ) → RanksOf (now (block .entry)) i left right (now (ranks .entry)) → MovesOf (now (block .entry)) i left right (now (ranks .entry)) (now (moves .exit))) ⌝ }
+    ensures { λ _. ⌜ length (now (moves .exit)) ≡ length (now (moves .entry)) ⌝ }
+{
+    let kind = layout::kind(block, i);
+    let soon = kind == 3;
+    let ever = kind == 4;
+    let count = positions::count(block, i);
+    let c = positions::stock_places(block, i);
+    first_moves(soon, ever, count, ranks, moves);
+    choose_all(block, i, c, soon, ever, left, ranks, moves);
 }
