@@ -12,3 +12,5 @@ pub mod Words
 pub mod Ranking
 pub mod Labelling
 pub mod Calls
+pub mod Choosing
+pub mod Hitting

@@ -95,16 +95,16 @@ module _ (b : Block) (valid : Valid b) (i s m : ℕ) (row : i < L.rows b) (strat
 
   -- at a position that pays
   module _ (p : Position) (x : ℕ) (placed : PlacedAt (arenaOf b i) s x p) (paid : Affordable (arenaOf b i) p m) where
-    allowed-here : Allowed (arenaOf b i) p m
+    pub allowed-here : Allowed (arenaOf b i) p m
     allowed-here = (subst (λ (q : ℕ). MoveOf (structureOf b) (coalitionOf b i) q m) (sym (placed .state)) move, paid)
 
     taken-here : taken ≡ offset (arenaOf b i) p m
     taken-here = takes ∙ ap (λ (q : ℕ). offset (arenaOf b i) (full (arenaOf b i) q) m) (sym (placed .state))
 
-    left-over : (x - taken) + offset (arenaOf b i) p m ≡ number (arenaOf b i) (stocksOf (arenaOf b i) p)
+    pub left-over : (x - taken) + offset (arenaOf b i) p m ≡ number (arenaOf b i) (stocksOf (arenaOf b i) p)
     left-over = omega (arith, remains-number (arenaOf b i) p m 0 (placed .fits) paid, placed .place, taken-here)
 
-    replies-here : Lists (ReplyTo b i (p .state)) (λ r. L.next b (p .state) (m + r) * stockPlaces (arenaOf b i)) targets n
+    pub replies-here : Lists (ReplyTo b i (p .state)) (λ r. L.next b (p .state) (m + r) * stockPlaces (arenaOf b i)) targets n
     replies-here = subst (λ (q : ℕ). Lists (ReplyTo b i q) (λ r. L.next b q (m + r) * stockPlaces (arenaOf b i)) targets n) (sym (placed .state)) replies
 
     taken-fits : taken ≤ x

@@ -8,3 +8,4 @@ pub mod Next
 pub mod Rows
 pub mod Calls
 pub mod Labels
+pub mod Choices

@@ -1,4 +1,5 @@
 // Ranks, moves and sets of the rows of a block, found by sweeps over the positions of a row.
+pub mod choose;
 pub mod gather;
 pub mod label;
 pub mod next;

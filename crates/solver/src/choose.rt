@@ -1,0 +1,267 @@
+// The moves of a row's table. Each move is tried at every position before the next, so that the first that is good is the smallest.
+use crate::next;
+use crate::payable;
+use block::layout;
+use game::buffers;
+use game::moves;
+use game::positions;
+use game::replies;
+ghost use mathlib.Core.Path.{_≡_};
+ghost use Prim.Native.Nat.{ℕ, _+_, _*_, _-_, _≤_, _<_};
+ghost use lib.ListN.{length, getD};
+ghost use Rattle.block.specs.Decide.{Decides};
+ghost use Rattle.block.specs.Layout as L;
+ghost use Rattle.block.specs.Valid.{Valid};
+ghost use Rattle.game.specs.Position.{MoveOf, stockPlaces};
+ghost use Rattle.game.specs.Buffers.{rankIn};
+ghost use Rattle.game.specs.Model.{structureOf, coalitionOf, arenaOf};
+ghost use Rattle.solver.specs.Tables.{RanksOf, MovesOf};
+ghost use Rattle.solver.specs.Choices.{ClaimedBy, AimedBy, FirstMove, Tried, OneHits, Chosen, HitAt, HitsIn, HitsAny};
+
+// Whether a rank says that the coalition wins: in a next row where soon, else in an always row where ever, else in an until row.
+fn claimed(soon: bool, ever: bool, rank: usize) -> bool
+    ensures { λ r. ⌜ Decides (ClaimedBy soon ever rank) r ⌝ }
+{
+    if soon {
+        return rank == 1;
+    }
+    if ever {
+        return rank == 65535;
+    }
+    rank < 65535
+}
+
+// Whether a move is aimed right from a position with this rank; `into` says whether it leads into the set.
+fn aimed(
+    ranks: &[u8],
+    targets: &[usize],
+    n: usize,
+    at: usize,
+    rank: usize,
+    soon: bool,
+    ever: bool,
+    into: bool,
+) -> bool
+    requires { ⌜ (0 < n) × (n ≤ length (now targets)) ⌝ }
+    requires { ⌜ ((k : ℕ) → k < n → 2 * (getD (now targets) k 0 + at) + 1 < length (now ranks)) ⌝ }
+    ensures { λ r. ⌜ Decides (AimedBy soon ever into rank n (λ (j : ℕ). rankIn (now (ranks .entry)) (getD (now (targets .entry)) j 0 + at))) r ⌝ }
+{
+    if soon {
+        return into;
+    }
+    if ever {
+        return replies::extreme(ranks, targets, n, at, false) == 65535;
+    }
+    replies::extreme(ranks, targets, n, at, true) < rank
+}
+
+// Tries the move m at position p, which keeps `at` of its stocks.
+fn choose_one(
+    ranks: &[u8],
+    targets: &[usize],
+    n: usize,
+    at: usize,
+    p: usize,
+    soon: bool,
+    ever: bool,
+    into: bool,
+    m: u8,
+    moves: &mut [u8],
+)
+    requires { ⌜ (0 < n) × (n ≤ length (now targets)) × (p < length (now moves)) × (2 * p + 1 < length (now ranks)) ⌝ }
+    requires { ⌜ ((k : ℕ) → k < n → 2 * (getD (now targets) k 0 + at) + 1 < length (now ranks)) ⌝ }
+    ensures { λ _. ⌜ Tried (HitAt soon ever into (now (ranks .entry)) (now (targets .entry)) n at p) m (now (moves .entry)) (now (moves .exit)) ⌝ }
+{
+    if moves[p] != 255 {
+        return;
+    }
+    let rank = buffers::rank_at(ranks, p);
+    if !claimed(soon, ever, rank) {
+        return;
+    }
+    if !aimed(ranks, targets, n, at, rank, soon, ever, into) {
+        return;
+    }
+    moves[p] = m;
+}
+
+// Tries the move m, which takes `taken` of the stocks, at each of the first count places past base.
+fn choose(
+    ranks: &[u8],
+    targets: &[usize],
+    n: usize,
+    places: &[usize],
+    count: usize,
+    taken: usize,
+    base: usize,
+    soon: bool,
+    ever: bool,
+    into: bool,
+    m: u8,
+    moves: &mut [u8],
+)
+    requires { ⌜ (0 < n) × (n ≤ length (now targets)) × (count ≤ length (now places)) × (12288 ≤ length (now ranks)) × (6144 ≤ length (now moves)) × (m < 64) ⌝ }
+    requires { ⌜ ((k : ℕ) → k < count → (taken ≤ getD (now places) k 0) × (base + getD (now places) k 0 < 6144)) ⌝ }
+    requires { ⌜ ((k j : ℕ) → k < count → j < n → getD (now targets) j 0 + (getD (now places) k 0 - taken) < 6144) ⌝ }
+    ensures { λ _. ⌜ Tried (OneHits count (λ (k : ℕ). HitAt soon ever into (now (ranks .entry)) (now (targets .entry)) n (getD (now (places .entry)) k 0 - taken) (base + getD (now (places .entry)) k 0))) m (now (moves .entry)) (now (moves .exit)) ⌝ }
+{
+    let mut k = 0;
+    while k < count {
+        let x = places[k];
+        choose_one(
+            ranks,
+            targets,
+            n,
+            x - taken,
+            base + x,
+            soon,
+            ever,
+            into,
+            m,
+            moves,
+        );
+        k += 1;
+    }
+}
+
+// Tries the move m in state s, at each stock place that pays it; c is how many stock places there are.
+fn choose_move(
+    block: &[u8],
+    i: usize,
+    s: usize,
+    m: usize,
+    c: usize,
+    soon: bool,
+    ever: bool,
+    left: usize,
+    ranks: &[u8],
+    moves: &mut [u8],
+)
+    requires { ⌜ Valid (now block) ⌝ }
+    requires { ⌜ (i < L.rows (now block)) × L.Strategic (L.kind (now block) i) × (s < L.states (now block)) ⌝ }
+    requires { ⌜ MoveOf (structureOf (now block)) (coalitionOf (now block) i) s m × (m < 64) ⌝ }
+    requires { ⌜ (c ≡ stockPlaces (arenaOf (now block) i)) × (12288 ≤ length (now ranks)) × (6144 ≤ length (now moves)) ⌝ }
+    ensures { λ _. ⌜ Tried (HitsIn (now (block .entry)) i soon ever left (now (ranks .entry)) m s) m (now (moves .entry)) (now (moves .exit)) ⌝ }
+{
+    let mut targets = [0; 64];
+    let mut places = [0; 256];
+    let n = replies::targets(block, i, s, m, c, &mut targets);
+    let count = payable::payable(block, i, s, m, &mut places);
+    let taken = positions::offset(block, i, s, m);
+    let into = next::leads_into(block, i, s, m, left);
+    choose(
+        ranks,
+        &targets,
+        n,
+        &places,
+        count,
+        taken,
+        s * c,
+        soon,
+        ever,
+        into,
+        m as u8,
+        moves,
+    );
+}
+
+// Tries the move m in every state where the team has it.
+fn choose_states(
+    block: &[u8],
+    i: usize,
+    m: usize,
+    c: usize,
+    soon: bool,
+    ever: bool,
+    left: usize,
+    ranks: &[u8],
+    moves: &mut [u8],
+)
+    requires { ⌜ Valid (now block) ⌝ }
+    requires { ⌜ (i < L.rows (now block)) × L.Strategic (L.kind (now block) i) × (m < 64) ⌝ }
+    requires { ⌜ (c ≡ stockPlaces (arenaOf (now block) i)) × (12288 ≤ length (now ranks)) × (6144 ≤ length (now moves)) ⌝ }
+    ensures { λ _. ⌜ Tried (λ (n : ℕ). HitsAny (now (block .entry)) i soon ever left (now (ranks .entry)) n m) m (now (moves .entry)) (now (moves .exit)) ⌝ }
+{
+    let states = layout::states(block);
+    let team = layout::team(block, i);
+    let mut s = 0;
+    while s < states {
+        if moves::is_move(block, s, team, m) {
+            choose_move(block, i, s, m, c, soon, ever, left, ranks, moves);
+        }
+        s += 1;
+    }
+}
+
+// Tries every move, from the smallest up.
+fn choose_all(
+    block: &[u8],
+    i: usize,
+    c: usize,
+    soon: bool,
+    ever: bool,
+    left: usize,
+    ranks: &[u8],
+    moves: &mut [u8],
+)
+    requires { ⌜ Valid (now block) ⌝ }
+    requires { ⌜ (i < L.rows (now block)) × L.Strategic (L.kind (now block) i) ⌝ }
+    requires { ⌜ (c ≡ stockPlaces (arenaOf (now block) i)) × (12288 ≤ length (now ranks)) × (6144 ≤ length (now moves)) ⌝ }
+    ensures { λ _. ⌜ Chosen (HitsAny (now (block .entry)) i soon ever left (now (ranks .entry))) 64 (now (moves .entry)) (now (moves .exit)) ⌝ }
+{
+    let mut m = 0;
+    while m < 64 {
+        choose_states(block, i, m, c, soon, ever, left, ranks, moves);
+        m += 1;
+    }
+}
+
+// The first entry of position n of count: 0 past the last position and where until is met, and elsewhere no move.
+fn first_move(soon: bool, ever: bool, count: usize, n: usize, rank: usize) -> u8
+    ensures { λ r. ⌜ FirstMove soon ever count n rank r ⌝ }
+{
+    if count <= n {
+        return 0;
+    }
+    if soon {
+        return 255;
+    }
+    if ever {
+        return 255;
+    }
+    if rank == 0 {
+        return 0;
+    }
+    255
+}
+
+// The first entries of all positions.
+fn first_moves(soon: bool, ever: bool, count: usize, ranks: &[u8], moves: &mut [u8])
+    requires { ⌜ (12288 ≤ length (now ranks)) × (6144 ≤ length (now moves)) ⌝ }
+    ensures { λ _. ⌜ ((n : ℕ) → n < 6144 → FirstMove soon ever count n (rankIn (now (ranks .entry)) n) (getD (now (moves .exit)) n 0)) ⌝ }
+    ensures { λ _. ⌜ length (now (moves .exit)) ≡ length (now (moves .entry)) ⌝ }
+{
+    let mut n = 0;
+    while n < 6144 {
+        let rank = buffers::rank_at(ranks, n);
+        moves[n] = first_move(soon, ever, count, n, rank);
+        n += 1;
+    }
+}
+
+// The moves of row i, whose left row has the set left: for the coalition the smallest good move where it wins.
+pub fn fill_moves(block: &[u8], i: usize, left: usize, ranks: &[u8], moves: &mut [u8])
+    requires { ⌜ Valid (now block) ⌝ }
+    requires { ⌜ (i < L.rows (now block)) × L.Strategic (L.kind (now block) i) ⌝ }
+    requires { ⌜ (12288 ≤ length (now ranks)) × (6144 ≤ length (now moves)) ⌝ }
+    ensures { λ _. ⌜ ((right : ℕ) → RanksOf (now (block .entry)) i left right (now (ranks .entry)) → MovesOf (now (block .entry)) i left right (now (ranks .entry)) (now (moves .exit))) ⌝ }
+    ensures { λ _. ⌜ length (now (moves .exit)) ≡ length (now (moves .entry)) ⌝ }
+{
+    let kind = layout::kind(block, i);
+    let soon = kind == 3;
+    let ever = kind == 4;
+    let count = positions::count(block, i);
+    let c = positions::stock_places(block, i);
+    first_moves(soon, ever, count, ranks, moves);
+    choose_all(block, i, c, soon, ever, left, ranks, moves);
+}
