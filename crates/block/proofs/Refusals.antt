@@ -14,6 +14,20 @@ first-same f g (none e) = none e
 first-same f g (here h e) = here (f _ h) e
 first-same f g (later h w) = later (λ q. h (g _ q)) (first-same f g w)
 
+-- the same where the conditions agree on the refusals of the list alone
+abbrev pub Each : (Refusal → Type 0) → List Refusal → Type 0
+Each Ok [] = Unit {0}
+Each Ok (r ∷ rs) = Ok r × Each Ok rs
+
+pub first-same-in : {P Q : Refusal → Type 0} (Ok : Refusal → Type 0) (rs : List Refusal) {n : ℕ} → Each Ok rs → ((r : Refusal) → Ok r → P r → Q r) → ((r : Refusal) → Ok r → Q r → P r) → First P rs n → First Q rs n
+first-same-in Ok [] ok f g (none e) = none e
+first-same-in Ok (r ∷ rs) (ok, oks) f g (here h e) = here (f r ok h) e
+first-same-in Ok (r ∷ rs) (ok, oks) f g (later h w) = later (λ q. h (g r ok q)) (first-same-in Ok rs oks f g w)
+
+-- the numbers of a block are below 8
+pub block-numbers : Each (λ r. numberOf r < 8) blockOrder
+block-numbers = (omega arith, (omega arith, (omega arith, (omega arith, (omega arith, (omega arith, tt))))))
+
 -- a refusal has a number from 1
 pub number-some : (r : Refusal) → 0 < numberOf r
 number-some Length = omega arith

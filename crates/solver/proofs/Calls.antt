@@ -7,15 +7,16 @@ use native.Mathlib.Omega.{arith}
 use lib.ListN.{getD, length, take, replicate, length-replicate, getD-replicate, List·getD-eq-default}
 use Rattle.block.specs.Layout as L
 use Rattle.block.specs.Layout.{Block}
+use Rattle.block.specs.Valid.{Valid}
 use Rattle.block.specs.Refusal.{numberOf, First, none, here, later}
 use Rattle.block.specs.Check.{Broken, Verdict, blockOrder}
 use Rattle.block.specs.declared.refusal.Refusal.{Refusal}
-use Rattle.block.specs.declared.refusal.Refusal.the-variants.{Length}
+use Rattle.block.specs.declared.refusal.Refusal.the-variants.{Length, RowChoice}
 use Rattle.block.specs.declared.refusal.Checked.the-variants as checked
-use Rattle.block.proofs.Refusals.{first-same, not-first, number-some}
+use Rattle.block.proofs.Refusals.{first-same, first-same-in, block-numbers, first-before, first-after, not-first, number-some}
 use Rattle.game.specs.Buffers.{wordIn}
 use Rattle.game.proofs.Numbers.Decide.{lt?}
-use Rattle.solver.specs.Calls.{setsBytes, roomBytes, Unlabelled, SetsIn, RoomAfter, LabelCall}
+use Rattle.solver.specs.Calls.{setsBytes, roomBytes, movesBytes, Unlabelled, RoomAfter, LabelCall, NoChoice, Untabled, RowTable, TableCall}
 use Rattle.solver.specs.Labels.{LowerSets}
 
 -- a buffer of zeros
@@ -42,18 +43,53 @@ module _ (b : Block) (sets room : List ℕ) where
 
   module _ (block-long : length b ≡ L.blockBytes) (sets-long : length sets ≡ setsBytes) (room-long : length room ≡ roomBytes) where
     -- with buffers of the right length, the number is the check's
-    verdict : {n : ℕ} → Verdict b n → First (Unlabelled b sets room) blockOrder n
-    verdict v = first-same (λ r h. inl h) (λ r. ⊎-elim (λ h. h) (λ w. absurd (⊎-elim (λ h. h sets-long) (λ h. h room-long) (w .1)))) v
+    sets-verdict : {n : ℕ} → Verdict b n → First (Unlabelled b sets room) blockOrder n
+    sets-verdict v = first-same (λ r h. inl h) (λ r. ⊎-elim (λ h. h) (λ w. absurd (⊎-elim (λ h. h sets-long) (λ h. h room-long) (w .1)))) v
 
     after : {n : ℕ} (room′ : List ℕ) → Verdict b n → room′ ≡ replicate roomBytes 0 → RoomAfter room room′ n
     after room′ v zeros = record { left = λ one. absurd (not-first (λ fails. fails block-long) v one); cleared = λ _. zeros }
 
     pub label-refused : (r : Refusal) (room′ : List ℕ) → Verdict b (numberOf r) → room′ ≡ replicate roomBytes 0 → LabelCall b sets room sets room′ (checked.Refused r)
-    label-refused r room′ v zeros = record { number = verdict v; labelled = refl; room-after = after room′ v zeros }
+    label-refused r room′ v zeros = record { number = sets-verdict v; labelled = refl; room-after = after room′ v zeros }
 
     pub label-passed : (sets′ room′ : List ℕ) → Verdict b 0 → LowerSets b (L.rows b) sets′ → ((j : ℕ) → L.rows b ≤ j → wordIn sets′ j ≡ 0) → length sets′ ≡ setsBytes → room′ ≡ replicate roomBytes 0 → LabelCall b sets room sets′ room′ checked.Passed
     label-passed sets′ room′ v each past long zeros = record {
-      number = verdict v;
+      number = sets-verdict v;
       labelled = record { each = each; past = λ i l _. past i l; long = long };
       room-after = after room′ v zeros;
+    }
+
+-- a row that is chosen is strategic
+pub row-chosen : (b : Block) → Valid b → (i : ℕ) → (NoChoice b i → ⊥) → (i < L.rows b) × L.Strategic (L.kind b i)
+row-chosen b valid i chosen = go (lt? i (L.rows b)) (lt? (L.kind b i) L.nextKind)
+  where
+    go : Dec (i < L.rows b) → Dec (L.kind b i < L.nextKind) → (i < L.rows b) × L.Strategic (L.kind b i)
+    go (yes inside) (no h) = (inside, (omega arith, valid .row-fits i inside .known))
+    go (yes inside) (yes h) = absurd (chosen (inr h))
+    go (no outside) d = absurd (chosen (inl (omega arith)))
+
+module _ (b : Block) (i : ℕ) (ranks moves : List ℕ) where
+  pub table-length : ((length ranks ≡ roomBytes → ⊥) ⊎ (length moves ≡ movesBytes → ⊥)) → TableCall b i ranks moves ranks moves (checked.Refused Length)
+  table-length wrong = record { number = here (inr (inl (refl, wrong))) refl; tabled = (refl, refl) }
+
+  module _ (ranks-long : length ranks ≡ roomBytes) (moves-long : length moves ≡ movesBytes) where
+    long : ((length ranks ≡ roomBytes → ⊥) ⊎ (length moves ≡ movesBytes → ⊥)) → ⊥
+    long wrong = ⊎-elim (λ h. h ranks-long) (λ h. h moves-long) wrong
+
+    -- before 8, the conditions are the block's
+    row-verdict : {n : ℕ} → Verdict b n → First (Untabled b i ranks moves) blockOrder n
+    row-verdict v = first-same-in (λ r. numberOf r < 8) blockOrder block-numbers
+        (λ r ok h. inl h)
+        (λ r ok. ⊎-elim (λ h. h) (λ w. absurd (⊎-elim (λ (_, wrong). long wrong) (λ (e, _). omega (arith, ap numberOf e)) w))) v
+
+    pub table-refused : (r : Refusal) → Verdict b (numberOf r) → TableCall b i ranks moves ranks moves (checked.Refused r)
+    table-refused r v = record { number = first-before (RowChoice ∷ []) (row-verdict v) (λ e. omega (arith, number-some r)); tabled = (refl, refl) }
+
+    pub table-no-choice : Verdict b 0 → NoChoice b i → TableCall b i ranks moves ranks moves (checked.Refused RowChoice)
+    table-no-choice v none-such = record { number = first-after refl (row-verdict v) (here (inr (inr (refl, none-such))) refl); tabled = (refl, refl) }
+
+    pub table-passed : (ranks′ moves′ : List ℕ) → Verdict b 0 → (NoChoice b i → ⊥) → RowTable b i ranks′ moves′ → TableCall b i ranks moves ranks′ moves′ checked.Passed
+    table-passed ranks′ moves′ v chosen filled = record {
+      number = first-after refl (row-verdict v) (later (⊎-elim (λ h. h) (λ w. ⊎-elim (λ (_, wrong). long wrong) (λ (_, h). chosen h) w)) (none refl));
+      tabled = filled;
     }

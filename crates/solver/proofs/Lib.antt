@@ -14,3 +14,4 @@ pub mod Labelling
 pub mod Calls
 pub mod Choosing
 pub mod Hitting
+pub mod Tabling

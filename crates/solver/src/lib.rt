@@ -7,3 +7,4 @@ pub mod payable;
 pub mod rows;
 pub mod solve;
 pub mod sweep;
+pub mod table;
