@@ -6,7 +6,9 @@ use lib.IntN.{ℤ, pos, negℤ}
 use Rattle.block.specs.Layout.{Block}
 use Rattle.block.specs.Refusal.{numberOf, answerOf}
 use Rattle.block.specs.Check.{Verdict}
+use Rattle.block.specs.declared.refusal.Checked.{Checked}
 use Rattle.text.specs.Text.{readCall, answerTo}
+use Rattle.solver.specs.Calls.{LabelCall, TableCall}
 use Rattle.writer.specs.Call.{WriteCall}
 use Rattle.writer.specs.declared.written.Written.{Written}
 use Rattle.writer.specs.declared.written.Written.the-variants as written
@@ -31,3 +33,11 @@ writtenCode (written.Refused r) = minus (numberOf r)
 -- what the write call promises of its answer and of the text buffer, t before it and u after it
 abbrev pub WriteAnswer : Block → List ℕ → List ℕ → ℤ → Type 0
 WriteAnswer b t u r = (a : Written) × WriteCall b t u a × (r ≡ writtenCode a)
+
+-- what the label call promises of its answer, the sets and the room, each before and after it
+abbrev pub LabelAnswer : Block → List ℕ → List ℕ → List ℕ → List ℕ → ℤ → Type 0
+LabelAnswer b sets room sets′ room′ r = (a : Checked) × LabelCall b sets room sets′ room′ a × (r ≡ minus (answerOf a))
+
+-- what the table call promises of its answer, the ranks and the moves, each before and after it
+abbrev pub TableAnswer : Block → ℕ → List ℕ → List ℕ → List ℕ → List ℕ → ℤ → Type 0
+TableAnswer b i ranks moves ranks′ moves′ r = (a : Checked) × TableCall b i ranks moves ranks′ moves′ a × (r ≡ minus (answerOf a))

@@ -5,7 +5,7 @@ use writer::written::Written;
 ghost use mathlib.Core.Path.{_≡_};
 ghost use Rattle.block.specs.Refusal.{numberOf, answerOf};
 ghost use Rattle.text.specs.Text.{readCall, blockAfter, Exact};
-ghost use Rattle.rbatl.specs.Answer.{minus, CheckAnswer, readAnswer, WriteAnswer};
+ghost use Rattle.rbatl.specs.Answer.{minus, CheckAnswer, readAnswer, WriteAnswer, LabelAnswer, TableAnswer};
 
 fn refused(r: Refusal) -> i32
     ensures { λ x. ⌜ x ≡ minus (numberOf r) ⌝ }
@@ -59,4 +59,18 @@ pub extern "C" fn rbatl_write(block: &[u8], text: &mut [u8]) -> i32
         Written::Length(n) => n as i32,
         Written::Refused(r) => refused(r),
     }
+}
+
+#[no_mangle]
+pub extern "C" fn rbatl_label(block: &[u8], sets: &mut [u8], room: &mut [u8]) -> i32
+    ensures { λ r. ⌜ LabelAnswer (now (block .entry)) (now (sets .entry)) (now (room .entry)) (now (sets .exit)) (now (room .exit)) r ⌝ }
+{
+    answer(solver::label::label(block, sets, room))
+}
+
+#[no_mangle]
+pub extern "C" fn rbatl_table(block: &[u8], row: u8, ranks: &mut [u8], moves: &mut [u8]) -> i32
+    ensures { λ r. ⌜ TableAnswer (now (block .entry)) row (now (ranks .entry)) (now (moves .entry)) (now (ranks .exit)) (now (moves .exit)) r ⌝ }
+{
+    answer(solver::table::table(block, row as usize, ranks, moves))
 }
