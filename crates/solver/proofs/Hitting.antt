@@ -83,7 +83,7 @@ module _ (b : Block) (valid : Valid b) (i s m : ℕ) (row : i < L.rows b) (strat
     (targets : List ℕ) (n : ℕ) (replies : Lists (ReplyTo b i s) (λ r. L.next b s (m + r) * stockPlaces (arenaOf b i)) targets n)
     (stocks : List ℕ) (count : ℕ) (pays : Lists (PaysAt (arenaOf b i) s m) (λ x. x) stocks count)
     (taken : ℕ) (takes : taken ≡ offset (arenaOf b i) (full (arenaOf b i) s) m)
-    (left : ℕ) (into : Bool) (leads : Decides (LeadsInto b i s m left) into) (ranks : List ℕ) where
+    (left : ℕ) (into : Bool) (ranks : List ℕ) where
   -- at a position that pays
   module _ (p : Position) (x : ℕ) (placed : PlacedAt (arenaOf b i) s x p) (paid : Affordable (arenaOf b i) p m) where
     allowed : Allowed (arenaOf b i) p m
@@ -119,17 +119,17 @@ module _ (b : Block) (valid : Valid b) (i s m : ℕ) (row : i < L.rows b) (strat
     abbrev rankAfter : ℕ → ℕ
     rankAfter j = rankIn ranks (getD targets j 0 + (x - taken))
 
-    aimed-good : (t u : Bool) → AimedBy t u into (rankIn ranks (number (arenaOf b i) p)) n rankAfter → Good (arenaOf b i) (ranksOnly ranks) (asks t u left 0) p m
-    aimed-good true u aim = (allowed, λ r reply. subst (Bit left) (sym (leads-to r reply)) (D.truth leads aim r (replies-same r reply)))
-    aimed-good false true aim = (allowed, list-outcomes (λ y. rankIn ranks y ≡ never) aim)
-    aimed-good false false aim = (allowed, list-outcomes (λ y. rankIn ranks y < rankIn ranks (number (arenaOf b i) p)) aim)
+    aimed-good : (t u : Bool) → (t ≡ true → Decides (LeadsInto b i s m left) into) → AimedBy t u into (rankIn ranks (number (arenaOf b i) p)) n rankAfter → Good (arenaOf b i) (ranksOnly ranks) (asks t u left 0) p m
+    aimed-good true u leads aim = (allowed, λ r reply. subst (Bit left) (sym (leads-to r reply)) (D.truth (leads refl) aim r (replies-same r reply)))
+    aimed-good false true leads aim = (allowed, list-outcomes (λ y. rankIn ranks y ≡ never) aim)
+    aimed-good false false leads aim = (allowed, list-outcomes (λ y. rankIn ranks y < rankIn ranks (number (arenaOf b i) p)) aim)
 
-    good-aimed : (t u : Bool) → Good (arenaOf b i) (ranksOnly ranks) (asks t u left 0) p m → AimedBy t u into (rankIn ranks (number (arenaOf b i) p)) n rankAfter
-    good-aimed true u good = told leads (λ r reply. subst (Bit left) (leads-to r (same-replies r reply)) (good .1 r (same-replies r reply)))
-    good-aimed false true good = outcomes-list (λ y. rankIn ranks y ≡ never) (good .1)
-    good-aimed false false good = outcomes-list (λ y. rankIn ranks y < rankIn ranks (number (arenaOf b i) p)) (good .1)
+    good-aimed : (t u : Bool) → (t ≡ true → Decides (LeadsInto b i s m left) into) → Good (arenaOf b i) (ranksOnly ranks) (asks t u left 0) p m → AimedBy t u into (rankIn ranks (number (arenaOf b i) p)) n rankAfter
+    good-aimed true u leads good = told (leads refl) (λ r reply. subst (Bit left) (leads-to r (same-replies r reply)) (good .1 r (same-replies r reply)))
+    good-aimed false true leads good = outcomes-list (λ y. rankIn ranks y ≡ never) (good .1)
+    good-aimed false false leads good = outcomes-list (λ y. rankIn ranks y < rankIn ranks (number (arenaOf b i) p)) (good .1)
 
-  module _ (t u : Bool) where
+  module _ (t u : Bool) (leads : t ≡ true → Decides (LeadsInto b i s m left) into) where
     abbrev pub HitByList : ℕ → ℕ → Type 0
     HitByList k = HitAt t u into ranks targets n (getD stocks k 0 - taken) (s * stockPlaces (arenaOf b i) + getD stocks k 0)
 
@@ -145,7 +145,7 @@ module _ (b : Block) (valid : Valid b) (i s m : ℕ) (row : i < L.rows b) (strat
           placed .state,
           sym is ∙ sym e,
           claimed-claims (arenaOf b i) ranks left 0 t u (λ _. 0) p (subst (λ (z : ℕ). ClaimedBy t u (rankIn ranks z)) is claim),
-          aimed-good p x placed paid t u (subst (λ (z : ℕ). AimedBy t u into (rankIn ranks z) n (rankAfter p x placed paid)) is aim),
+          aimed-good p x placed paid t u leads (subst (λ (z : ℕ). AimedBy t u into (rankIn ranks z) n (rankAfter p x placed paid)) is aim),
         )
 
     pub hit-lists : (q : ℕ) → HitsIn b i t u left ranks m s q → OneHits count HitByList q
@@ -159,7 +159,7 @@ module _ (b : Block) (valid : Valid b) (i s m : ℕ) (row : i < L.rows b) (strat
           (
             sym e ∙ sym is,
             subst (λ (z : ℕ). ClaimedBy t u (rankIn ranks z)) (sym is) (claims-claimed (arenaOf b i) ranks left 0 t u (λ _. 0) p claim),
-            subst (λ (z : ℕ). AimedBy t u into (rankIn ranks z) n (rankAfter p x placed (good .0 .1))) (sym is) (good-aimed p x placed (good .0 .1) t u good),
+            subst (λ (z : ℕ). AimedBy t u into (rankIn ranks z) n (rankAfter p x placed (good .0 .1))) (sym is) (good-aimed p x placed (good .0 .1) t u leads good),
           ),
         )
 

@@ -6,6 +6,7 @@ use game::buffers;
 use game::moves;
 use game::positions;
 use game::replies;
+ghost use mathlib.Core.Bool.{true};
 ghost use mathlib.Core.Path.{_≡_};
 ghost use Prim.Native.Nat.{ℕ, _+_, _*_, _-_, _≤_, _<_};
 ghost use lib.ListN.{length, getD};
@@ -15,6 +16,7 @@ ghost use Rattle.block.specs.Valid.{Valid};
 ghost use Rattle.game.specs.Position.{MoveOf, stockPlaces};
 ghost use Rattle.game.specs.Buffers.{rankIn};
 ghost use Rattle.game.specs.Model.{structureOf, coalitionOf, arenaOf};
+ghost use Rattle.solver.specs.Next.{LeadsInto};
 ghost use Rattle.solver.specs.Tables.{RanksOf, MovesOf};
 ghost use Rattle.solver.specs.Choices.{ClaimedBy, AimedBy, FirstMove, Tried, OneHits, Chosen, HitAt, HitsIn, HitsAny};
 
@@ -124,6 +126,19 @@ fn choose(
     }
 }
 
+// Whether every reply to the move m leads from state s into the set left; only a next row asks.
+fn leads(block: &[u8], i: usize, s: usize, m: usize, left: usize, soon: bool) -> bool
+    requires { ⌜ Valid (now block) ⌝ }
+    requires { ⌜ (i < L.rows (now block)) × L.Strategic (L.kind (now block) i) × (s < L.states (now block)) ⌝ }
+    requires { ⌜ MoveOf (structureOf (now block)) (coalitionOf (now block) i) s m ⌝ }
+    ensures { λ r. ⌜ (soon ≡ true → Decides (LeadsInto (now (block .entry)) i s m left) r) ⌝ }
+{
+    if soon {
+        return next::leads_into(block, i, s, m, left);
+    }
+    false
+}
+
 // Tries the move m in state s, at each stock place that pays it; c is how many stock places there are.
 fn choose_move(
     block: &[u8],
@@ -148,7 +163,7 @@ fn choose_move(
     let n = replies::targets(block, i, s, m, c, &mut targets);
     let count = payable::payable(block, i, s, m, &mut places);
     let taken = positions::offset(block, i, s, m);
-    let into = next::leads_into(block, i, s, m, left);
+    let into = leads(block, i, s, m, left, soon);
     choose(
         ranks,
         &targets,

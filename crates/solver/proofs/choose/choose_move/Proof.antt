@@ -35,8 +35,8 @@ payable-requires c κs = search needs
 offset-requires : tie.Need-offset-requires
 offset-requires c κs = search needs
 
-leads-into-requires : tie.Need-leads-into-requires
-leads-into-requires c κs = search needs
+leads-requires : tie.Need-leads-requires
+leads-requires c κs = search needs
 
 slice-aggregate-choose : tie.Need-slice-aggregate-choose
 slice-aggregate-choose c = search needs
@@ -82,7 +82,7 @@ choose-requires c κs =
           fits k l .0,
           place-inside b (pre .0) (args .i) (args .s) (args .m) (pre .1 .0 .0) (pre .1 .0 .1) (pre .1 .0 .2) (pre .1 .1 .0 .0)
               (reach .last .1 .1 .1 .1 .1 .0) (reach .result) lists (pays .last .1 .1 .1 .1 .0) (pays .result) (pays .ensures .0) (c .before .before .before .before .offset .result) (c .before .before .before .before .offset .ensures)
-              (args .left) (c .before .before .before .leads-into .result) (c .before .before .before .leads-into .ensures) (args .ranks .now) (args .c) (pre .1 .1 .1 .0) k l,
+              (args .left) (c .before .before .before .leads .result) (args .ranks .now) (args .c) (pre .1 .1 .1 .0) k l,
         ),
         λ k j l l′. omega (arith, fits k l .2 j l′, few-positions b (pre .0) (args .i) (pre .1 .0 .0) (pre .1 .0 .1)),
       ),
@@ -101,7 +101,7 @@ returns c =
     lists-tried b (pre .0) (args .i) (args .s) (args .m) (pre .1 .0 .0) (pre .1 .0 .1) (pre .1 .0 .2) (pre .1 .1 .0 .0) (reach .last .1 .1 .1 .1 .1 .0) (reach .result)
     (subst (ByPlaces b (args .i) (args .s) (args .m) (reach .last .1 .1 .1 .1 .1 .0) (reach .result)) (pre .1 .1 .1 .0) (reach .ensures .0))
     (pays .last .1 .1 .1 .1 .0) (pays .result) (pays .ensures .0) (c .before .before .before .before .before .before .before .offset .result) (c .before .before .before .before .before .before .before .offset .ensures)
-    (args .left) (c .before .before .before .before .before .before .leads-into .result) (c .before .before .before .before .before .before .leads-into .ensures) (args .ranks .now) (args .soon) (args .ever) (args .c) (pre .1 .1 .1 .0) (c .before .before .choose .ensures)
+    (args .left) (c .before .before .before .before .before .before .leads .result) (args .ranks .now) (args .soon) (args .ever) (c .before .before .before .before .before .before .leads .ensures) (args .c) (pre .1 .1 .1 .0) (c .before .before .choose .ensures)
 
 pub choose-move-spec : {M : Type 1} → statement M
 choose-move-spec =
@@ -112,7 +112,7 @@ choose-move-spec =
     slice-aggregate-payable
     payable-requires
     offset-requires
-    leads-into-requires
+    leads-requires
     slice-aggregate-choose
     slice-aggregate-choose-2
     mul-choose

@@ -1,6 +1,7 @@
 -- `choose_one` stores the move where the entry is open, the rank claims the position and the move is aimed right. Assumes nothing.
-use mathlib.Core.Path.{refl, sym, _∙_, ap, subst}
+use mathlib.Core.Path.{refl, sym, ap, subst}
 use Prim.Native.Nat.{ℕ, _+_}
+use native.Mathlib.Omega.{arith}
 use lib.ListN.{getD}
 use borrow.Author.Needs.{needs}
 use borrow.Author.Tests.{not-true, not-false}
@@ -25,7 +26,7 @@ module _ (start : tie.Start) where
 returns : tie.Need-returns
 returns c =
     let args = c .before .before .before .before .before .args in
-    tried-nothing (args .m) (Hit (c .before .before .before .before .before)) (args .moves .now) (λ n empty (e, _, _). c .if1 .taken (ap (λ (k : ℕ). getD (args .moves .now) k 0) (sym e) ∙ empty))
+    tried-nothing (args .m) (Hit (c .before .before .before .before .before)) (args .moves .now) (λ n empty (e, _, _). omega (arith, c .if1 .taken, ap (λ (k : ℕ). getD (args .moves .now) k 0) e))
 
 rank-at-requires : tie.Need-rank-at-requires
 rank-at-requires c κs = search needs
@@ -55,7 +56,7 @@ same-length c = search needs
 returns-4 : tie.Need-returns-4
 returns-4 c =
     let args = c .before .before .before .before .before .before .before .before .before .before .args in
-    tried-one (args .m) (Hit (c .before .before .before .before .before .before .before .before .before .before)) (args .moves .now) (args .p) (c .before .before .before .before .before .before .before .before .before .before .pre .0 .2) (c .before .before .before .before .before .if1 .left) (
+    tried-one (args .m) (Hit (c .before .before .before .before .before .before .before .before .before .before)) (args .moves .now) (args .p) (c .before .before .before .before .before .before .before .before .before .before .pre .0 .2) (omega (arith, c .before .before .before .before .before .if1 .left)) (
       refl,
       subst (ClaimedBy (args .soon) (args .ever)) (c .before .before .before .before .rank-at .ensures .0) (D.truth (c .before .before .before .claimed .ensures) (not-false _ (c .before .before .if2 .left))),
       subst (Aims (c .before .before .before .before .before .before .before .before .before .before)) (c .before .before .before .before .rank-at .ensures .0) (D.truth (c .before .aimed .ensures) (not-false _ (c .if3 .left))),
