@@ -25,6 +25,18 @@ extern "C" {
 #define RBATL_BLOCK_BYTES 2469
 #define RBATL_TEXT_BYTES 32768
 
+/* Lengths of the sets of all rows, of a row's ranks and moves, and of working
+ * room. */
+#define RBATL_SETS_BYTES 128
+#define RBATL_RANKS_BYTES 12288
+#define RBATL_MOVES_BYTES 6144
+#define RBATL_ROOM_BYTES 12288
+
+/* The rank where nothing is enforced or forced, and the move where the
+ * coalition does not win. */
+#define RBATL_NEVER 65535
+#define RBATL_NO_MOVE 255
+
 /* Largest sizes of a job (N, R, M, P, F); the smallest of each is 1. */
 #define RBATL_MAX_AGENTS 3
 #define RBATL_MAX_RESOURCES 2
@@ -90,6 +102,32 @@ int32_t rbatl_read(const uint8_t *text, size_t text_len, uint8_t *block, size_t 
  * any other length; else what rbatl_check answers on the block. An unlimited
  * bound is written inf. A refused call leaves the buffer as it was. */
 int32_t rbatl_write(const uint8_t *block, size_t block_len, uint8_t *text, size_t text_len);
+
+/* Labels the rows of a block: 0, and word i of the sets has bit s exactly where
+ * row i is true in state s; words past the last row are 0. The sets are
+ * RBATL_SETS_BYTES: 32 words of four bytes, lowest byte first. The room is
+ * RBATL_ROOM_BYTES of working room, whatever they hold, and holds zeros
+ * afterwards. -RBATL_LENGTH for a block, sets or a room of any other length,
+ * and then nothing changes; else what rbatl_check answers on the block, and the
+ * sets stay as they were. */
+int32_t rbatl_label(const uint8_t *block, size_t block_len, uint8_t *sets, size_t sets_len,
+                    uint8_t *room, size_t room_len);
+
+/* Fills the table of a row of kind next, always or until: 0, and ranks and moves
+ * hold the rank and the move of each position. A position is a state with a
+ * stock of each resource; with c0 and c1 stock places (bound + 1, or 1 where
+ * unlimited or absent) its number is (state * c0 + stock 0) * c1 + stock 1.
+ * The ranks are RBATL_RANKS_BYTES: words of two bytes, lowest byte first; the
+ * moves are RBATL_MOVES_BYTES. Past the last position both are 0. A rank is
+ * - until: the fewest moves within which the coalition can enforce the row;
+ * - always: the fewest within which its opponents can make left false;
+ * - next: 1 where the coalition can;
+ * and RBATL_NEVER where there is none. The move is RBATL_NO_MOVE where the
+ * coalition does not win. -RBATL_LENGTH for a block, ranks or moves of any
+ * other length; else what rbatl_check answers on the block; else
+ * -RBATL_ROW_CHOICE. A refused call leaves both buffers as they were. */
+int32_t rbatl_table(const uint8_t *block, size_t block_len, uint8_t row, uint8_t *ranks,
+                    size_t ranks_len, uint8_t *moves, size_t moves_len);
 
 #ifdef __cplusplus
 }

@@ -262,20 +262,11 @@ static void check_write(void)
     }
 }
 
-#ifdef RBATL_SOLVER
-
-/* Lengths of the lent buffers. */
-#define SETS 128
-#define ROOM 12288
-#define RANKS 12288
-#define MOVES 6144
-
 /* The sets of Catch, and ranks and moves of its row 4: three states, each with
  * stocks 0 to 5. */
-#define NEVER 65535
 static const uint32_t catch_sets[] = {4, 3, 7, 6, 7, 6};
 static const uint16_t catch_ranks[] = {
-    NEVER, NEVER, NEVER, NEVER, NEVER, 2, NEVER, NEVER, NEVER, 1, 1, 1, 0, 0, 0, 0, 0, 0,
+    RBATL_NEVER, RBATL_NEVER, RBATL_NEVER, RBATL_NEVER, RBATL_NEVER, 2, RBATL_NEVER, RBATL_NEVER, RBATL_NEVER, 1, 1, 1, 0, 0, 0, 0, 0, 0,
 };
 static const uint8_t catch_moves[] = {
     255, 255, 255, 255, 255, 1, 255, 255, 255, 1, 1, 1, 0, 0, 0, 0, 0, 0,
@@ -295,7 +286,7 @@ static int holds(const uint8_t *bytes, uint32_t word, size_t length)
 static void expect_label(const char *name, const uint8_t *block, size_t length, size_t sets_length,
                          size_t room_length, int32_t expected)
 {
-    static uint8_t sets[SETS + 1], room[ROOM + 1];
+    static uint8_t sets[RBATL_SETS_BYTES + 1], room[RBATL_ROOM_BYTES + 1];
     const size_t words = sizeof catch_sets / sizeof catch_sets[0];
     int same = 1;
     char what[64];
@@ -308,15 +299,15 @@ static void expect_label(const char *name, const uint8_t *block, size_t length, 
     if (expected == 0) {
         for (size_t i = 0; i < words; i++)
             same &= holds(sets + 4 * i, catch_sets[i], 4);
-        count(same && all(sets + 4 * words, SETS - 4 * words, 0), name, "other sets");
-        count(sets[SETS] == FILL, name, "sets written too far");
+        count(same && all(sets + 4 * words, RBATL_SETS_BYTES - 4 * words, 0), name, "other sets");
+        count(sets[RBATL_SETS_BYTES] == FILL, name, "sets written too far");
     } else {
         count(all(sets, sizeof sets, FILL), name, "refused, but the sets have changed");
     }
     if (expected == -RBATL_LENGTH)
         count(all(room, sizeof room, FILL), name, "a wrong length, but the room has changed");
     else
-        count(all(room, ROOM, 0) && room[ROOM] == FILL, name, "no zeros in the room");
+        count(all(room, RBATL_ROOM_BYTES, 0) && room[RBATL_ROOM_BYTES] == FILL, name, "no zeros in the room");
 }
 
 static void check_label(void)
@@ -325,19 +316,19 @@ static void check_label(void)
     const size_t size = RBATL_BLOCK_BYTES;
 
     fill_catch(bytes);
-    expect_label("Catch", bytes, size, SETS, ROOM, 0);
-    expect_label("a short block", bytes, size - 1, SETS, ROOM, -RBATL_LENGTH);
-    expect_label("a long block", bytes, size + 1, SETS, ROOM, -RBATL_LENGTH);
-    expect_label("short sets", bytes, size, SETS - 1, ROOM, -RBATL_LENGTH);
-    expect_label("long sets", bytes, size, SETS + 1, ROOM, -RBATL_LENGTH);
-    expect_label("a short room", bytes, size, SETS, ROOM - 1, -RBATL_LENGTH);
-    expect_label("a long room", bytes, size, SETS, ROOM + 1, -RBATL_LENGTH);
+    expect_label("Catch", bytes, size, RBATL_SETS_BYTES, RBATL_ROOM_BYTES, 0);
+    expect_label("a short block", bytes, size - 1, RBATL_SETS_BYTES, RBATL_ROOM_BYTES, -RBATL_LENGTH);
+    expect_label("a long block", bytes, size + 1, RBATL_SETS_BYTES, RBATL_ROOM_BYTES, -RBATL_LENGTH);
+    expect_label("short sets", bytes, size, RBATL_SETS_BYTES - 1, RBATL_ROOM_BYTES, -RBATL_LENGTH);
+    expect_label("long sets", bytes, size, RBATL_SETS_BYTES + 1, RBATL_ROOM_BYTES, -RBATL_LENGTH);
+    expect_label("a short room", bytes, size, RBATL_SETS_BYTES, RBATL_ROOM_BYTES - 1, -RBATL_LENGTH);
+    expect_label("a long room", bytes, size, RBATL_SETS_BYTES, RBATL_ROOM_BYTES + 1, -RBATL_LENGTH);
     for (size_t i = 0; i < sizeof damages / sizeof damages[0]; i++) {
         if (damages[i].answer == 0)
             continue;
         fill_catch(bytes);
         bytes[damages[i].change.place] = damages[i].change.value;
-        expect_label(damages[i].name, bytes, size, SETS, ROOM, damages[i].answer);
+        expect_label(damages[i].name, bytes, size, RBATL_SETS_BYTES, RBATL_ROOM_BYTES, damages[i].answer);
     }
 }
 
@@ -346,7 +337,7 @@ static void check_label(void)
 static void expect_table(const char *name, const uint8_t *block, size_t length, uint8_t row,
                          size_t ranks_length, size_t moves_length, int32_t expected)
 {
-    static uint8_t ranks[RANKS + 1], moves[MOVES + 1];
+    static uint8_t ranks[RBATL_RANKS_BYTES + 1], moves[RBATL_MOVES_BYTES + 1];
     const size_t positions = sizeof catch_moves;
     int same = 1;
     char what[64];
@@ -364,10 +355,10 @@ static void expect_table(const char *name, const uint8_t *block, size_t length, 
     }
     for (size_t i = 0; i < positions; i++)
         same &= holds(ranks + 2 * i, catch_ranks[i], 2);
-    count(same && all(ranks + 2 * positions, RANKS - 2 * positions, 0), name, "other ranks");
+    count(same && all(ranks + 2 * positions, RBATL_RANKS_BYTES - 2 * positions, 0), name, "other ranks");
     count(memcmp(moves, catch_moves, positions) == 0, name, "other moves");
-    count(all(moves + positions, MOVES - positions, 0), name, "no zeros after the moves");
-    count(ranks[RANKS] == FILL && moves[MOVES] == FILL, name, "written too far");
+    count(all(moves + positions, RBATL_MOVES_BYTES - positions, 0), name, "no zeros after the moves");
+    count(ranks[RBATL_RANKS_BYTES] == FILL && moves[RBATL_MOVES_BYTES] == FILL, name, "written too far");
 }
 
 static void check_table(void)
@@ -377,27 +368,26 @@ static void check_table(void)
     const size_t size = RBATL_BLOCK_BYTES;
 
     fill_catch(bytes);
-    expect_table("Catch", bytes, size, 4, RANKS, MOVES, 0);
-    expect_table("a short block", bytes, size - 1, 4, RANKS, MOVES, -RBATL_LENGTH);
-    expect_table("a long block", bytes, size + 1, 4, RANKS, MOVES, -RBATL_LENGTH);
-    expect_table("short ranks", bytes, size, 4, RANKS - 1, MOVES, -RBATL_LENGTH);
-    expect_table("long ranks", bytes, size, 4, RANKS + 1, MOVES, -RBATL_LENGTH);
-    expect_table("short moves", bytes, size, 4, RANKS, MOVES - 1, -RBATL_LENGTH);
-    expect_table("long moves", bytes, size, 255, RANKS, MOVES + 1, -RBATL_LENGTH);
+    expect_table("Catch", bytes, size, 4, RBATL_RANKS_BYTES, RBATL_MOVES_BYTES, 0);
+    expect_table("a short block", bytes, size - 1, 4, RBATL_RANKS_BYTES, RBATL_MOVES_BYTES, -RBATL_LENGTH);
+    expect_table("a long block", bytes, size + 1, 4, RBATL_RANKS_BYTES, RBATL_MOVES_BYTES, -RBATL_LENGTH);
+    expect_table("short ranks", bytes, size, 4, RBATL_RANKS_BYTES - 1, RBATL_MOVES_BYTES, -RBATL_LENGTH);
+    expect_table("long ranks", bytes, size, 4, RBATL_RANKS_BYTES + 1, RBATL_MOVES_BYTES, -RBATL_LENGTH);
+    expect_table("short moves", bytes, size, 4, RBATL_RANKS_BYTES, RBATL_MOVES_BYTES - 1, -RBATL_LENGTH);
+    expect_table("long moves", bytes, size, 255, RBATL_RANKS_BYTES, RBATL_MOVES_BYTES + 1, -RBATL_LENGTH);
     for (size_t i = 0; i < sizeof tableless; i++)
-        expect_table("a row without a table", bytes, size, tableless[i], RANKS, MOVES,
+        expect_table("a row without a table", bytes, size, tableless[i], RBATL_RANKS_BYTES, RBATL_MOVES_BYTES,
                      -RBATL_ROW_CHOICE);
     for (size_t i = 0; i < sizeof damages / sizeof damages[0]; i++) {
         if (damages[i].answer == 0)
             continue;
         fill_catch(bytes);
         bytes[damages[i].change.place] = damages[i].change.value;
-        expect_table(damages[i].name, bytes, size, 4, RANKS, MOVES, damages[i].answer);
-        expect_table(damages[i].name, bytes, size, 255, RANKS, MOVES, damages[i].answer);
+        expect_table(damages[i].name, bytes, size, 4, RBATL_RANKS_BYTES, RBATL_MOVES_BYTES, damages[i].answer);
+        expect_table(damages[i].name, bytes, size, 255, RBATL_RANKS_BYTES, RBATL_MOVES_BYTES, damages[i].answer);
     }
 }
 
-#endif
 
 int main(void)
 {
@@ -405,10 +395,8 @@ int main(void)
     check_lengths();
     check_read();
     check_write();
-#ifdef RBATL_SOLVER
     check_label();
     check_table();
-#endif
     printf("%d passed, %d failed\n", passed, failed);
     return failed != 0;
 }

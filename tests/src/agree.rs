@@ -2,12 +2,10 @@
 //! input both must give the same answer and leave the same bytes in the whole
 //! lent buffer.
 
-#[cfg(feature = "solver")]
 mod solver;
 
 use crate::random::Rng;
 use crate::{ffi, text};
-#[cfg(feature = "solver")]
 pub use solver::{label, table};
 
 /// Bytes on both sides of a lent buffer, which no call may touch.

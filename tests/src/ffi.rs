@@ -27,7 +27,6 @@ pub fn write(block: &[u8], text: &mut [u8]) -> i32 {
 }
 
 /// The calls that the feature `solver` waits for.
-#[cfg(feature = "solver")]
 mod solver {
     extern "C" {
         fn rbatl_label(
@@ -83,5 +82,4 @@ mod solver {
     }
 }
 
-#[cfg(feature = "solver")]
 pub use solver::{label, table};
