@@ -92,7 +92,7 @@ pub fn label(block: &[u8], sets: &mut [u8], room: &mut [u8]) -> Checked
             Checked::Passed
         }
         Checked::Refused(r) => {
-            fill::zeros(room, 0);
+            fill::zeros(room, 0); // a refusal leaves nothing behind either
             Checked::Refused(r)
         }
     }
