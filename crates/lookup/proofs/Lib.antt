@@ -1,0 +1,3 @@
+-- The laws that the calls about one position rest on.
+pub mod Aiming
+pub mod Searching

@@ -1,0 +1,2 @@
+-- What the calls about one position promise.
+pub mod Aims
