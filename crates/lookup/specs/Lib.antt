@@ -1,2 +1,4 @@
 -- What the calls about one position promise.
 pub mod Aims
+pub mod Calls
+pub mod Rows
