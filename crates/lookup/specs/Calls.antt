@@ -72,14 +72,24 @@ abbrev pub ValueIs : (ℕ → Type 0) → Answer → Type 0
 ValueIs right (answer.Value n) = right n
 ValueIs right (answer.Refused r) = Unit {0}
 
+-- the answer: which number, or which value
+pub record Found (Refuses : Refusal → Type 0) (order : List Refusal) (right : ℕ → Type 0) (a : Answer) : Type 0 where
+  pub number : First Refuses order (answerNumber a)
+  pub value : ValueIs right a
+
+abbrev pub MoveFound : Block → ℕ → ℕ → List ℕ → List ℕ → Answer → Type 0
+MoveFound b i s stocks room = Found (Unmoved b i s stocks room) moveOrder (TeamMove b i (position s stocks))
+
+abbrev pub ReplyFound : Block → ℕ → ℕ → List ℕ → ℕ → List ℕ → Answer → Type 0
+ReplyFound b i s stocks m room = Found (Unanswered b i s stocks m room) replyOrder (OthersReply b i (position s stocks) m)
+
+-- and the room, before and after the call
 pub record MoveCall (b : Block) (i s : ℕ) (stocks room room′ : List ℕ) (a : Answer) : Type 0 where
-  pub number : First (Unmoved b i s stocks room) moveOrder (answerNumber a)
-  pub value : ValueIs (TeamMove b i (position s stocks)) a
+  pub found : MoveFound b i s stocks room a
   pub room-after : RoomAfter room room′ (answerNumber a)
 
 pub record ReplyCall (b : Block) (i s : ℕ) (stocks : List ℕ) (m : ℕ) (room room′ : List ℕ) (a : Answer) : Type 0 where
-  pub number : First (Unanswered b i s stocks m room) replyOrder (answerNumber a)
-  pub value : ValueIs (OthersReply b i (position s stocks) m) a
+  pub found : ReplyFound b i s stocks m room a
   pub room-after : RoomAfter room room′ (answerNumber a)
 
 -- the same of a position that exists in a row that is chosen: 10, or a value
