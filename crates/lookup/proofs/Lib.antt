@@ -3,3 +3,4 @@ pub mod Aiming
 pub mod Searching
 pub mod Answering
 pub mod Refusing
+pub mod Replying

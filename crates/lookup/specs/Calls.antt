@@ -96,3 +96,10 @@ pub record ReplyCall (b : Block) (i s : ℕ) (stocks : List ℕ) (m : ℕ) (room
 abbrev pub TeamAnswer : Block → ℕ → Position → Answer → Type 0
 TeamAnswer b i p (answer.Value m) = TeamMove b i p m
 TeamAnswer b i p (answer.Refused r) = (r ≡ refusal.WrongSide) × (CoalitionWins (arenaOf b i) (objectiveOf b i) p → ⊥)
+
+-- 10, 11, or a reply
+abbrev pub OthersAnswer : Block → ℕ → Position → ℕ → Answer → Type 0
+OthersAnswer b i p m (answer.Value r) = OthersReply b i p m r × Allowed (arenaOf b i) p m
+OthersAnswer b i p m (answer.Refused r) =
+    ((r ≡ refusal.WrongSide) × CoalitionWins (arenaOf b i) (objectiveOf b i) p)
+    ⊎ ((r ≡ refusal.Move) × ((CoalitionWins (arenaOf b i) (objectiveOf b i) p → ⊥) × (Allowed (arenaOf b i) p m → ⊥)))
