@@ -21,6 +21,7 @@ use Rattle.game.proofs.Bridge.Proper.{Proper}
 use Rattle.game.proofs.Bridge.Plays.{outcome-fits}
 use Rattle.game.proofs.Local.Lower.{Tells, Retold, same-next, same-always, same-until}
 use Rattle.game.proofs.Blocks.Passing.{valid-proper}
+use Rattle.game.proofs.Blocks.Rowwise.{row-determined}
 use Rattle.game.proofs.Solving.Exist.{counter-exists}
 use Rattle.game.proofs.Whole.Decided.{claims-win, unclaimed-opponents, reply-by-plays}
 use Rattle.solver.specs.Rows.{ClaimsBy}
@@ -51,6 +52,10 @@ module _ (G : Arena) (proper : Proper (G .structure)) (X : Table) (p : Position)
     failed = λ (no-left, no-right). at .failed ((λ h. no-left (l (p .state) (fits .0) .0 h)), λ h. no-right (l″ (p .state) (fits .0) .0 h));
     best = λ loses unfailed. at .best loses (λ (no-left, no-right). unfailed ((λ h. no-left (l (p .state) (fits .0) .1 h)), λ h. no-right (l″ (p .state) (fits .0) .1 h)));
   }
+
+-- in no row of a block that passes do both sides win
+pub not-both : (b : Block) → Valid b → (i : ℕ) → (i < L.rows b) × Strategic (L.kind b i) → (p : Position) → IsPosition (arenaOf b i) p → OpponentsWin (arenaOf b i) (objectiveOf b i) p → CoalitionWins (arenaOf b i) (objectiveOf b i) p → ⊥
+not-both b valid i (inside, strategic) p fits loses wins = row-determined b valid i inside strategic .1 p fits .not-both wins loses
 
 -- what a reply is aimed at, and where the row has failed, by the kind
 counter-by : (b : Block) (i left right : ℕ) (X : Table) (p x : Position)

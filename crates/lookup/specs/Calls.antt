@@ -84,13 +84,15 @@ abbrev pub ReplyFound : Block → ℕ → ℕ → List ℕ → ℕ → List ℕ 
 ReplyFound b i s stocks m room = Found (Unanswered b i s stocks m room) replyOrder (OthersReply b i (position s stocks) m)
 
 -- and the room, before and after the call
-pub record MoveCall (b : Block) (i s : ℕ) (stocks room room′ : List ℕ) (a : Answer) : Type 0 where
-  pub found : MoveFound b i s stocks room a
+pub record Call (Refuses : Refusal → Type 0) (order : List Refusal) (right : ℕ → Type 0) (room room′ : List ℕ) (a : Answer) : Type 0 where
+  pub found : Found Refuses order right a
   pub room-after : RoomAfter room room′ (answerNumber a)
 
-pub record ReplyCall (b : Block) (i s : ℕ) (stocks : List ℕ) (m : ℕ) (room room′ : List ℕ) (a : Answer) : Type 0 where
-  pub found : ReplyFound b i s stocks m room a
-  pub room-after : RoomAfter room room′ (answerNumber a)
+abbrev pub MoveCall : Block → ℕ → ℕ → List ℕ → List ℕ → List ℕ → Answer → Type 0
+MoveCall b i s stocks room = Call (Unmoved b i s stocks room) moveOrder (TeamMove b i (position s stocks)) room
+
+abbrev pub ReplyCall : Block → ℕ → ℕ → List ℕ → ℕ → List ℕ → List ℕ → Answer → Type 0
+ReplyCall b i s stocks m room = Call (Unanswered b i s stocks m room) replyOrder (OthersReply b i (position s stocks) m) room
 
 -- the same of a position that exists in a row that is chosen: 10, or a value
 abbrev pub TeamAnswer : Block → ℕ → Position → Answer → Type 0
