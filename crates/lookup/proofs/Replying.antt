@@ -94,17 +94,18 @@ module _ (b : Block) (valid : Valid b) (i : ℕ) (inside : i < L.rows b) (strate
   row-unclaimed : Claims (arenaOf b i) X (objectiveOf b i) p → ⊥
   row-unclaimed claim = told-unclaimed (transport (sym (retold-claims b i X p row-told)) claim)
 
-  others : (r : ℕ) → ReplyIs (arenaOf b i) X told (Claims (arenaOf b i) X told) p m r → OthersReply b i p m r
-  others r right-one = record {
+  others : (r : ℕ) → r < 64 → ReplyIs (arenaOf b i) X told (Claims (arenaOf b i) X told) p m r → OthersReply b i p m r
+  others r small right-one = record {
     table = X;
     decided = ready-decided b valid i inside strategic left right ranks ready;
     loses = unclaimed-opponents (arenaOf b i) (valid-proper b valid) X (objectiveOf b i) (row-facts b valid i inside strategic left right ranks ready) p fits row-unclaimed;
     reply = reply-by-plays (arenaOf b i) (valid-proper b valid) X (objectiveOf b i) (row-facts b valid i inside strategic left right ranks ready) p fits m r allowed
         (retold-reply (arenaOf b i) (valid-proper b valid) X p fits m allowed r row-told right-one);
+    small = small;
   }
 
   pub others-failed : FailedBy (L.kind b i) left right (rankIn ranks (number (arenaOf b i) p)) (p .state) → OthersReply b i p m 0
-  others-failed over = others 0 (record { won = λ claim. absurd (told-unclaimed claim); failed = λ _. refl; best = λ _ unfailed. absurd (unfailed (transport (failed-by b i left right X p) over)) })
+  others-failed over = others 0 (omega arith) (record { won = λ claim. absurd (told-unclaimed claim); failed = λ _. refl; best = λ _ unfailed. absurd (unfailed (transport (failed-by b i left right X p) over)) })
 
   counter : (r : ℕ) → CountersBy b i left (rankIn ranks (number (arenaOf b i) p)) ranks p m r → Reply (arenaOf b i) p r × CounterAim (arenaOf b i) X told (Claims (arenaOf b i) X told) p (outcome (arenaOf b i) p m r)
   counter r (reply, aim) = (reply, transport (counter-by b i left right X p (outcome (arenaOf b i) p m r)) aim)
@@ -114,7 +115,7 @@ module _ (b : Block) (valid : Valid b) (i : ℕ) (inside : i < L.rows b) (strate
 
   pub others-found : (FailedBy (L.kind b i) left right (rankIn ranks (number (arenaOf b i) p)) (p .state) → ⊥) → (r : ℕ) → FoundBelow (CountersBy b i left (rankIn ranks (number (arenaOf b i) p)) ranks p m) r → OthersReply b i p m r
   others-found unfailed r found = ⊎-elim
-      (λ (small, (h, none)). others r (record {
+      (λ (small, (h, none)). others r small (record {
         won = λ claim. absurd (told-unclaimed claim);
         failed = λ over. absurd (not-failed over);
         best = λ _ _. (counter r h, λ k less c. none k less (by-counter k c));

@@ -4,6 +4,7 @@ use mathlib.Core.Logic.{_⊎_}
 use mathlib.Core.Path.{_≡_}
 use Prim.Native.Nat.{ℕ, _<_}
 use lib.ListN.{length}
+use Rattle.block.specs.Layout as L
 use Rattle.block.specs.Layout.{Block}
 use Rattle.block.specs.Refusal.{numberOf, First}
 use Rattle.block.specs.Check.{Broken, blockOrder}
@@ -33,6 +34,7 @@ pub record TeamMove (b : Block) (i : ℕ) (p : Position) (m : ℕ) : Type 0 wher
   pub decided : TableOf b i table
   pub wins : CoalitionWins (arenaOf b i) (objectiveOf b i) p
   pub move : m ≡ moveAt (arenaOf b i) table p
+  pub small : m < L.maxJoint
 
 -- r is the reply at p to the move m, where the others win
 pub record OthersReply (b : Block) (i : ℕ) (p : Position) (m r : ℕ) : Type 0 where
@@ -40,6 +42,7 @@ pub record OthersReply (b : Block) (i : ℕ) (p : Position) (m r : ℕ) : Type 0
   pub decided : TableOf b i table
   pub loses : OpponentsWin (arenaOf b i) (objectiveOf b i) p
   pub reply : ReplyIs (arenaOf b i) table (objectiveOf b i) (CoalitionWins (arenaOf b i) (objectiveOf b i)) p m r
+  pub small : r < L.maxJoint
 
 -- the conditions that both calls refuse: those of the block and the room, 8 and 9
 abbrev pub Unplaced : Block → ℕ → ℕ → List ℕ → List ℕ → Refusal → Type 0

@@ -1,11 +1,13 @@
 // The C library: each call of document 01 under its C name, and nothing else. include/rbatl.h is its header.
 use block::refusal::Checked;
 use block::refusal::Refusal;
+use lookup::answer::Answer;
 use writer::written::Written;
+ghost use mathlib.Core.List.{[], _∷_};
 ghost use mathlib.Core.Path.{_≡_};
 ghost use Rattle.block.specs.Refusal.{numberOf, answerOf};
 ghost use Rattle.text.specs.Text.{readCall, blockAfter, Exact};
-ghost use Rattle.rbatl.specs.Answer.{minus, CheckAnswer, readAnswer, WriteAnswer, LabelAnswer, TableAnswer};
+ghost use Rattle.rbatl.specs.Answer.{minus, CheckAnswer, readAnswer, WriteAnswer, LabelAnswer, TableAnswer, Small, answerCode, MoveAnswer, ReplyAnswer};
 
 fn refused(r: Refusal) -> i32
     ensures { λ x. ⌜ x ≡ minus (numberOf r) ⌝ }
@@ -32,6 +34,17 @@ fn answer(c: Checked) -> i32
     match c {
         Checked::Passed => 0,
         Checked::Refused(r) => refused(r),
+    }
+}
+
+// The answer of a call that gives a value.
+fn value(a: Answer) -> i32
+    requires { ⌜ Small a ⌝ }
+    ensures { λ x. ⌜ x ≡ answerCode a ⌝ }
+{
+    match a {
+        Answer::Value(n) => n as i32,
+        Answer::Refused(r) => refused(r),
     }
 }
 
@@ -73,4 +86,41 @@ pub extern "C" fn rbatl_table(block: &[u8], row: u8, ranks: &mut [u8], moves: &m
     ensures { λ r. ⌜ TableAnswer (now (block .entry)) row (now (ranks .entry)) (now (moves .entry)) (now (ranks .exit)) (now (moves .exit)) r ⌝ }
 {
     answer(solver::table::table(block, row as usize, ranks, moves))
+}
+
+#[no_mangle]
+pub extern "C" fn rbatl_move(
+    block: &[u8],
+    row: u8,
+    state: u8,
+    stock0: u8,
+    stock1: u8,
+    room: &mut [u8],
+) -> i32
+    ensures { λ r. ⌜ MoveAnswer (now (block .entry)) row state (stock0 ∷ stock1 ∷ []) (now (room .entry)) (now (room .exit)) r ⌝ }
+{
+    value(lookup::team::team_move(block, row as usize, state as usize, stock0, stock1, room))
+}
+
+#[no_mangle]
+pub extern "C" fn rbatl_reply(
+    block: &[u8],
+    row: u8,
+    state: u8,
+    stock0: u8,
+    stock1: u8,
+    mv: u8,
+    room: &mut [u8],
+) -> i32
+    ensures { λ r. ⌜ ReplyAnswer (now (block .entry)) row state (stock0 ∷ stock1 ∷ []) mv (now (room .entry)) (now (room .exit)) r ⌝ }
+{
+    value(lookup::others::reply(
+        block,
+        row as usize,
+        state as usize,
+        stock0,
+        stock1,
+        mv as usize,
+        room,
+    ))
 }
