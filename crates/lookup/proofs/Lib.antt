@@ -4,3 +4,4 @@ pub mod Searching
 pub mod Answering
 pub mod Refusing
 pub mod Replying
+pub mod Playing

@@ -2,3 +2,4 @@
 pub mod Aims
 pub mod Calls
 pub mod Rows
+pub mod Plays

@@ -21,6 +21,7 @@ ghost use Rattle.game.specs.Position.{position, IsPosition};
 ghost use Rattle.game.specs.Model.{arenaOf};
 ghost use Rattle.lookup.specs.Aims.{FailedBy};
 ghost use Rattle.lookup.specs.Calls.{OthersAnswer, ReplyFound, ReplyCall};
+ghost use Rattle.lookup.specs.Plays.{OthersDemand};
 
 // Whether the row has failed already in state s, at a position of rank own.
 fn failed(kind: usize, left: usize, right: usize, own: usize, s: usize) -> bool
@@ -110,6 +111,7 @@ pub fn reply(
     room: &mut [u8],
 ) -> Answer
     ensures { λ a. ⌜ ReplyCall (now (block .entry)) i s (stock0 ∷ stock1 ∷ []) m (now (room .entry)) (now (room .exit)) a ⌝ }
+    ensures { λ _. ⌜ OthersDemand (now (block .entry)) i ⌝ }
 {
     if block.len() != layout::BLOCK_BYTES {
         return Answer::Refused(Refusal::Length);

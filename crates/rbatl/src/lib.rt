@@ -7,6 +7,7 @@ ghost use mathlib.Core.List.{[], _∷_};
 ghost use mathlib.Core.Path.{_≡_};
 ghost use Rattle.block.specs.Refusal.{numberOf, answerOf};
 ghost use Rattle.text.specs.Text.{readCall, blockAfter, Exact};
+ghost use Rattle.lookup.specs.Plays.{TeamDemand, OthersDemand};
 ghost use Rattle.rbatl.specs.Answer.{minus, CheckAnswer, readAnswer, WriteAnswer, LabelAnswer, TableAnswer, Small, answerCode, MoveAnswer, ReplyAnswer};
 
 fn refused(r: Refusal) -> i32
@@ -98,6 +99,7 @@ pub extern "C" fn rbatl_move(
     room: &mut [u8],
 ) -> i32
     ensures { λ r. ⌜ MoveAnswer (now (block .entry)) row state (stock0 ∷ stock1 ∷ []) (now (room .entry)) (now (room .exit)) r ⌝ }
+    ensures { λ _. ⌜ TeamDemand (now (block .entry)) row ⌝ }
 {
     value(lookup::team::team_move(block, row as usize, state as usize, stock0, stock1, room))
 }
@@ -113,6 +115,7 @@ pub extern "C" fn rbatl_reply(
     room: &mut [u8],
 ) -> i32
     ensures { λ r. ⌜ ReplyAnswer (now (block .entry)) row state (stock0 ∷ stock1 ∷ []) mv (now (room .entry)) (now (room .exit)) r ⌝ }
+    ensures { λ _. ⌜ OthersDemand (now (block .entry)) row ⌝ }
 {
     value(lookup::others::reply(
         block,
