@@ -1,3 +1,4 @@
--- The laws that the calls about one position rest on.
+-- The laws that the calls about one position or one row rest on.
 pub mod Aiming
 pub mod Searching
+pub mod Listing

@@ -1,2 +1,3 @@
--- What the calls about one position promise.
+-- What the calls about one position or one row promise.
 pub mod Aims
+pub mod Sets

@@ -1,2 +1,3 @@
 // What may be asked about one position or one row: the team's move, the reply to it, and the states of a row.
 pub mod aims;
+pub mod sets;
