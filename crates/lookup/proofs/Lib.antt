@@ -2,3 +2,4 @@
 pub mod Aiming
 pub mod Searching
 pub mod Listing
+pub mod Calls
