@@ -1,11 +1,12 @@
 // The C library: each call of document 01 under its C name, and nothing else. include/rbatl.h is its header.
 use block::refusal::Checked;
 use block::refusal::Refusal;
+use lookup::states::Listed;
 use writer::written::Written;
 ghost use mathlib.Core.Path.{_≡_};
 ghost use Rattle.block.specs.Refusal.{numberOf, answerOf};
 ghost use Rattle.text.specs.Text.{readCall, blockAfter, Exact};
-ghost use Rattle.rbatl.specs.Answer.{minus, CheckAnswer, readAnswer, WriteAnswer, LabelAnswer, TableAnswer};
+ghost use Rattle.rbatl.specs.Answer.{minus, CheckAnswer, readAnswer, WriteAnswer, LabelAnswer, TableAnswer, StatesAnswer};
 
 fn refused(r: Refusal) -> i32
     ensures { λ x. ⌜ x ≡ minus (numberOf r) ⌝ }
@@ -73,4 +74,14 @@ pub extern "C" fn rbatl_table(block: &[u8], row: u8, ranks: &mut [u8], moves: &m
     ensures { λ r. ⌜ TableAnswer (now (block .entry)) row (now (ranks .entry)) (now (moves .entry)) (now (ranks .exit)) (now (moves .exit)) r ⌝ }
 {
     answer(solver::table::table(block, row as usize, ranks, moves))
+}
+
+#[no_mangle]
+pub extern "C" fn rbatl_states(block: &[u8], row: u8, list: &mut [u8], room: &mut [u8]) -> i32
+    ensures { λ r. ⌜ StatesAnswer (now (block .entry)) row (now (list .entry)) (now (room .entry)) (now (list .exit)) (now (room .exit)) r ⌝ }
+{
+    match lookup::states::fill_states(block, row as usize, list, room) {
+        Listed::Count(n) => n as i32,
+        Listed::Refused(r) => refused(r),
+    }
 }
