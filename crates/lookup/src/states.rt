@@ -85,6 +85,7 @@ fn front(a: Listed) -> usize
 // The part of the list that holds the states of row i: its front, and nothing of it where the call is refused.
 pub fn states<'a>(block: &[u8], i: usize, list: &'a mut [u8], room: &mut [u8]) -> &'a mut [u8]
     ensures { λ r. ⌜ PartCall (now (block .entry)) i (now (list .entry)) (now (room .entry)) (now r) (now (room .exit)) ⌝ }
+    ensures { λ r. ⌜ r .ptr ≡ list .entry .ptr ⌝ }
 {
     let n = front(fill_states(block, i, list, room));
     &mut list[..n]

@@ -1,5 +1,5 @@
 -- `states` hands back the front of the list that `fill_states` fills. Assumes nothing.
-use mathlib.Core.Path.{sym, ap}
+use mathlib.Core.Path.{refl, sym, ap}
 use Prim.Native.Nat.{ℕ}
 use native.Mathlib.Omega.{arith}
 use lib.ListN.{take}
@@ -28,7 +28,7 @@ same-length c = search needs
 returns : tie.Need-returns
 returns c =
     let filled = c .before .before .before .before .before .before .fill-states in
-    record { list′ = filled .last .1 .1 .0; answer = filled .result; call = filled .ensures; front = ap (λ (n : ℕ). take n (filled .last .1 .1 .0)) (c .before .front .ensures) }
+    (record { list′ = filled .last .1 .1 .0; answer = filled .result; call = filled .ensures; front = ap (λ (n : ℕ). take n (filled .last .1 .1 .0)) (c .before .front .ensures) }, refl)
 
 pub states-spec : {M : Type 1} → statement M
 states-spec =
