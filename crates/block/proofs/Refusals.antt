@@ -55,11 +55,11 @@ module _ {P : Refusal → Type 0} where
   first-after zero (later h w) second = later h (first-after zero w second)
 
   -- where 1 does not hold, another number is first
-  pub not-first : {n : ℕ} → (P Length → ⊥) → First P blockOrder n → n ≡ 1 → ⊥
-  not-first fails (here h e) one = fails h
-  not-first fails (later _ (here _ e)) one = omega arith
-  not-first fails (later _ (later _ (here _ e))) one = omega arith
-  not-first fails (later _ (later _ (later _ (here _ e)))) one = omega arith
-  not-first fails (later _ (later _ (later _ (later _ (here _ e))))) one = omega arith
-  not-first fails (later _ (later _ (later _ (later _ (later _ (here _ e)))))) one = omega arith
-  not-first fails (later _ (later _ (later _ (later _ (later _ (later _ (none e))))))) one = omega arith
+  another : (rs : List Refusal) {n : ℕ} → Each (λ r. 1 < numberOf r) rs → First P rs n → n ≡ 1 → ⊥
+  another [] larger (none e) one = omega arith
+  another (r ∷ rs) (l, larger) (here h e) one = omega arith
+  another (r ∷ rs) (l, larger) (later h w) one = another rs larger w one
+
+  pub not-first : (rs : List Refusal) {n : ℕ} → Each (λ r. 1 < numberOf r) rs → (P Length → ⊥) → First P (Length ∷ rs) n → n ≡ 1 → ⊥
+  not-first rs larger fails (here h e) one = fails h
+  not-first rs larger fails (later h w) one = another rs larger w one

@@ -1,5 +1,7 @@
 -- The laws that the calls about one position or one row rest on.
 pub mod Aiming
 pub mod Searching
+pub mod Answering
+pub mod Refusing
 pub mod Listing
 pub mod Calls

@@ -11,9 +11,9 @@ use Rattle.block.specs.Valid.{Valid}
 use Rattle.block.specs.Refusal.{numberOf, First, none, here, later}
 use Rattle.block.specs.Check.{Broken, Verdict, blockOrder}
 use Rattle.block.specs.declared.refusal.Refusal.{Refusal}
-use Rattle.block.specs.declared.refusal.Refusal.the-variants.{Length, RowChoice}
+use Rattle.block.specs.declared.refusal.Refusal.the-variants.{Length, Sizes, State, Next, Row, Unused, RowChoice}
 use Rattle.block.specs.declared.refusal.Checked.the-variants as checked
-use Rattle.block.proofs.Refusals.{first-same, first-same-in, block-numbers, first-before, first-after, not-first, number-some}
+use Rattle.block.proofs.Refusals.{Each, first-same, first-same-in, block-numbers, first-before, first-after, not-first, number-some}
 use Rattle.game.specs.Buffers.{wordIn}
 use Rattle.game.proofs.Numbers.Decide.{lt?}
 use Rattle.solver.specs.Calls.{setsBytes, roomBytes, movesBytes, rowOrder, Unlabelled, RoomAfter, LabelCall, NoChoice, RowTable, TableCall}
@@ -46,8 +46,11 @@ module _ (b : Block) (sets room : List ℕ) where
     sets-verdict : {n : ℕ} → Verdict b n → First (Unlabelled b sets room) blockOrder n
     sets-verdict v = first-same (λ r h. inl h) (λ r. ⊎-elim (λ h. h) (λ w. absurd (⊎-elim (λ h. h sets-long) (λ h. h room-long) (w .1)))) v
 
+    larger : Each (λ r. 1 < numberOf r) (Sizes ∷ State ∷ Next ∷ Row ∷ Unused ∷ [])
+    larger = (omega arith, (omega arith, (omega arith, (omega arith, (omega arith, tt)))))
+
     after : {n : ℕ} (room′ : List ℕ) → Verdict b n → room′ ≡ replicate roomBytes 0 → RoomAfter room room′ n
-    after room′ v zeros = record { left = λ one. absurd (not-first (λ fails. fails block-long) v one); cleared = λ _. zeros }
+    after room′ v zeros = record { left = λ one. absurd (not-first (Sizes ∷ State ∷ Next ∷ Row ∷ Unused ∷ []) larger (λ fails. fails block-long) v one); cleared = λ _. zeros }
 
     pub label-refused : (r : Refusal) (room′ : List ℕ) → Verdict b (numberOf r) → room′ ≡ replicate roomBytes 0 → LabelCall b sets room sets room′ (checked.Refused r)
     label-refused r room′ v zeros = record { number = sets-verdict v; labelled = refl; room-after = after room′ v zeros }

@@ -11,7 +11,7 @@ use Rattle.block.specs.Decide.{Bit}
 use Rattle.block.specs.Layout as L
 use Rattle.block.specs.Layout.{Block, Strategic}
 use Rattle.block.specs.Valid.{Valid}
-use Rattle.game.specs.Position.{number, full}
+use Rattle.game.specs.Position.{Position, number, full}
 use Rattle.game.specs.Play.{Objective, next, always, until}
 use Rattle.game.specs.Table.{Table, never, rankAt}
 use Rattle.game.specs.Facts.{Claims, Facts}
@@ -46,25 +46,25 @@ words-decided b i left right = go (eqb (L.kind b i) L.nextKind) (eqb (L.kind b i
     go false false = ((λ q _. bit? left q), λ q _. bit? right q)
 
 -- what a rank claims goes by the kind alone
-pub claims-by : (b : Block) (i left right : ℕ) (X : Table) (s : ℕ) → ClaimsBy (L.kind b i) (rankAt (arenaOf b i) X (full (arenaOf b i) s)) ≡ Claims (arenaOf b i) X (objectiveBy (L.kind b i) left right) (full (arenaOf b i) s)
-claims-by b i left right X s = go (eqb (L.kind b i) L.nextKind) (eqb (L.kind b i) L.alwaysKind)
+pub claims-by : (b : Block) (i left right : ℕ) (X : Table) (p : Position) → ClaimsBy (L.kind b i) (rankAt (arenaOf b i) X p) ≡ Claims (arenaOf b i) X (objectiveBy (L.kind b i) left right) p
+claims-by b i left right X p = go (eqb (L.kind b i) L.nextKind) (eqb (L.kind b i) L.alwaysKind)
   where
-    go : (t u : Bool) → cond t (rankAt (arenaOf b i) X (full (arenaOf b i) s) ≡ 1) (cond u (rankAt (arenaOf b i) X (full (arenaOf b i) s) ≡ never) (rankAt (arenaOf b i) X (full (arenaOf b i) s) < never))
-        ≡ Claims (arenaOf b i) X (cond t (next (Bit left)) (cond u (always (Bit left)) (until (Bit left) (Bit right)))) (full (arenaOf b i) s)
+    go : (t u : Bool) → cond t (rankAt (arenaOf b i) X p ≡ 1) (cond u (rankAt (arenaOf b i) X p ≡ never) (rankAt (arenaOf b i) X p < never))
+        ≡ Claims (arenaOf b i) X (cond t (next (Bit left)) (cond u (always (Bit left)) (until (Bit left) (Bit right)))) p
     go true u = refl
     go false true = refl
     go false false = refl
 
 -- the objective does not matter to a claim but by its kind
-retold-claims : (b : Block) (i : ℕ) (X : Table) (s : ℕ) {t t′ : Objective} → Retold (arenaOf b i) t t′ → Claims (arenaOf b i) X t (full (arenaOf b i) s) ≡ Claims (arenaOf b i) X t′ (full (arenaOf b i) s)
-retold-claims b i X s (same-next l) = refl
-retold-claims b i X s (same-always l) = refl
-retold-claims b i X s (same-until l r) = refl
+pub retold-claims : (b : Block) (i : ℕ) (X : Table) (p : Position) {t t′ : Objective} → Retold (arenaOf b i) t t′ → Claims (arenaOf b i) X t p ≡ Claims (arenaOf b i) X t′ p
+retold-claims b i X p (same-next l) = refl
+retold-claims b i X p (same-always l) = refl
+retold-claims b i X p (same-until l r) = refl
 
 module _ (b : Block) (valid : Valid b) (i : ℕ) (inside : i < L.rows b) (left right : ℕ)
     (left-set : L.propKind < L.kind b i → RowSet b (L.left b i) left) (right-set : L.Binary (L.kind b i) → RowSet b (L.right b i) right) where
   -- the sets tell the lower rows' truth
-  row-retold : Strategic (L.kind b i) → Retold (arenaOf b i) (objectiveBy (L.kind b i) left right) (objectiveOf b i)
+  pub row-retold : Strategic (L.kind b i) → Retold (arenaOf b i) (objectiveBy (L.kind b i) left right) (objectiveOf b i)
   row-retold strategic = go (eq? (L.kind b i) L.nextKind) (eq? (L.kind b i) L.alwaysKind)
     where
       told : (t t′ : Objective) → objectiveBy (L.kind b i) left right ≡ t → objectiveOf b i ≡ t′ → Retold (arenaOf b i) t t′ → Retold (arenaOf b i) (objectiveBy (L.kind b i) left right) (objectiveOf b i)
@@ -111,7 +111,7 @@ module _ (b : Block) (valid : Valid b) (i : ℕ) (inside : i < L.rows b) (left r
         table-says-set b (valid-proper b valid) i (valid .row-fits i inside) w X strategic (facts-told strategic X facts)
         (says-same b w (TrueBy b i left right ranks) (λ s. Claims G X (objectiveOf b i) (full G s))
         (λ s _. along (strategic-stands (L.kind b i) (Prop s) (Not s) (Or s) (Claimed s) (λ e. omega (arith, strategic)) (λ e. omega (arith, strategic)) (λ e. omega (arith, strategic))
-        ∙ claims-by b i left right X s ∙ retold-claims b i X s (row-retold strategic))) word)
+        ∙ claims-by b i left right X (full G s) ∙ retold-claims b i X (full G s) (row-retold strategic))) word)
 
     pub row-labelled : (Strategic (L.kind b i) → RanksOf b i left right ranks) → RowSet b i w
     row-labelled found = go (eq? (L.kind b i) L.propKind) (eq? (L.kind b i) L.notKind) (eq? (L.kind b i) L.orKind)

@@ -1,0 +1,111 @@
+-- From a row made ready to the team's move: what is found by ranks is what plays give. Assumes nothing.
+use mathlib.Core.Bool.{Bool, true, false, cond}
+use mathlib.Core.List.{List}
+use mathlib.Core.Logic.{_⊎_, inl, inr, ⊎-elim}
+use mathlib.Core.Path.{_≡_, refl, sym, _∙_, ap, subst, transport}
+use Prim.Native.Nat.{ℕ, _^_, _≤_, _<_}
+use native.Mathlib.Nat.{pow-le-pow-right}
+use native.Mathlib.Omega.{arith}
+use lib.Dec.{eqb}
+use lib.ListN.{getD}
+use borrow.Author.Tests.{eqb-true, eqb-false}
+use Rattle.block.specs.Decide.{Bit}
+use Rattle.block.specs.Layout as L
+use Rattle.block.specs.Layout.{Block, Strategic}
+use Rattle.block.specs.Valid.{Valid}
+use Rattle.game.specs.Position.{Position, IsPosition, number, Reply, Allowed, outcome}
+use Rattle.game.specs.Play.{Objective, next, always, until, CoalitionWins}
+use Rattle.game.specs.Table.{Table, never, rankAt, moveAt, Aim, Good, Met}
+use Rattle.game.specs.Facts.{Claims, Facts}
+use Rattle.game.specs.Buffers.{rankIn}
+use Rattle.game.specs.Model.{arenaOf, objectiveOf, objectiveBy}
+use Rattle.game.proofs.Blocks.Passing.{valid-proper}
+use Rattle.game.proofs.Blocks.Tables.{table-decided}
+use Rattle.game.proofs.Solving.Determined.{foundMoves, moves-found}
+use Rattle.game.proofs.Solving.Exist.{good-exists}
+use Rattle.game.proofs.Whole.Decided.{claims-win, wins-claimed}
+use Rattle.game.proofs.Whole.Unique.{smallest-unique}
+use Rattle.solver.specs.Rows.{ClaimsBy}
+use Rattle.solver.proofs.Labelling.{words-decided, claims-by, retold-claims, row-retold, facts-told}
+use Rattle.lookup.specs.Aims.{AimBy, Aimed, GoodBy, FoundBelow}
+use Rattle.lookup.specs.Rows.{Prepared}
+use Rattle.lookup.specs.Calls.{TableOf, TeamMove}
+
+-- until at rank 0, by the kind of the row
+pub met-by : (b : Block) (i left right : ℕ) (X : Table) (p : Position) → Strategic (L.kind b i) → Met (arenaOf b i) X (objectiveBy (L.kind b i) left right) p → (L.kind b i ≡ 5) × (rankAt (arenaOf b i) X p ≡ 0)
+met-by b i left right X p strategic = go (eqb (L.kind b i) L.nextKind) (eqb (L.kind b i) L.alwaysKind) refl refl
+  where
+    go : (t u : Bool) → eqb (L.kind b i) L.nextKind ≡ t → eqb (L.kind b i) L.alwaysKind ≡ u
+        → Met (arenaOf b i) X (cond t (next (Bit left)) (cond u (always (Bit left)) (until (Bit left) (Bit right)))) p → (L.kind b i ≡ 5) × (rankAt (arenaOf b i) X p ≡ 0)
+    go true u e e′ met = absurd met
+    go false true e e′ met = absurd met
+    go false false e e′ met = (omega (arith, strategic, eqb-false (L.kind b i) L.nextKind e, eqb-false (L.kind b i) L.alwaysKind e′), met)
+
+pub by-met : (b : Block) (i left right : ℕ) (X : Table) (p : Position) → L.kind b i ≡ 5 → rankAt (arenaOf b i) X p ≡ 0 → Met (arenaOf b i) X (objectiveBy (L.kind b i) left right) p
+by-met b i left right X p e zero = subst (λ (k : ℕ). Met (arenaOf b i) X (objectiveBy k left right) p) (sym e) zero
+
+-- what a move is aimed at goes by the kind too
+aim-by : (b : Block) (i left right : ℕ) (X : Table) (p x : Position) → AimBy (L.kind b i) left (rankAt (arenaOf b i) X p) (x .state) (rankAt (arenaOf b i) X x) ≡ Aim (arenaOf b i) X (objectiveBy (L.kind b i) left right) p x
+aim-by b i left right X p x = go (eqb (L.kind b i) L.nextKind) (eqb (L.kind b i) L.alwaysKind)
+  where
+    go : (t u : Bool) → cond t (Bit left (x .state)) (cond u (rankAt (arenaOf b i) X x ≡ never) (rankAt (arenaOf b i) X x < rankAt (arenaOf b i) X p))
+        ≡ Aim (arenaOf b i) X (cond t (next (Bit left)) (cond u (always (Bit left)) (until (Bit left) (Bit right)))) p x
+    go true u = refl
+    go false true = refl
+    go false false = refl
+
+module _ (b : Block) (valid : Valid b) (i : ℕ) (inside : i < L.rows b) (strategic : Strategic (L.kind b i)) (left right : ℕ) (ranks : List ℕ) (ready : Prepared b i left right ranks) where
+  abbrev told : Objective
+  told = objectiveBy (L.kind b i) left right
+
+  -- the table of these ranks
+  abbrev pub ready-table : Table
+  ready-table = record { rank = rankIn ranks; move = λ n. getD (foundMoves (arenaOf b i) (valid-proper b valid) told (words-decided b i left right) (rankIn ranks)) n 0 }
+
+  pub ready-facts : Facts (arenaOf b i) ready-table told
+  ready-facts = moves-found (arenaOf b i) (valid-proper b valid) told (words-decided b i left right) (rankIn ranks) (ready .ranks-of .facts)
+
+  pub row-facts : Facts (arenaOf b i) ready-table (objectiveOf b i)
+  row-facts = facts-told b valid i inside left right (ready .left-set) (ready .right-set) strategic ready-table ready-facts
+
+  pub ready-decided : TableOf b i ready-table
+  ready-decided = table-decided b valid i ready-table row-facts
+
+  module _ (p : Position) (fits : IsPosition (arenaOf b i) p) where
+    -- by the rank alone it is told who wins
+    same-claim : ClaimsBy (L.kind b i) (rankIn ranks (number (arenaOf b i) p)) ≡ Claims (arenaOf b i) ready-table (objectiveOf b i) p
+    same-claim = claims-by b i left right ready-table p ∙ retold-claims b i ready-table p (row-retold b valid i inside left right (ready .left-set) (ready .right-set) strategic)
+
+    pub claimed-wins : ClaimsBy (L.kind b i) (rankIn ranks (number (arenaOf b i) p)) → CoalitionWins (arenaOf b i) (objectiveOf b i) p
+    claimed-wins claim = claims-win (arenaOf b i) (valid-proper b valid) ready-table (objectiveOf b i) row-facts p fits (transport same-claim claim)
+
+    pub wins-claimed-by : CoalitionWins (arenaOf b i) (objectiveOf b i) p → ClaimsBy (L.kind b i) (rankIn ranks (number (arenaOf b i) p))
+    wins-claimed-by wins = transport (sym same-claim) (wins-claimed (arenaOf b i) (valid-proper b valid) ready-table (objectiveOf b i) row-facts p fits wins)
+
+    module _ (claim : ClaimsBy (L.kind b i) (rankIn ranks (number (arenaOf b i) p))) where
+      told-claim : Claims (arenaOf b i) ready-table told p
+      told-claim = transport (claims-by b i left right ready-table p) claim
+
+      team : (m : ℕ) → m ≡ moveAt (arenaOf b i) ready-table p → TeamMove b i p m
+      team m e = record { table = ready-table; decided = ready-decided; wins = claimed-wins claim; move = e }
+
+      pub team-met : L.kind b i ≡ 5 → rankIn ranks (number (arenaOf b i) p) ≡ 0 → TeamMove b i p 0
+      team-met kind zero = team 0 (sym (ready-facts .moves p fits .met told-claim (by-met b i left right ready-table p kind zero)))
+
+      good : (m : ℕ) → GoodBy b i left (rankIn ranks (number (arenaOf b i) p)) ranks p m → Good (arenaOf b i) ready-table told p m
+      good m (allowed, each) = (allowed, λ r reply. transport (aim-by b i left right ready-table p (outcome (arenaOf b i) p m r)) (each r reply))
+
+      by-good : (m : ℕ) → Good (arenaOf b i) ready-table told p m → GoodBy b i left (rankIn ranks (number (arenaOf b i) p)) ranks p m
+      by-good m (allowed, each) = (allowed, λ r reply. transport (sym (aim-by b i left right ready-table p (outcome (arenaOf b i) p m r))) (each r reply))
+
+      pub team-found : (L.kind b i ≡ 5 → rankIn ranks (number (arenaOf b i) p) ≡ 0 → ⊥) → (m : ℕ) → FoundBelow (GoodBy b i left (rankIn ranks (number (arenaOf b i) p)) ranks p) m → TeamMove b i p m
+      team-found unmet m found = ⊎-elim
+          (λ (small, least). team m (smallest-unique (GoodBy b i left (rankIn ranks (number (arenaOf b i) p)) ranks p) (Good (arenaOf b i) ready-table told p) good by-good m (moveAt (arenaOf b i) ready-table p) least
+          (ready-facts .moves p fits .best told-claim not-met)))
+          (λ (_, none).
+          let (k, h) = good-exists (arenaOf b i) ready-table told (ready .ranks-of .facts) p fits told-claim not-met in
+          absurd (none k (omega (arith, h .0 .0 .0, pow-le-pow-right {n = 4} (omega arith) (valid .sized .agents-fit .1))) (by-good k h)))
+          found
+        where
+          not-met : Met (arenaOf b i) ready-table told p → ⊥
+          not-met met = let (kind, zero) = met-by b i left right ready-table p strategic met in unmet kind zero

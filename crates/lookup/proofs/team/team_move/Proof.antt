@@ -1,0 +1,39 @@
+-- `team_move` looks at the lengths, answers, and clears the room. Assumes nothing.
+use mathlib.Core.List.{List, [], _∷_}
+use mathlib.Core.Logic.{inl, inr}
+use mathlib.Core.Path.{_≡_}
+use Prim.Native.Nat.{ℕ, _≤_, _<_}
+use native.Mathlib.Omega.{arith}
+use borrow.Author.Needs.{needs}
+use Rattle.solver.proofs.Calls.{cleared}
+use Rattle.lookup.proofs.Refusing.{move-length, move-cleared}
+use Rattle.lookup.proofs.team.team_move.Statement.{statement}
+use Rattle.lookup.proofs.team.team_move.Tie as tie
+
+returns : tie.Need-returns
+returns c = let args = c .before .before .before .args in move-length (args .block .now) (args .i) (args .s) (args .stock0 ∷ args .stock1 ∷ []) (args .room .now) (inl (c .if1 .taken))
+
+returns-2 : tie.Need-returns-2
+returns-2 c = let args = c .before .before .before .before .args in move-length (args .block .now) (args .i) (args .s) (args .stock0 ∷ args .stock1 ∷ []) (args .room .now) (inr (c .if2 .taken))
+
+slice-aggregate-team-answer : tie.Need-slice-aggregate-team-answer
+slice-aggregate-team-answer c = search needs
+
+team-answer-requires : tie.Need-team-answer-requires
+team-answer-requires c κs = (omega arith, omega (arith, c .before .before .if2 .left))
+
+zeros-requires : tie.Need-zeros-requires
+zeros-requires c κs = search needs
+
+same-length : tie.Need-same-length
+same-length c = search needs
+
+returns-3 : tie.Need-returns-3
+returns-3 c =
+    let args = c .before .before .before .before .before .before .before .before .before .before .before .before .before .args in
+    let found = c .before .before .before .before .before .before .team-answer in
+    move-cleared (args .block .now) (args .i) (args .s) (args .stock0 ∷ args .stock1 ∷ []) (args .room .now) (c .before .before .before .before .before .before .before .before .before .before .if1 .left) (c .before .before .before .before .before .before .before .before .before .if2 .left) (c .before .before .zeros .last .0) (found .result) (found .ensures .0)
+    (cleared (found .last .1 .1 .1 .1 .0) (c .before .before .zeros .last .0) 12288 (c .before .before .zeros .ensures) (omega (arith, found .ensures .1, c .before .before .before .before .before .before .before .before .before .if2 .left)))
+
+pub team-move-spec : {M : Type 1} → statement M
+team-move-spec = tie.close (tie.spec returns returns-2 slice-aggregate-team-answer team-answer-requires zeros-requires same-length returns-3)

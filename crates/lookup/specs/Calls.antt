@@ -1,0 +1,98 @@
+-- What the team's move and the reply calls promise (document 01, "When a row is true" and "Numbers for what is turned down").
+use mathlib.Core.List.{List, [], _∷_, _++_}
+use mathlib.Core.Logic.{_⊎_}
+use mathlib.Core.Path.{_≡_}
+use Prim.Native.Nat.{ℕ, _<_}
+use lib.ListN.{length}
+use Rattle.block.specs.Layout.{Block}
+use Rattle.block.specs.Refusal.{numberOf, First}
+use Rattle.block.specs.Check.{Broken, blockOrder}
+use Rattle.block.specs.declared.refusal.Refusal.{Refusal}
+use Rattle.block.specs.declared.refusal.Refusal.the-variants as refusal
+use Rattle.game.specs.Position.{Position, position, IsPosition, Allowed}
+use Rattle.game.specs.Play.{CoalitionWins, OpponentsWin}
+use Rattle.game.specs.Table.{Table, moveAt, ReplyIs, Decided}
+use Rattle.game.specs.Model.{arenaOf, objectiveOf}
+use Rattle.solver.specs.Calls.{roomBytes, RoomAfter, NoChoice}
+use Rattle.lookup.specs.Aims.{NoPosition}
+use Rattle.lookup.specs.declared.answer.Answer.{Answer}
+use Rattle.lookup.specs.declared.answer.Answer.the-variants as answer
+
+-- the number of an answer, 0 for a value
+abbrev pub answerNumber : Answer → ℕ
+answerNumber (answer.Value n) = 0
+answerNumber (answer.Refused r) = numberOf r
+
+-- a table that is decided at every position, of which there is one only (game's proofs/Whole/Unique)
+abbrev pub TableOf : Block → ℕ → Table → Type 0
+TableOf b i X = (y : Position) → IsPosition (arenaOf b i) y → Decided (arenaOf b i) X (objectiveOf b i) y
+
+-- m is the team's move at p: the table's, where the team wins
+pub record TeamMove (b : Block) (i : ℕ) (p : Position) (m : ℕ) : Type 0 where
+  pub table : Table
+  pub decided : TableOf b i table
+  pub wins : CoalitionWins (arenaOf b i) (objectiveOf b i) p
+  pub move : m ≡ moveAt (arenaOf b i) table p
+
+-- r is the reply at p to the move m, where the others win
+pub record OthersReply (b : Block) (i : ℕ) (p : Position) (m r : ℕ) : Type 0 where
+  pub table : Table
+  pub decided : TableOf b i table
+  pub loses : OpponentsWin (arenaOf b i) (objectiveOf b i) p
+  pub reply : ReplyIs (arenaOf b i) table (objectiveOf b i) (CoalitionWins (arenaOf b i) (objectiveOf b i)) p m r
+
+-- the conditions that both calls refuse: those of the block and the room, 8 and 9
+abbrev pub Unplaced : Block → ℕ → ℕ → List ℕ → List ℕ → Refusal → Type 0
+Unplaced b i s stocks room r =
+    Broken b r
+    ⊎ (((r ≡ refusal.Length) × (length room ≡ roomBytes → ⊥))
+    ⊎ (((r ≡ refusal.RowChoice) × NoChoice b i)
+    ⊎ ((r ≡ refusal.Position) × NoPosition b i s stocks)))
+
+-- and 10 where the team does not win
+abbrev pub Unmoved : Block → ℕ → ℕ → List ℕ → List ℕ → Refusal → Type 0
+Unmoved b i s stocks room r =
+    Unplaced b i s stocks room r ⊎ ((r ≡ refusal.WrongSide) × (CoalitionWins (arenaOf b i) (objectiveOf b i) (position s stocks) → ⊥))
+
+-- or where it does, and 11
+abbrev pub Unanswered : Block → ℕ → ℕ → List ℕ → ℕ → List ℕ → Refusal → Type 0
+Unanswered b i s stocks m room r =
+    Unplaced b i s stocks room r
+    ⊎ (((r ≡ refusal.WrongSide) × CoalitionWins (arenaOf b i) (objectiveOf b i) (position s stocks))
+    ⊎ ((r ≡ refusal.Move) × (Allowed (arenaOf b i) (position s stocks) m → ⊥)))
+
+abbrev pub moveOrder : List Refusal
+moveOrder = blockOrder ++ (refusal.RowChoice ∷ refusal.Position ∷ refusal.WrongSide ∷ [])
+
+abbrev pub replyOrder : List Refusal
+replyOrder = blockOrder ++ (refusal.RowChoice ∷ refusal.Position ∷ refusal.WrongSide ∷ refusal.Move ∷ [])
+
+-- what the answer's value has to be
+abbrev pub ValueIs : (ℕ → Type 0) → Answer → Type 0
+ValueIs right (answer.Value n) = right n
+ValueIs right (answer.Refused r) = Unit {0}
+
+-- the answer: which number, or which value
+pub record Found (Refuses : Refusal → Type 0) (order : List Refusal) (right : ℕ → Type 0) (a : Answer) : Type 0 where
+  pub number : First Refuses order (answerNumber a)
+  pub value : ValueIs right a
+
+abbrev pub MoveFound : Block → ℕ → ℕ → List ℕ → List ℕ → Answer → Type 0
+MoveFound b i s stocks room = Found (Unmoved b i s stocks room) moveOrder (TeamMove b i (position s stocks))
+
+abbrev pub ReplyFound : Block → ℕ → ℕ → List ℕ → ℕ → List ℕ → Answer → Type 0
+ReplyFound b i s stocks m room = Found (Unanswered b i s stocks m room) replyOrder (OthersReply b i (position s stocks) m)
+
+-- and the room, before and after the call
+pub record MoveCall (b : Block) (i s : ℕ) (stocks room room′ : List ℕ) (a : Answer) : Type 0 where
+  pub found : MoveFound b i s stocks room a
+  pub room-after : RoomAfter room room′ (answerNumber a)
+
+pub record ReplyCall (b : Block) (i s : ℕ) (stocks : List ℕ) (m : ℕ) (room room′ : List ℕ) (a : Answer) : Type 0 where
+  pub found : ReplyFound b i s stocks m room a
+  pub room-after : RoomAfter room room′ (answerNumber a)
+
+-- the same of a position that exists in a row that is chosen: 10, or a value
+abbrev pub TeamAnswer : Block → ℕ → Position → Answer → Type 0
+TeamAnswer b i p (answer.Value m) = TeamMove b i p m
+TeamAnswer b i p (answer.Refused r) = (r ≡ refusal.WrongSide) × (CoalitionWins (arenaOf b i) (objectiveOf b i) p → ⊥)

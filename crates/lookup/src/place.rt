@@ -1,0 +1,74 @@
+// A position that a caller names, and its row made ready.
+use block::layout;
+use game::positions;
+use solver::label;
+use solver::rows;
+ghost use mathlib.Core.Path.{_≡_};
+ghost use Prim.Native.Nat.{_≤_, _<_};
+ghost use lib.ListN.{length, getD};
+ghost use Rattle.block.specs.Decide.{Decides};
+ghost use Rattle.block.specs.Layout as L;
+ghost use Rattle.block.specs.Valid.{Valid};
+ghost use Rattle.game.specs.Position as P;
+ghost use Rattle.game.specs.Model.{boundsOf};
+ghost use Rattle.lookup.specs.Aims.{NoPosition};
+ghost use Rattle.lookup.specs.Rows.{Prepared};
+
+pub struct Words {
+    pub left: usize,
+    pub right: usize,
+}
+
+// Whether a stock of resource j is above its bound, or not 0 where it must be.
+fn above(block: &[u8], i: usize, j: usize, stock: usize) -> bool
+    requires { ⌜ Valid (now block) ⌝ }
+    requires { ⌜ (i < L.rows (now block)) × L.Strategic (L.kind (now block) i) ⌝ }
+    ensures { λ r. ⌜ Decides (P.places (boundsOf (now (block .entry)) i j) ≤ stock) r ⌝ }
+{
+    if layout::resources(block) <= j {
+        return 1 <= stock;
+    }
+    positions::places(block, i, j) <= stock
+}
+
+fn wide(x: u8) -> usize
+    ensures { λ r. ⌜ r ≡ x ⌝ }
+{
+    x as usize
+}
+
+// Whether there is no such position.
+pub fn no_position(block: &[u8], i: usize, s: usize, stocks: &[u8]) -> bool
+    requires { ⌜ Valid (now block) ⌝ }
+    requires { ⌜ (i < L.rows (now block)) × L.Strategic (L.kind (now block) i) × (2 ≤ length (now stocks)) ⌝ }
+    ensures { λ r. ⌜ Decides (NoPosition (now (block .entry)) i s (now (stocks .entry))) r ⌝ }
+{
+    if layout::states(block) <= s {
+        return true;
+    }
+    let mut j = 0;
+    while j < 2 {
+        if above(block, i, j, wide(stocks[j])) {
+            return true;
+        }
+        j += 1;
+    }
+    false
+}
+
+// Labels the rows below row i and stores its ranks in the room. Answers the sets of the rows that it names.
+pub fn prepare(block: &[u8], i: usize, room: &mut [u8]) -> Words
+    requires { ⌜ Valid (now block) ⌝ }
+    requires { ⌜ (i < L.rows (now block)) × L.Strategic (L.kind (now block) i) × (12288 ≤ length (now room)) ⌝ }
+    ensures { λ w. ⌜ Prepared (now (block .entry)) i (w .left) (w .right) (now (room .exit)) × (length (now (room .exit)) ≡ length (now (room .entry))) ⌝ }
+{
+    let mut sets = [0u8; 128];
+    label::label_rows(block, i, &mut sets, room);
+    let left = label::left_set(block, &sets, i);
+    let right = label::right_set(block, &sets, i);
+    rows::rank_row(block, i, left, right, room);
+    Words {
+        left: left,
+        right: right,
+    }
+}

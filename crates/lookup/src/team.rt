@@ -1,0 +1,86 @@
+// The team's move at a position.
+use crate::aims;
+use crate::answer::Answer;
+use crate::place;
+use block::fill;
+use block::layout;
+use block::refusal::Checked;
+use block::refusal::Refusal;
+use game::buffers;
+use game::positions;
+use solver::rows;
+use solver::table;
+ghost use mathlib.Core.List.{[], _∷_};
+ghost use mathlib.Core.Path.{_≡_};
+ghost use Prim.Native.Nat.{_≤_, _<_};
+ghost use lib.ListN.{length};
+ghost use Rattle.block.specs.Layout as L;
+ghost use Rattle.block.specs.Valid.{Valid};
+ghost use Rattle.game.specs.Position.{position, IsPosition};
+ghost use Rattle.game.specs.Model.{arenaOf};
+ghost use Rattle.lookup.specs.Calls.{TeamAnswer, MoveFound, MoveCall};
+
+// The team's move at a position of a strategic row.
+pub fn team_at(block: &[u8], i: usize, s: usize, stocks: &[u8], room: &mut [u8]) -> Answer
+    requires { ⌜ Valid (now block) ⌝ }
+    requires { ⌜ (i < L.rows (now block)) × L.Strategic (L.kind (now block) i) × (L.resources (now block) ≤ length (now stocks)) × (12288 ≤ length (now room)) ⌝ }
+    requires { ⌜ IsPosition (arenaOf (now block) i) (position s (now stocks)) ⌝ }
+    ensures { λ a. ⌜ TeamAnswer (now (block .entry)) i (position s (now (stocks .entry))) a ⌝ }
+    ensures { λ _. ⌜ length (now (room .exit)) ≡ length (now (room .entry)) ⌝ }
+{
+    let words = place::prepare(block, i, room);
+    let left = words.left;
+    let kind = layout::kind(block, i);
+    let own = buffers::rank_at(room, positions::number(block, i, s, stocks));
+    if !rows::claims(kind, own) {
+        return Answer::Refused(Refusal::WrongSide);
+    }
+    if kind == 5 && own == 0 {
+        return Answer::Value(0);
+    }
+    let m = aims::find_move(block, i, left, own, room, s, stocks);
+    Answer::Value(m)
+}
+
+// The same of any block, row and position; the room is left as it comes out.
+fn team_answer(block: &[u8], i: usize, s: usize, stocks: &[u8], room: &mut [u8]) -> Answer
+    requires { ⌜ (length (now stocks) ≡ 2) × (length (now room) ≡ 12288) ⌝ }
+    ensures { λ a. ⌜ MoveFound (now (block .entry)) i s (now (stocks .entry)) (now (room .entry)) a ⌝ }
+    ensures { λ _. ⌜ length (now (room .exit)) ≡ length (now (room .entry)) ⌝ }
+{
+    match block::check(block) {
+        Checked::Passed => {
+            if table::no_choice(block, i) {
+                return Answer::Refused(Refusal::RowChoice);
+            }
+            if place::no_position(block, i, s, stocks) {
+                return Answer::Refused(Refusal::Position);
+            }
+            team_at(block, i, s, stocks, room)
+        }
+        Checked::Refused(r) => Answer::Refused(r),
+    }
+}
+
+// The team's move of row i in state s with these stocks. The room is left filled with zeros, unless a buffer has another length.
+pub fn team_move(
+    block: &[u8],
+    i: usize,
+    s: usize,
+    stock0: u8,
+    stock1: u8,
+    room: &mut [u8],
+) -> Answer
+    ensures { λ a. ⌜ MoveCall (now (block .entry)) i s (stock0 ∷ stock1 ∷ []) (now (room .entry)) (now (room .exit)) a ⌝ }
+{
+    if block.len() != layout::BLOCK_BYTES {
+        return Answer::Refused(Refusal::Length);
+    }
+    if room.len() != 12288 {
+        return Answer::Refused(Refusal::Length);
+    }
+    let stocks = [stock0, stock1];
+    let answer = team_answer(block, i, s, &stocks, room);
+    fill::zeros(room, 0);
+    answer
+}
