@@ -21,8 +21,8 @@ use Rattle.game.specs.Model.{RowSet}
 use Rattle.game.proofs.Numbers.Decide.{lt?}
 use Rattle.solver.specs.Calls.{roomBytes, rowOrder, RoomAfter}
 use Rattle.solver.proofs.Calls.{cleared, row-length, row-broken, row-missing, row-answered}
-use Rattle.lookup.specs.declared.states.Listed.{Listed}
-use Rattle.lookup.specs.declared.states.Listed.the-variants as listed
+use Rattle.lookup.specs.declared.answer.Answer.{Answer}
+use Rattle.lookup.specs.declared.answer.Answer.the-variants as answer
 use Rattle.lookup.specs.Sets.{statesBytes, Lists}
 use Rattle.lookup.specs.States.{Unlisted, Admitted, StatesIn, frontOf, StatesCall}
 use Rattle.lookup.proofs.Listing.{lists-same}
@@ -42,9 +42,9 @@ pub set-states : (b : Block) (i w : ℕ) (list : List ℕ) (n : ℕ) → RowSet 
 set-states b i w list n told (listed, count) = record { lists = lists-same (λ s. told .1 s) listed; count = (w, (told, count)) }
 
 -- what is handed back is a part of the list
-pub front-fits : (b : Block) (i : ℕ) (list room list′ room′ : List ℕ) (a : Listed) → StatesCall b i list room list′ room′ a → frontOf a ≤ length list′
-front-fits b i list room list′ room′ (listed.Count n) call = let l = call .list-after .lists in omega (arith, l .fits, l .long)
-front-fits b i list room list′ room′ (listed.Refused r) call = omega arith
+pub front-fits : (b : Block) (i : ℕ) (list room list′ room′ : List ℕ) (a : Answer) → StatesCall b i list room list′ room′ a → frontOf a ≤ length list′
+front-fits b i list room list′ room′ (answer.Value n) call = let l = call .list-after .lists in omega (arith, l .fits, l .long)
+front-fits b i list room list′ room′ (answer.Refused r) call = omega arith
 
 -- zeros in the whole room, under any number but 1
 pub room-cleared : (room used room′ : List ℕ) (n : ℕ) → (n ≡ 1 → ⊥) → length used ≡ roomBytes → room′ ≡ take 0 used ++ replicate (length used - 0) 0 → RoomAfter room room′ n

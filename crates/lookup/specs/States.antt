@@ -16,8 +16,9 @@ use Rattle.block.specs.declared.refusal.Checked.{Checked}
 use Rattle.block.specs.declared.refusal.Checked.the-variants as checked
 use Rattle.game.specs.Model.{RowTrue, RowSet}
 use Rattle.solver.specs.Calls.{roomBytes, rowOrder, RoomAfter}
-use Rattle.lookup.specs.declared.states.Listed.{Listed}
-use Rattle.lookup.specs.declared.states.Listed.the-variants as listed
+use Rattle.lookup.specs.declared.answer.Answer.{Answer}
+use Rattle.lookup.specs.declared.answer.Answer.the-variants as answer
+use Rattle.lookup.specs.Calls.{answerNumber}
 use Rattle.lookup.specs.Sets.{statesBytes, Lists}
 
 -- the conditions that are refused, with a list and a room of these lengths. Every kind of row has states, so 8 is a row that does not exist
@@ -37,31 +38,27 @@ pub record StatesIn (b : Block) (i : ℕ) (list : List ℕ) (n : ℕ) : Type 0 w
   pub lists : Lists (λ s. (s < L.states b) × RowTrue b i s) list n
   pub count : (w : ℕ) × (RowSet b i w × (n ≡ ones w))
 
--- the number of an answer's refusal, or 0, and how much of the list it hands back
-abbrev pub numberIn : Listed → ℕ
-numberIn (listed.Count n) = 0
-numberIn (listed.Refused r) = numberOf r
-
-abbrev pub frontOf : Listed → ℕ
-frontOf (listed.Count n) = n
-frontOf (listed.Refused r) = 0
+-- how much of the list an answer hands back
+abbrev pub frontOf : Answer → ℕ
+frontOf (answer.Value n) = n
+frontOf (answer.Refused r) = 0
 
 -- the list, t before the call and u after it: a refusal leaves it as it was
-abbrev pub ListAfter : Block → ℕ → List ℕ → List ℕ → Listed → Type 0
-ListAfter b i t u (listed.Count n) = StatesIn b i u n
-ListAfter b i t u (listed.Refused r) = u ≡ t
+abbrev pub ListAfter : Block → ℕ → List ℕ → List ℕ → Answer → Type 0
+ListAfter b i t u (answer.Value n) = StatesIn b i u n
+ListAfter b i t u (answer.Refused r) = u ≡ t
 
-pub record StatesCall (b : Block) (i : ℕ) (list room list′ room′ : List ℕ) (answer : Listed) : Type 0 where
-  pub number : First (Unlisted b i (length list) (length room)) rowOrder (numberIn answer)
-  pub list-after : ListAfter b i list list′ answer
-  pub room-after : RoomAfter room room′ (numberIn answer)
+pub record StatesCall (b : Block) (i : ℕ) (list room list′ room′ : List ℕ) (a : Answer) : Type 0 where
+  pub number : First (Unlisted b i (length list) (length room)) rowOrder (answerNumber a)
+  pub list-after : ListAfter b i list list′ a
+  pub room-after : RoomAfter room room′ (answerNumber a)
 
 -- the part that is handed back is the front of the list that the call fills, list′
 pub record PartCall (b : Block) (i : ℕ) (list room part room′ : List ℕ) : Type 0 where
   pub list′ : List ℕ
-  pub answer : Listed
-  pub call : StatesCall b i list room list′ room′ answer
-  pub front : part ≡ take (frontOf answer) list′
+  pub filled : Answer
+  pub call : StatesCall b i list room list′ room′ filled
+  pub front : part ≡ take (frontOf filled) list′
 
 -- the second call, on the same input: the same number, and nothing changes but the room
 pub record RefusalCall (b : Block) (i : ℕ) (list room room′ : List ℕ) (answer : Checked) : Type 0 where

@@ -1,4 +1,5 @@
 // The states in which a row is true, listed in a lent buffer of 24 bytes.
+use crate::answer::Answer;
 use crate::room;
 use crate::sets;
 use block::fill;
@@ -15,12 +16,6 @@ ghost use Rattle.block.specs.Refusal.{answerOf, First};
 ghost use Rattle.block.specs.Valid.{Valid};
 ghost use Rattle.solver.specs.Calls.{rowOrder};
 ghost use Rattle.lookup.specs.States.{Unlisted, Admitted, StatesIn, frontOf, StatesCall, RefusalCall, PartCall};
-
-// How many states were listed, or the refusal.
-pub enum Listed {
-    Count(usize),
-    Refused(Refusal),
-}
 
 // The refusal of a call with a list and a room of these lengths.
 fn turned_down(block: &[u8], i: usize, list: usize, room: usize) -> Checked
@@ -55,30 +50,30 @@ fn list_row(block: &[u8], i: usize, list: &mut [u8], room: &mut [u8]) -> usize
     sets::list_set(set, list)
 }
 
-// The states of row i in the front of the list. The room is left filled with zeros, unless a buffer has another length.
-pub fn fill_states(block: &[u8], i: usize, list: &mut [u8], room: &mut [u8]) -> Listed
+// The count of the states of row i, which are in the front of the list. The room is left filled with zeros, unless a buffer has another length.
+pub fn fill_states(block: &[u8], i: usize, list: &mut [u8], room: &mut [u8]) -> Answer
     ensures { λ r. ⌜ StatesCall (now (block .entry)) i (now (list .entry)) (now (room .entry)) (now (list .exit)) (now (room .exit)) r ⌝ }
 {
     match turned_down(block, i, list.len(), room.len()) {
         Checked::Passed => {
             let n = list_row(block, i, list, room);
             fill::zeros(room, 0);
-            Listed::Count(n)
+            Answer::Value(n)
         }
         Checked::Refused(r) => {
             room::leave(room, r);
-            Listed::Refused(r)
+            Answer::Refused(r)
         }
     }
 }
 
 // How much of the list is handed back.
-fn front(a: Listed) -> usize
+fn front(a: Answer) -> usize
     ensures { λ r. ⌜ r ≡ frontOf a ⌝ }
 {
     match a {
-        Listed::Count(n) => n,
-        Listed::Refused(_) => 0,
+        Answer::Value(n) => n,
+        Answer::Refused(_) => 0,
     }
 }
 

@@ -10,8 +10,8 @@ use Rattle.block.specs.declared.refusal.Checked.{Checked}
 use Rattle.text.specs.Text.{readCall, answerTo}
 use Rattle.solver.specs.Calls.{LabelCall, TableCall}
 use Rattle.lookup.specs.States.{StatesCall}
-use Rattle.lookup.specs.declared.states.Listed.{Listed}
-use Rattle.lookup.specs.declared.states.Listed.the-variants as listed
+use Rattle.lookup.specs.declared.answer.Answer.{Answer}
+use Rattle.lookup.specs.declared.answer.Answer.the-variants as answer
 use Rattle.writer.specs.Call.{WriteCall}
 use Rattle.writer.specs.declared.written.Written.{Written}
 use Rattle.writer.specs.declared.written.Written.the-variants as written
@@ -45,11 +45,11 @@ LabelAnswer b sets room sets′ room′ r = (a : Checked) × LabelCall b sets ro
 abbrev pub TableAnswer : Block → ℕ → List ℕ → List ℕ → List ℕ → List ℕ → ℤ → Type 0
 TableAnswer b i ranks moves ranks′ moves′ r = (a : Checked) × TableCall b i ranks moves ranks′ moves′ a × (r ≡ minus (answerOf a))
 
--- what an answer of the lister is handed back as: the count of states, or minus the number of the refusal
-abbrev pub listedCode : Listed → ℤ
-listedCode (listed.Count n) = pos n
-listedCode (listed.Refused r) = minus (numberOf r)
+-- what an answer with a value is handed back as: the value, or minus the number of the refusal
+abbrev pub valueCode : Answer → ℤ
+valueCode (answer.Value n) = pos n
+valueCode (answer.Refused r) = minus (numberOf r)
 
 -- what the lister promises of its answer, the list and the room, each before and after it
 abbrev pub StatesAnswer : Block → ℕ → List ℕ → List ℕ → List ℕ → List ℕ → ℤ → Type 0
-StatesAnswer b i list room list′ room′ r = (a : Listed) × StatesCall b i list room list′ room′ a × (r ≡ listedCode a)
+StatesAnswer b i list room list′ room′ r = (a : Answer) × StatesCall b i list room list′ room′ a × (r ≡ valueCode a)

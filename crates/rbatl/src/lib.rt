@@ -1,7 +1,7 @@
 // The C library: each call of document 01 under its C name, and nothing else. include/rbatl.h is its header.
 use block::refusal::Checked;
 use block::refusal::Refusal;
-use lookup::states::Listed;
+use lookup::answer::Answer;
 use writer::written::Written;
 ghost use mathlib.Core.Path.{_≡_};
 ghost use Rattle.block.specs.Refusal.{numberOf, answerOf};
@@ -81,7 +81,7 @@ pub extern "C" fn rbatl_states(block: &[u8], row: u8, list: &mut [u8], room: &mu
     ensures { λ r. ⌜ StatesAnswer (now (block .entry)) row (now (list .entry)) (now (room .entry)) (now (list .exit)) (now (room .exit)) r ⌝ }
 {
     match lookup::states::fill_states(block, row as usize, list, room) {
-        Listed::Count(n) => n as i32,
-        Listed::Refused(r) => refused(r),
+        Answer::Value(n) => n as i32,
+        Answer::Refused(r) => refused(r),
     }
 }

@@ -73,26 +73,26 @@ row-chosen b valid i chosen = go (lt? i (L.rows b)) (lt? (L.kind b i) L.nextKind
 
 -- a call on one row refuses the block's conditions, under 1 also buffers that do not fit, and then a row that will not do
 module _ (b : Block) (Misfit NoRow : Type 0) where
-  abbrev pub Unanswered : Refusal → Type 0
-  Unanswered r = Broken b r ⊎ (((r ≡ Length) × Misfit) ⊎ ((r ≡ RowChoice) × NoRow))
+  abbrev pub RowRefused : Refusal → Type 0
+  RowRefused r = Broken b r ⊎ (((r ≡ Length) × Misfit) ⊎ ((r ≡ RowChoice) × NoRow))
 
-  pub row-length : Misfit → First Unanswered rowOrder 1
+  pub row-length : Misfit → First RowRefused rowOrder 1
   row-length wrong = here (inr (inl (refl, wrong))) refl
 
   module _ (fits : Misfit → ⊥) where
     -- before 8, the conditions are the block's
-    row-verdict : {n : ℕ} → Verdict b n → First Unanswered blockOrder n
+    row-verdict : {n : ℕ} → Verdict b n → First RowRefused blockOrder n
     row-verdict v = first-same-in (λ r. numberOf r < 8) blockOrder block-numbers
         (λ r ok h. inl h)
         (λ r ok. ⊎-elim (λ h. h) (λ w. absurd (⊎-elim (λ (_, wrong). fits wrong) (λ (e, _). omega (arith, ap numberOf e)) w))) v
 
-    pub row-broken : (r : Refusal) → Verdict b (numberOf r) → First Unanswered rowOrder (numberOf r)
+    pub row-broken : (r : Refusal) → Verdict b (numberOf r) → First RowRefused rowOrder (numberOf r)
     row-broken r v = first-before (RowChoice ∷ []) (row-verdict v) (λ e. omega (arith, number-some r))
 
-    pub row-missing : Verdict b 0 → NoRow → First Unanswered rowOrder 8
+    pub row-missing : Verdict b 0 → NoRow → First RowRefused rowOrder 8
     row-missing v missing = first-after refl (row-verdict v) (here (inr (inr (refl, missing))) refl)
 
-    pub row-answered : Verdict b 0 → (NoRow → ⊥) → First Unanswered rowOrder 0
+    pub row-answered : Verdict b 0 → (NoRow → ⊥) → First RowRefused rowOrder 0
     row-answered v found = first-after refl (row-verdict v) (later (⊎-elim (λ h. h) (λ w. ⊎-elim (λ (_, wrong). fits wrong) (λ (_, h). found h) w)) (none refl))
 
 module _ (b : Block) (i : ℕ) (ranks moves : List ℕ) where

@@ -3,7 +3,7 @@ use mathlib.Core.Path.{_∙_}
 use Prim.Native.Nat.{ℕ, _≤_}
 use native.Mathlib.Omega.{arith}
 use mir.Facts.{toZ-ofZ}
-use Rattle.lookup.specs.declared.states.Listed.the-variants as listed
+use Rattle.lookup.specs.declared.answer.Answer.the-variants as answer
 use Rattle.rbatl.proofs.Values.{small}
 use borrow.Author.Needs.{needs}
 use Rattle.rbatl.proofs.rbatl_states.Statement.{statement}
@@ -35,7 +35,7 @@ same-length-2 c = search needs
 returns : tie.Need-returns
 returns c =
     let call = rw (c .before .n .given .1) at (c .before .before .before .before .before .before .before .fill-states .ensures) in
-    (listed.Count (c .before .n .given .0 .0), call, toZ-ofZ (small (omega (arith, call .list-after .lists .fits))))
+    (answer.Value (c .before .n .given .0 .0), call, toZ-ofZ (small (omega (arith, call .list-after .lists .fits))))
 
 same-length-3 : tie.Need-same-length-3
 same-length-3 c = search needs
@@ -46,7 +46,7 @@ same-length-4 c = search needs
 returns-2 : tie.Need-returns-2
 returns-2 c =
     let told = c .before .before .r .given in
-    (listed.Refused (told .0 .0), rw (told .1) at (c .before .before .before .before .before .before .before .before .fill-states .ensures), toZ-ofZ (record { sfits = c .refused .ok }) ∙ c .refused .ensures)
+    (answer.Refused (told .0 .0), rw (told .1) at (c .before .before .before .before .before .before .before .before .fill-states .ensures), toZ-ofZ (record { sfits = c .refused .ok }) ∙ c .refused .ensures)
 
 pub rbatl-states-spec : {M : Type 1} → statement M
 rbatl-states-spec =

@@ -28,7 +28,7 @@ same-length c = search needs
 returns : tie.Need-returns
 returns c =
     let filled = c .before .before .before .before .before .before .fill-states in
-    (record { list′ = filled .last .1 .1 .0; answer = filled .result; call = filled .ensures; front = ap (λ (n : ℕ). take n (filled .last .1 .1 .0)) (c .before .front .ensures) }, refl)
+    (record { list′ = filled .last .1 .1 .0; filled = filled .result; call = filled .ensures; front = ap (λ (n : ℕ). take n (filled .last .1 .1 .0)) (c .before .front .ensures) }, refl)
 
 pub states-spec : {M : Type 1} → statement M
 states-spec =
