@@ -32,6 +32,9 @@ extern "C" {
 #define RBATL_MOVES_BYTES 6144
 #define RBATL_ROOM_BYTES 12288
 
+/* Length of the list of a row's states. */
+#define RBATL_STATES_BYTES 24
+
 /* The rank where nothing is enforced or forced, and the move where the
  * coalition does not win. */
 #define RBATL_NEVER 65535
@@ -146,6 +149,16 @@ int32_t rbatl_move(const uint8_t *block, size_t block_len, uint8_t row, uint8_t 
  * rbatl_move, with -RBATL_MOVE last of the refusals. */
 int32_t rbatl_reply(const uint8_t *block, size_t block_len, uint8_t row, uint8_t state,
                     uint8_t stock0, uint8_t stock1, uint8_t move, uint8_t *room, size_t room_len);
+
+/* Lists the states in which a row, of any kind, is true: their count, and the
+ * list of RBATL_STATES_BYTES holds them in rising order and zeros after them.
+ * The room is RBATL_ROOM_BYTES of working room, whatever they hold, and holds
+ * zeros afterwards. -RBATL_LENGTH for a block, a list or a room of any other
+ * length, and then nothing changes; else what rbatl_check answers on the block;
+ * else -RBATL_ROW_CHOICE for a row that does not exist. A refused call leaves
+ * the list as it was. */
+int32_t rbatl_states(const uint8_t *block, size_t block_len, uint8_t row, uint8_t *list,
+                     size_t list_len, uint8_t *room, size_t room_len);
 
 #ifdef __cplusplus
 }

@@ -6,7 +6,7 @@ mod solver;
 
 use crate::random::Rng;
 use crate::{ffi, text};
-pub use solver::{label, table};
+pub use solver::{label, states, table};
 
 /// Bytes on both sides of a lent buffer, which no call may touch.
 const MARGIN: usize = 64;

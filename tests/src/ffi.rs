@@ -26,8 +26,8 @@ pub fn write(block: &[u8], text: &mut [u8]) -> i32 {
     unsafe { rbatl_write(block.as_ptr(), block.len(), text.as_mut_ptr(), text.len()) }
 }
 
-/// The calls that the feature `solver` waits for.
-mod solver {
+/// The calls on the rows of a job.
+mod rows {
     extern "C" {
         fn rbatl_label(
             block: *const u8,
@@ -45,6 +45,15 @@ mod solver {
             ranks_len: usize,
             moves: *mut u8,
             moves_len: usize,
+        ) -> i32;
+        fn rbatl_states(
+            block: *const u8,
+            block_len: usize,
+            row: u8,
+            list: *mut u8,
+            list_len: usize,
+            room: *mut u8,
+            room_len: usize,
         ) -> i32;
     }
 
@@ -80,6 +89,23 @@ mod solver {
             )
         }
     }
+
+    /// The count of states, or minus the refusal number.
+    pub fn states(block: &[u8], row: u8, list: &mut [u8], room: &mut [u8]) -> i32 {
+        // SAFETY: each pointer is valid for the length beside it, and the two
+        // buffers, borrowed mutably, overlap nothing.
+        unsafe {
+            rbatl_states(
+                block.as_ptr(),
+                block.len(),
+                row,
+                list.as_mut_ptr(),
+                list.len(),
+                room.as_mut_ptr(),
+                room.len(),
+            )
+        }
+    }
 }
 
-pub use solver::{label, table};
+pub use rows::{label, states, table};

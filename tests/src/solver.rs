@@ -1,15 +1,16 @@
-//! The calls that label rows and fill tables, from document 01 and by the
-//! checker's search on positions.
+//! The calls that label rows, fill tables and list states, from document 01 and
+//! by the checker's search on positions.
 
 use crate::checker::search;
 use crate::checker::structure::{Set, Structure};
-use crate::layout::MAX_ROWS;
+use crate::layout::{MAX_ROWS, MAX_STATES};
 use crate::{block, refusal};
 
 pub const SETS_BYTES: usize = 4 * MAX_ROWS;
 pub const ROOM_BYTES: usize = 12_288;
 pub const RANKS_BYTES: usize = 12_288;
 pub const MOVES_BYTES: usize = 6_144;
+pub const STATES_BYTES: usize = MAX_STATES;
 
 /// What the calls make of a block; it is labelled once for all of them.
 pub struct Model {
@@ -37,11 +38,9 @@ impl Model {
     /// The labelling call. A refusal leaves the sets as they were; the room
     /// holds zeros afterwards, unless a length is wrong.
     pub fn label(&self, sets: &mut [u8], room: &mut [u8]) -> i32 {
-        let lengths = sets.len() == SETS_BYTES && room.len() == ROOM_BYTES;
-        if !lengths || self.number() == refusal::LENGTH {
+        if sets.len() != SETS_BYTES || !self.clears(room) {
             return -i32::from(refusal::LENGTH);
         }
-        room.fill(0);
         match &self.job {
             Ok(job) => {
                 store(sets, job.sets.iter().flat_map(|set| set.to_le_bytes()));
@@ -72,6 +71,33 @@ impl Model {
         );
         store(moves, table.moves.iter().copied());
         0
+    }
+
+    /// The lister of a row's states. A refusal leaves the list as it was; the
+    /// room holds zeros afterwards, unless a length is wrong.
+    pub fn states(&self, row: u8, list: &mut [u8], room: &mut [u8]) -> i32 {
+        if list.len() != STATES_BYTES || !self.clears(room) {
+            return -i32::from(refusal::LENGTH);
+        }
+        let job = match &self.job {
+            Ok(job) => job,
+            Err(number) => return -i32::from(*number),
+        };
+        let Some(set) = job.sets.get(usize::from(row)) else {
+            return -i32::from(refusal::ROW_CHOICE);
+        };
+        let states = (0..MAX_STATES as u8).filter(|state| set >> state & 1 == 1);
+        store(list, states.clone());
+        states.count() as i32
+    }
+
+    /// Clears the room, unless its length or the block's is wrong.
+    fn clears(&self, room: &mut [u8]) -> bool {
+        let fits = room.len() == ROOM_BYTES && self.number() != refusal::LENGTH;
+        if fits {
+            room.fill(0);
+        }
+        fits
     }
 
     /// The refusal number of the block, or 0.

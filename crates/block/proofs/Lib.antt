@@ -1,6 +1,7 @@
 -- Laws that belong to no one function.
 pub mod Decide
 pub mod Masks
+pub mod Ones
 pub mod Digits
 pub mod Places
 pub mod Passing

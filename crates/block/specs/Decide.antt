@@ -24,3 +24,8 @@ Bit m i = m / 2 ^ i % 2 ≡ 1
 -- the mask m has a bit at or above p
 abbrev pub BitFrom : ℕ → ℕ → Type 0
 BitFrom p m = (i : ℕ) × (p ≤ i) × Bit m i
+
+-- s is the lowest bit of the word w
+pub record Lowest (w s : ℕ) : Type 0 where
+  pub bit : Bit w s
+  pub first : (x : ℕ) → x < s → Bit w x → ⊥

@@ -1,7 +1,9 @@
--- The laws that the calls about one position rest on.
+-- The laws that the calls about one position or one row rest on.
 pub mod Aiming
 pub mod Searching
 pub mod Answering
 pub mod Refusing
 pub mod Replying
 pub mod Playing
+pub mod Listing
+pub mod Calls

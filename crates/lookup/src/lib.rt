@@ -3,4 +3,7 @@ pub mod aims;
 pub mod answer;
 pub mod others;
 pub mod place;
+pub mod room;
+pub mod sets;
+pub mod states;
 pub mod team;

@@ -1,10 +1,18 @@
--- The values of the calls about a position are small. Assumes nothing.
-use Prim.Native.Nat.{ℕ, _<_}
+-- A length, a count or the number of a joint action fits the number that a C caller is handed back. Assumes nothing.
+use Prim.Native.Nat.{ℕ, _≤_, _<_}
+use native.Mathlib.Nat.{lt-of-le-of-lt}
+use lib.Dec.{lit<}
+use lib.IntN.{pos}
+use mir.Syntax.{w32}
+use mir.Val.{SFits}
 use Rattle.lookup.specs.Calls.{ValueIs}
 use Rattle.lookup.specs.declared.answer.Answer.{Answer}
 use Rattle.lookup.specs.declared.answer.Answer.the-variants as answer
 use Rattle.rbatl.specs.Answer.{Small}
 
+pub small : {n : ℕ} → n ≤ 32768 → SFits w32 (pos n)
+small h = record { sfits = lt-of-le-of-lt h (lit< tt) }
+
 pub small-value : (right : ℕ → Type 0) → ((n : ℕ) → right n → n < 64) → (a : Answer) → ValueIs right a → Small a
-small-value right small (answer.Value n) h = small n h
-small-value right small (answer.Refused r) h = tt
+small-value right least (answer.Value n) h = least n h
+small-value right least (answer.Refused r) h = tt

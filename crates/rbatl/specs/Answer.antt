@@ -10,6 +10,7 @@ use Rattle.block.specs.declared.refusal.Checked.{Checked}
 use Rattle.text.specs.Text.{readCall, answerTo}
 use Rattle.solver.specs.Calls.{LabelCall, TableCall}
 use Rattle.lookup.specs.Calls.{MoveCall, ReplyCall}
+use Rattle.lookup.specs.States.{StatesCall}
 use Rattle.lookup.specs.declared.answer.Answer.{Answer}
 use Rattle.lookup.specs.declared.answer.Answer.the-variants as answer
 use Rattle.writer.specs.Call.{WriteCall}
@@ -61,3 +62,7 @@ MoveAnswer b i s stocks room room′ r = (a : Answer) × MoveCall b i s stocks r
 
 abbrev pub ReplyAnswer : Block → ℕ → ℕ → List ℕ → ℕ → List ℕ → List ℕ → ℤ → Type 0
 ReplyAnswer b i s stocks m room room′ r = (a : Answer) × ReplyCall b i s stocks m room room′ a × (r ≡ answerCode a)
+
+-- what the lister promises of its answer, the list and the room, each before and after it
+abbrev pub StatesAnswer : Block → ℕ → List ℕ → List ℕ → List ℕ → List ℕ → ℤ → Type 0
+StatesAnswer b i list room list′ room′ r = (a : Answer) × StatesCall b i list room list′ room′ a × (r ≡ answerCode a)

@@ -8,7 +8,7 @@ ghost use mathlib.Core.Path.{_≡_};
 ghost use Rattle.block.specs.Refusal.{numberOf, answerOf};
 ghost use Rattle.text.specs.Text.{readCall, blockAfter, Exact};
 ghost use Rattle.lookup.specs.Plays.{TeamDemand, OthersDemand};
-ghost use Rattle.rbatl.specs.Answer.{minus, CheckAnswer, readAnswer, WriteAnswer, LabelAnswer, TableAnswer, Small, answerCode, MoveAnswer, ReplyAnswer};
+ghost use Rattle.rbatl.specs.Answer.{minus, CheckAnswer, readAnswer, WriteAnswer, LabelAnswer, TableAnswer, Small, answerCode, MoveAnswer, ReplyAnswer, StatesAnswer};
 
 fn refused(r: Refusal) -> i32
     ensures { λ x. ⌜ x ≡ minus (numberOf r) ⌝ }
@@ -126,4 +126,14 @@ pub extern "C" fn rbatl_reply(
         mv as usize,
         room,
     ))
+}
+
+#[no_mangle]
+pub extern "C" fn rbatl_states(block: &[u8], row: u8, list: &mut [u8], room: &mut [u8]) -> i32
+    ensures { λ r. ⌜ StatesAnswer (now (block .entry)) row (now (list .entry)) (now (room .entry)) (now (list .exit)) (now (room .exit)) r ⌝ }
+{
+    match lookup::states::fill_states(block, row as usize, list, room) {
+        Answer::Value(n) => n as i32,
+        Answer::Refused(r) => refused(r),
+    }
 }

@@ -16,7 +16,7 @@ use Rattle.block.specs.declared.refusal.Checked.the-variants as checked
 use Rattle.block.proofs.Refusals.{Each, first-same, first-same-in, block-numbers, first-before, first-after, not-first, number-some}
 use Rattle.game.specs.Buffers.{wordIn}
 use Rattle.game.proofs.Numbers.Decide.{lt?}
-use Rattle.solver.specs.Calls.{setsBytes, roomBytes, movesBytes, Unlabelled, RoomAfter, LabelCall, NoChoice, Untabled, RowTable, TableCall}
+use Rattle.solver.specs.Calls.{setsBytes, roomBytes, movesBytes, rowOrder, Unlabelled, RoomAfter, LabelCall, NoChoice, RowTable, TableCall}
 use Rattle.solver.specs.Labels.{LowerSets}
 
 -- a buffer of zeros
@@ -71,28 +71,46 @@ row-chosen b valid i chosen = go (lt? i (L.rows b)) (lt? (L.kind b i) L.nextKind
     go (yes inside) (yes h) = absurd (chosen (inr h))
     go (no outside) d = absurd (chosen (inl (omega arith)))
 
-module _ (b : Block) (i : ℕ) (ranks moves : List ℕ) where
-  pub table-length : ((length ranks ≡ roomBytes → ⊥) ⊎ (length moves ≡ movesBytes → ⊥)) → TableCall b i ranks moves ranks moves (checked.Refused Length)
-  table-length wrong = record { number = here (inr (inl (refl, wrong))) refl; tabled = (refl, refl) }
+-- a call on one row refuses the block's conditions, under 1 also buffers that do not fit, and then a row that will not do
+module _ (b : Block) (Misfit NoRow : Type 0) where
+  abbrev pub RowRefused : Refusal → Type 0
+  RowRefused r = Broken b r ⊎ (((r ≡ Length) × Misfit) ⊎ ((r ≡ RowChoice) × NoRow))
 
-  module _ (ranks-long : length ranks ≡ roomBytes) (moves-long : length moves ≡ movesBytes) where
-    long : ((length ranks ≡ roomBytes → ⊥) ⊎ (length moves ≡ movesBytes → ⊥)) → ⊥
-    long wrong = ⊎-elim (λ h. h ranks-long) (λ h. h moves-long) wrong
+  pub row-length : Misfit → First RowRefused rowOrder 1
+  row-length wrong = here (inr (inl (refl, wrong))) refl
 
+  module _ (fits : Misfit → ⊥) where
     -- before 8, the conditions are the block's
-    row-verdict : {n : ℕ} → Verdict b n → First (Untabled b i ranks moves) blockOrder n
+    row-verdict : {n : ℕ} → Verdict b n → First RowRefused blockOrder n
     row-verdict v = first-same-in (λ r. numberOf r < 8) blockOrder block-numbers
         (λ r ok h. inl h)
-        (λ r ok. ⊎-elim (λ h. h) (λ w. absurd (⊎-elim (λ (_, wrong). long wrong) (λ (e, _). omega (arith, ap numberOf e)) w))) v
+        (λ r ok. ⊎-elim (λ h. h) (λ w. absurd (⊎-elim (λ (_, wrong). fits wrong) (λ (e, _). omega (arith, ap numberOf e)) w))) v
+
+    pub row-broken : (r : Refusal) → Verdict b (numberOf r) → First RowRefused rowOrder (numberOf r)
+    row-broken r v = first-before (RowChoice ∷ []) (row-verdict v) (λ e. omega (arith, number-some r))
+
+    pub row-missing : Verdict b 0 → NoRow → First RowRefused rowOrder 8
+    row-missing v missing = first-after refl (row-verdict v) (here (inr (inr (refl, missing))) refl)
+
+    pub row-answered : Verdict b 0 → (NoRow → ⊥) → First RowRefused rowOrder 0
+    row-answered v found = first-after refl (row-verdict v) (later (⊎-elim (λ h. h) (λ w. ⊎-elim (λ (_, wrong). fits wrong) (λ (_, h). found h) w)) (none refl))
+
+module _ (b : Block) (i : ℕ) (ranks moves : List ℕ) where
+  abbrev Short : Type 0
+  Short = (length ranks ≡ roomBytes → ⊥) ⊎ (length moves ≡ movesBytes → ⊥)
+
+  pub table-length : Short → TableCall b i ranks moves ranks moves (checked.Refused Length)
+  table-length wrong = record { number = row-length b Short (NoChoice b i) wrong; tabled = (refl, refl) }
+
+  module _ (ranks-long : length ranks ≡ roomBytes) (moves-long : length moves ≡ movesBytes) where
+    long : Short → ⊥
+    long wrong = ⊎-elim (λ h. h ranks-long) (λ h. h moves-long) wrong
 
     pub table-refused : (r : Refusal) → Verdict b (numberOf r) → TableCall b i ranks moves ranks moves (checked.Refused r)
-    table-refused r v = record { number = first-before (RowChoice ∷ []) (row-verdict v) (λ e. omega (arith, number-some r)); tabled = (refl, refl) }
+    table-refused r v = record { number = row-broken b Short (NoChoice b i) long r v; tabled = (refl, refl) }
 
     pub table-no-choice : Verdict b 0 → NoChoice b i → TableCall b i ranks moves ranks moves (checked.Refused RowChoice)
-    table-no-choice v none-such = record { number = first-after refl (row-verdict v) (here (inr (inr (refl, none-such))) refl); tabled = (refl, refl) }
+    table-no-choice v none-such = record { number = row-missing b Short (NoChoice b i) long v none-such; tabled = (refl, refl) }
 
     pub table-passed : (ranks′ moves′ : List ℕ) → Verdict b 0 → (NoChoice b i → ⊥) → RowTable b i ranks′ moves′ → TableCall b i ranks moves ranks′ moves′ checked.Passed
-    table-passed ranks′ moves′ v chosen filled = record {
-      number = first-after refl (row-verdict v) (later (⊎-elim (λ h. h) (λ w. ⊎-elim (λ (_, wrong). long wrong) (λ (_, h). chosen h) w)) (none refl));
-      tabled = filled;
-    }
+    table-passed ranks′ moves′ v chosen filled = record { number = row-answered b Short (NoChoice b i) long v chosen; tabled = filled }

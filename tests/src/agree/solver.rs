@@ -27,6 +27,20 @@ pub fn table(
     compare("rbatl_table", expected, found, what)
 }
 
+/// What listing the states of the row gives in the lent list and room.
+pub fn states(
+    block: &[u8],
+    model: &Model,
+    row: u8,
+    lent: [&[u8]; 2],
+    what: impl Fn() -> String,
+) -> Outcome {
+    let what = || format!("row {row} of {}", what());
+    let expected = lend_two(lent, |list, room| model.states(row, list, room));
+    let found = lend_two(lent, |list, room| ffi::states(block, row, list, room));
+    compare("rbatl_states", expected, found, what)
+}
+
 fn lend_two(lent: [&[u8]; 2], call: impl FnOnce(&mut [u8], &mut [u8]) -> i32) -> Outcome {
     let mut second = Vec::new();
     let mut outcome = lend(lent[0], |first| {

@@ -1,4 +1,4 @@
-//! Each refusal of the two calls, on both sides of its border, in its order; a
+//! Each refusal of label and table, on both sides of its border, in its order; a
 //! refusal changes no buffer but the room, and number 1 not even that.
 
 use super::*;
@@ -15,15 +15,15 @@ const DAMAGES: [(u8, usize, u8); 5] = [
     (6, 28, 1),
 ];
 
-fn catch() -> Vec<u8> {
+pub fn catch() -> Vec<u8> {
     jobs::load("catch.job")
 }
 
 /// Lengths beside the right one, and far from it.
-fn other_lengths(right: usize) -> Vec<usize> {
+pub fn other_lengths(right: usize) -> Vec<usize> {
     let lengths = [
-        0, 1, 2, 24, 32, 64, 127, 128, 129, 256, 2468, 2469, 2470, 6143, 6144, 6145, 12_287,
-        12_288, 12_289, 24_576, 32_768,
+        0, 1, 2, 23, 24, 25, 32, 64, 127, 128, 129, 256, 2468, 2469, 2470, 6143, 6144, 6145,
+        12_287, 12_288, 12_289, 24_576, 32_768,
     ];
     lengths
         .into_iter()
@@ -57,7 +57,7 @@ fn refused_row(block: &[u8], model: &Model, row: u8, lent: &Lent, expected: u8, 
 }
 
 /// Jobs that pass, and jobs that any other number would refuse.
-fn whole_and_damaged() -> Vec<(Vec<u8>, u8)> {
+pub fn whole_and_damaged() -> Vec<(Vec<u8>, u8)> {
     let mut blocks = vec![(catch(), 0)];
     for (number, place, value) in DAMAGES {
         let mut block = catch();
@@ -68,7 +68,7 @@ fn whole_and_damaged() -> Vec<(Vec<u8>, u8)> {
 }
 
 /// Buffers of which one, at this place among them, has another length.
-fn misfits(place: usize, right: usize) -> impl Iterator<Item = (Lent, String)> {
+pub fn misfits(place: usize, right: usize) -> impl Iterator<Item = (Lent, String)> {
     other_lengths(right).into_iter().map(move |length| {
         let mut lent = Lent::patterned();
         let buffers = [
@@ -76,6 +76,7 @@ fn misfits(place: usize, right: usize) -> impl Iterator<Item = (Lent, String)> {
             &mut lent.room,
             &mut lent.ranks,
             &mut lent.moves,
+            &mut lent.list,
         ];
         *buffers[place] = agree::pattern(length);
         (lent, format!("buffer {place} of {length}"))

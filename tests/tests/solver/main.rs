@@ -1,10 +1,11 @@
-//! `rbatl_label` and `rbatl_table` beside the checker made from document 003:
-//! the same answers and the same lent buffers afterwards, on many jobs.
+//! `rbatl_label`, `rbatl_table` and `rbatl_states` beside the checker made from
+//! document 003: the same answers and the same lent buffers afterwards, on many jobs.
 
 mod borders;
 mod catch;
 mod limits;
 mod random;
+mod states;
 
 use rbatl_tests::agree::{self, Outcome};
 use rbatl_tests::answers::{assert_each_came, number};
@@ -16,6 +17,7 @@ struct Lent {
     room: Vec<u8>,
     ranks: Vec<u8>,
     moves: Vec<u8>,
+    list: Vec<u8>,
 }
 
 impl Lent {
@@ -34,6 +36,7 @@ impl Lent {
             room: buffer(ROOM_BYTES),
             ranks: buffer(RANKS_BYTES),
             moves: buffer(MOVES_BYTES),
+            list: buffer(STATES_BYTES),
         }
     }
 
@@ -47,5 +50,11 @@ impl Lent {
     fn table(&self, block: &[u8], model: &Model, row: u8, what: &str) -> Outcome {
         let lent = [&self.ranks[..], &self.moves[..]];
         agree::table(block, model, row, lent, || what.to_string())
+    }
+
+    /// The states of the row, as the library and the model agree.
+    fn states(&self, block: &[u8], model: &Model, row: u8, what: &str) -> Outcome {
+        let lent = [&self.list[..], &self.room[..]];
+        agree::states(block, model, row, lent, || what.to_string())
     }
 }

@@ -25,14 +25,15 @@ fn lents() -> [Lent; 3] {
     [Lent::patterned(), Lent::filled(0), Lent::filled(255)]
 }
 
-/// Labels the job and fills the table of each row, and asks for rows that have
-/// none. Counts the answers.
+/// Labels the job, fills the table of each row and lists its states, and asks for
+/// rows that have none. Counts the answers.
 fn all_calls(job: &[u8], lent: &Lent, what: &str, seen: &mut [u64; 9]) {
     let model = Model::of(job);
     seen[number(lent.label(job, &model, what).answer)] += 1;
     let rows = job.get(ROWS).copied().unwrap_or(0).min(MAX_ROWS as u8);
     for row in (0..=rows).chain([255]) {
         seen[number(lent.table(job, &model, row, what).answer)] += 1;
+        seen[number(lent.states(job, &model, row, what).answer)] += 1;
     }
 }
 

@@ -1,0 +1,103 @@
+// The states in which a row is true, listed in a lent buffer of 24 bytes.
+use crate::answer::Answer;
+use crate::room;
+use crate::sets;
+use block::fill;
+use block::layout;
+use block::refusal::Checked;
+use block::refusal::Refusal;
+use game::buffers;
+use solver::label;
+ghost use mathlib.Core.Path.{_≡_};
+ghost use Prim.Native.Nat.{_<_};
+ghost use lib.ListN.{length};
+ghost use Rattle.block.specs.Layout as L;
+ghost use Rattle.block.specs.Refusal.{answerOf, First};
+ghost use Rattle.block.specs.Valid.{Valid};
+ghost use Rattle.solver.specs.Calls.{rowOrder};
+ghost use Rattle.lookup.specs.States.{Unlisted, Admitted, StatesIn, frontOf, StatesCall, RefusalCall, PartCall};
+
+// The refusal of a call with a list and a room of these lengths.
+fn turned_down(block: &[u8], i: usize, list: usize, room: usize) -> Checked
+    ensures { λ r. ⌜ First (Unlisted (now (block .entry)) i list room) rowOrder (answerOf r) × Admitted (now (block .entry)) i list room r ⌝ }
+{
+    if list != 24 {
+        return Checked::Refused(Refusal::Length);
+    }
+    if room != 12288 {
+        return Checked::Refused(Refusal::Length);
+    }
+    match block::check(block) {
+        Checked::Passed => {
+            if layout::rows(block) <= i {
+                return Checked::Refused(Refusal::RowChoice);
+            }
+            Checked::Passed
+        }
+        Checked::Refused(r) => Checked::Refused(r),
+    }
+}
+
+// Lists the states of row i.
+fn list_row(block: &[u8], i: usize, list: &mut [u8], room: &mut [u8]) -> usize
+    requires { ⌜ Valid (now block) ⌝ }
+    requires { ⌜ (i < L.rows (now block)) × (length (now list) ≡ 24) × (length (now room) ≡ 12288) ⌝ }
+    ensures { λ r. ⌜ StatesIn (now (block .entry)) i (now (list .exit)) r × (length (now (room .exit)) ≡ 12288) ⌝ }
+{
+    let mut words = [0u8; 128];
+    label::label_rows(block, i + 1, &mut words, room);
+    let set = buffers::word_at(&words, i);
+    sets::list_set(set, list)
+}
+
+// The count of the states of row i, which are in the front of the list. The room is left filled with zeros, unless a buffer has another length.
+pub fn fill_states(block: &[u8], i: usize, list: &mut [u8], room: &mut [u8]) -> Answer
+    ensures { λ r. ⌜ StatesCall (now (block .entry)) i (now (list .entry)) (now (room .entry)) (now (list .exit)) (now (room .exit)) r ⌝ }
+{
+    match turned_down(block, i, list.len(), room.len()) {
+        Checked::Passed => {
+            let n = list_row(block, i, list, room);
+            fill::zeros(room, 0);
+            Answer::Value(n)
+        }
+        Checked::Refused(r) => {
+            room::leave(room, r);
+            Answer::Refused(r)
+        }
+    }
+}
+
+// How much of the list is handed back.
+fn front(a: Answer) -> usize
+    ensures { λ r. ⌜ r ≡ frontOf a ⌝ }
+{
+    match a {
+        Answer::Value(n) => n,
+        Answer::Refused(_) => 0,
+    }
+}
+
+// The part of the list that holds the states of row i: its front, and nothing of it where the call is refused.
+pub fn states<'a>(block: &[u8], i: usize, list: &'a mut [u8], room: &mut [u8]) -> &'a mut [u8]
+    ensures { λ r. ⌜ PartCall (now (block .entry)) i (now (list .entry)) (now (room .entry)) (now r) (now (room .exit)) ⌝ }
+    ensures { λ r. ⌜ r .ptr ≡ list .entry .ptr ⌝ }
+{
+    let n = front(fill_states(block, i, list, room));
+    &mut list[..n]
+}
+
+// The refusal of the same call, or none.
+pub fn states_refusal(block: &[u8], i: usize, list: &[u8], room: &mut [u8]) -> Checked
+    ensures { λ r. ⌜ RefusalCall (now (block .entry)) i (now (list .entry)) (now (room .entry)) (now (room .exit)) r ⌝ }
+{
+    match turned_down(block, i, list.len(), room.len()) {
+        Checked::Passed => {
+            fill::zeros(room, 0);
+            Checked::Passed
+        }
+        Checked::Refused(r) => {
+            room::leave(room, r);
+            Checked::Refused(r)
+        }
+    }
+}

@@ -1,0 +1,34 @@
+/* What the checks of the host share. */
+#ifndef HOST_H
+#define HOST_H
+
+#include "rbatl.h"
+
+/* A byte that no text, block or buffer of a job has here. */
+#define FILL 0xEE
+
+/* A place of a block and its value. */
+struct byte {
+    size_t place;
+    uint8_t value;
+};
+
+/* Catch with one byte changed, and the answer that it must get. */
+struct damage {
+    const char *name;
+    struct byte change;
+    int32_t answer;
+};
+
+extern const struct damage damages[];
+extern const size_t damage_count;
+
+void fill_catch(uint8_t *block);
+void count(int good, const char *name, const char *what);
+int all(const uint8_t *bytes, size_t length, uint8_t value);
+
+void check_label(void);
+void check_table(void);
+void check_states(void);
+
+#endif
