@@ -53,23 +53,48 @@ pub fn is_reply(block: &[u8], i: usize, s: usize, r: usize) -> bool
     moves::is_move(block, s, 7 - layout::team(block, i), r)
 }
 
-// Where the replies to the move m lead in state s: for each reply the next state times c. Answers how many there are.
-pub fn targets(block: &[u8], i: usize, s: usize, m: usize, c: usize, out: &mut [usize]) -> usize
+// Lists the replies to row i's team in state s. Answers how many there are.
+pub fn replies(block: &[u8], i: usize, s: usize, out: &mut [usize]) -> usize
     requires { ⌜ Valid (now block) ⌝ }
     requires { ⌜ (i < L.rows (now block)) × L.Strategic (L.kind (now block) i) × (s < L.states (now block)) ⌝ }
-    requires { ⌜ MoveOf (structureOf (now block)) (coalitionOf (now block) i) s m ⌝ }
-    requires { ⌜ (64 ≤ length (now out)) × (c ≤ 256) ⌝ }
-    ensures { λ n. ⌜ Lists (ReplyTo (now (block .entry)) i s) (λ (r : ℕ). L.next (now (block .entry)) s (m + r) * c) (now (out .exit)) n ⌝ }
+    requires { ⌜ 64 ≤ length (now out) ⌝ }
+    ensures { λ n. ⌜ Lists (ReplyTo (now (block .entry)) i s) (λ (r : ℕ). r) (now (out .exit)) n ⌝ }
     ensures { λ n. ⌜ (n ≤ 64) × (length (now (out .exit)) ≡ length (now (out .entry))) ⌝ }
 {
     let mut n = 0;
     let mut r = 0;
     while r < 64 {
         if is_reply(block, i, s, r) {
-            out[n] = layout::next(block, s, m + r) * c;
+            out[n] = r;
             n += 1;
         }
         r += 1;
     }
     n
+}
+
+// Where the n listed replies to the move m lead in state s: for each the next state times c.
+pub fn targets(
+    block: &[u8],
+    i: usize,
+    s: usize,
+    m: usize,
+    c: usize,
+    answers: &[usize],
+    n: usize,
+    out: &mut [usize],
+)
+    requires { ⌜ Valid (now block) ⌝ }
+    requires { ⌜ (i < L.rows (now block)) × L.Strategic (L.kind (now block) i) × (s < L.states (now block)) ⌝ }
+    requires { ⌜ MoveOf (structureOf (now block)) (coalitionOf (now block) i) s m ⌝ }
+    requires { ⌜ Lists (ReplyTo (now block) i s) (λ (r : ℕ). r) (now answers) n ⌝ }
+    requires { ⌜ (n ≤ length (now answers)) × (n ≤ length (now out)) × (c ≤ 256) ⌝ }
+    ensures { λ _. ⌜ Lists (ReplyTo (now (block .entry)) i s) (λ (r : ℕ). L.next (now (block .entry)) s (m + r) * c) (now (out .exit)) n ⌝ }
+    ensures { λ _. ⌜ length (now (out .exit)) ≡ length (now (out .entry)) ⌝ }
+{
+    let mut k = 0;
+    while k < n {
+        out[k] = layout::next(block, s, m + answers[k]) * c;
+        k += 1;
+    }
 }

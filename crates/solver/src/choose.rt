@@ -158,9 +158,11 @@ fn choose_move(
     requires { ⌜ (c ≡ stockPlaces (arenaOf (now block) i)) × (12288 ≤ length (now ranks)) × (6144 ≤ length (now moves)) ⌝ }
     ensures { λ _. ⌜ Tried (HitsIn (now (block .entry)) i soon ever left (now (ranks .entry)) m s) m (now (moves .entry)) (now (moves .exit)) ⌝ }
 {
+    let mut answers = [0; 64];
     let mut targets = [0; 64];
     let mut places = [0; 256];
-    let n = replies::targets(block, i, s, m, c, &mut targets);
+    let n = replies::replies(block, i, s, &mut answers);
+    replies::targets(block, i, s, m, c, &answers, n, &mut targets);
     let count = payable::payable(block, i, s, m, &mut places);
     let taken = positions::offset(block, i, s, m);
     let into = leads(block, i, s, m, left, soon);
