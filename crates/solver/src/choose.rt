@@ -52,9 +52,9 @@ fn aimed(
         return into;
     }
     if ever {
-        return replies::extreme(ranks, targets, n, at, false) == 65535;
+        return replies::best_of(ranks, targets, n, at, false, 65534) == 65535;
     }
-    replies::extreme(ranks, targets, n, at, true) < rank
+    replies::best_of(ranks, targets, n, at, true, rank) < rank
 }
 
 // Tries the move m at position p, which keeps `at` of its stocks.

@@ -35,8 +35,7 @@ pub fn gather(
     let mut k = 0;
     while k < count {
         let x = places[k];
-        let v = replies::extreme(ranks, targets, n, x - taken, most);
-        values[x] = replies::further(!most, v, values[x]);
+        values[x] = replies::best_of(ranks, targets, n, x - taken, most, values[x]);
         k += 1;
     }
 }
