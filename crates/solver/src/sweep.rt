@@ -13,7 +13,7 @@ ghost use Rattle.game.specs.Position.{stockPlaces};
 ghost use Rattle.game.specs.Buffers.{Steps};
 ghost use Rattle.game.specs.Model.{arenaOf};
 ghost use Rattle.solver.specs.Values.{startValue};
-ghost use Rattle.solver.specs.Sweeps.{LowerAt, RestsAt, RestsBelow, Swept, Settled};
+ghost use Rattle.solver.specs.Sweeps.{LowerAt, RestsAt, RestsBelow, visit, Swept, Settled};
 
 // Lowers the first c ranks past base to one more than their values, where that is less. Tells whether any fell.
 pub fn lower_all(ranks: &mut [u8], base: usize, c: usize, values: &[usize]) -> bool
@@ -85,8 +85,27 @@ pub fn settle_safe(
     settle_state(block, i, s, c, safe, most, ranks)
 }
 
+// The k-th of n states in a sweep, from the last state on where back.
+fn visited(back: bool, n: usize, k: usize) -> usize
+    requires { ⌜ k < n ⌝ }
+    ensures { λ s. ⌜ s ≡ visit back n k ⌝ }
+{
+    if back {
+        return n - 1 - k;
+    }
+    k
+}
+
 // One sweep over all states. Tells whether any rank fell.
-pub fn sweep(block: &[u8], i: usize, c: usize, safe: usize, most: bool, ranks: &mut [u8]) -> bool
+pub fn sweep(
+    block: &[u8],
+    i: usize,
+    c: usize,
+    safe: usize,
+    most: bool,
+    back: bool,
+    ranks: &mut [u8],
+) -> bool
     requires { ⌜ Valid (now block) ⌝ }
     requires { ⌜ (i < L.rows (now block)) × L.Strategic (L.kind (now block) i) ⌝ }
     requires { ⌜ (c ≡ stockPlaces (arenaOf (now block) i)) × (12288 ≤ length (now ranks)) ⌝ }
@@ -94,25 +113,28 @@ pub fn sweep(block: &[u8], i: usize, c: usize, safe: usize, most: bool, ranks: &
 {
     let n = layout::states(block);
     let mut did = false;
-    let mut s = 0;
-    while s < n {
+    let mut k = 0;
+    while k < n {
+        let s = visited(back, n, k);
         if settle_safe(block, i, s, c, safe, most, ranks) {
             did = true;
         }
-        s += 1;
+        k += 1;
     }
     did
 }
 
-// Sweeps until nothing does better.
+// Sweeps until nothing does better, to and fro, since ranks travel along one of the two.
 pub fn settle(block: &[u8], i: usize, c: usize, safe: usize, most: bool, ranks: &mut [u8])
     requires { ⌜ Valid (now block) ⌝ }
     requires { ⌜ (i < L.rows (now block)) × L.Strategic (L.kind (now block) i) ⌝ }
     requires { ⌜ (c ≡ stockPlaces (arenaOf (now block) i)) × (12288 ≤ length (now ranks)) ⌝ }
     ensures { λ _. ⌜ Settled (arenaOf (now (block .entry)) i) most safe (now (ranks .entry)) (now (ranks .exit)) ⌝ }
 {
+    let mut back = false;
     let mut more = true;
     while more {
-        more = sweep(block, i, c, safe, most, ranks);
+        more = sweep(block, i, c, safe, most, back, ranks);
+        back = !back;
     }
 }

@@ -10,10 +10,10 @@ use Rattle.solver.proofs.sweep.settle.Statement.{statement}
 use Rattle.solver.proofs.sweep.settle.Tie as tie
 
 abbrev Inv-loop : tie.InvT-loop
-Inv-loop block i c safe most ranks₀ more₀ ranks more = Sweeping (arenaOf block i) most safe more ranks₀ ranks
+Inv-loop block i c safe most ranks₀ back₀ more₀ ranks back more = Sweeping (arenaOf block i) most safe more ranks₀ ranks
 
 abbrev μ-loop : tie.MeasureT-loop
-μ-loop block i c safe most ranks₀ more₀ ranks more = left-to-do (arenaOf block i) most safe more ranks
+μ-loop block i c safe most ranks₀ back₀ more₀ ranks back more = left-to-do (arenaOf block i) most safe more ranks
 
 loop-holds : tie.Need-loop-holds Inv-loop μ-loop
 loop-holds c = let args = c .before .before .args in sweeping-first (arenaOf (args .block .now) (args .i)) (args .most) (args .safe) (args .ranks .now)
@@ -27,15 +27,15 @@ loop-less c =
     let G = arenaOf (args .block .now) (args .i) in
     let at = c .before .before .before .before .before .loop in
     let step = c .before .before .sweep in
-    subst (λ (more : Bool). left-to-do G (args .most) (args .safe) (step .result) (step .last .1 .1 .1 .1 .1 .0) < left-to-do G (args .most) (args .safe) more (at .ranks)) (sym (c .before .before .before .before .loop-test .taken))
-    (sweep-less G (args .most) (args .safe) (step .result) (at .ranks) (step .last .1 .1 .1 .1 .1 .0) (step .ensures))
+    subst (λ (more : Bool). left-to-do G (args .most) (args .safe) (step .result) (step .last .1 .1 .1 .1 .1 .1 .0) < left-to-do G (args .most) (args .safe) more (at .ranks)) (sym (c .before .before .before .before .loop-test .taken))
+    (sweep-less G (args .most) (args .safe) (step .result) (at .ranks) (step .last .1 .1 .1 .1 .1 .1 .0) (step .ensures))
 
 loop-again : tie.Need-loop-again Inv-loop μ-loop
 loop-again c =
     let args = c .before .before .before .before .before .before .before .before .args in
     let at = c .before .before .before .before .before .loop in
     let step = c .before .before .sweep in
-    sweeping-next (arenaOf (args .block .now) (args .i)) (args .most) (args .safe) (at .more) (step .result) (args .ranks .now) (at .ranks) (step .last .1 .1 .1 .1 .1 .0) (at .inv) (step .ensures)
+    sweeping-next (arenaOf (args .block .now) (args .i)) (args .most) (args .safe) (at .more) (step .result) (args .ranks .now) (at .ranks) (step .last .1 .1 .1 .1 .1 .1 .0) (at .inv) (step .ensures)
 
 same-length : tie.Need-same-length Inv-loop μ-loop
 same-length c = c .before .loop .inv .long
