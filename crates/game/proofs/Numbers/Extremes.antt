@@ -27,17 +27,14 @@ pub beyond-turned : (most : Bool) (x v : ℕ) → Beyond most x v → Beyond (no
 beyond-turned true x v l = l
 beyond-turned false x v l = l
 
-further-some : (most : Bool) (a b : ℕ) → (v : ℕ) × Further most a b v
-further-some true a b = go (lt? a b)
+pub further-some : (most : Bool) (a b : ℕ) → (v : ℕ) × Further most a b v
+further-some most a b = go most (lt? a b)
   where
-    go : Dec (a < b) → (v : ℕ) × Further true a b v
-    go (yes l) = (b, larger true a b b refl (omega arith) (omega arith) (inr refl))
-    go (no h) = (a, larger true a b a refl (omega arith) (omega arith) (inl refl))
-further-some false a b = go (lt? a b)
-  where
-    go : Dec (a < b) → (v : ℕ) × Further false a b v
-    go (yes l) = (a, smaller false a b a refl (omega arith) (omega arith) (inl refl))
-    go (no h) = (b, smaller false a b b refl (omega arith) (omega arith) (inr refl))
+    go : (most : Bool) → Dec (a < b) → (v : ℕ) × Further most a b v
+    go true (yes l) = (b, record { first = omega arith; second = omega arith; taken = inr refl })
+    go true (no l) = (a, record { first = omega arith; second = omega arith; taken = inl refl })
+    go false (yes l) = (a, record { first = omega arith; second = omega arith; taken = inl refl })
+    go false (no l) = (b, record { first = omega arith; second = omega arith; taken = inr refl })
 
 module _ (most : Bool) (f : ℕ → ℕ) where
   pub extreme-first : (v : ℕ) → v ≡ f 0 → Extreme most 1 f v
