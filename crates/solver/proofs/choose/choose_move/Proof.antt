@@ -47,8 +47,14 @@ payable-requires c κs = search needs
 offset-requires : tie.Need-offset-requires
 offset-requires c κs = search needs
 
+slice-aggregate-leads : tie.Need-slice-aggregate-leads
+slice-aggregate-leads c = search needs
+
 leads-requires : tie.Need-leads-requires
-leads-requires c κs = search needs
+leads-requires c κs =
+    let pre = c .before .before .before .before .before .before .before .before .before .before .before .before .before .before .before .pre in
+    let found = c .before .before .before .before .before .before .before .before .before .before .replies .ensures in
+    (pre .0, (pre .1 .0, (pre .1 .1 .0 .0, (found .0, omega (arith, found .1)))))
 
 slice-aggregate-choose : tie.Need-slice-aggregate-choose
 slice-aggregate-choose c = search needs
@@ -58,13 +64,13 @@ slice-aggregate-choose-2 c = search needs
 
 mul-choose : tie.Need-mul-choose
 mul-choose c =
-    let args = c .before .before .before .before .before .before .before .before .before .before .before .before .before .before .before .before .before .args in
-    let pre = c .before .before .before .before .before .before .before .before .before .before .before .before .before .before .before .before .before .pre in
+    let args = c .before .before .before .before .before .before .before .before .before .before .before .before .before .before .before .before .before .before .args in
+    let pre = c .before .before .before .before .before .before .before .before .before .before .before .before .before .before .before .before .before .before .pre in
     let most : args .s * args .c ≤ 24 * args .c = mul-le-mul-right (args .c) (omega (arith, pre .1 .0 .2, pre .0 .sized .states-fit .1)) in
-    record { fits = omega (arith, most, few (c .before .before .before .before .before .before .before .before .before .before .before .before .before .before .before .before .before), pre .1 .1 .1 .0) }
+    record { fits = omega (arith, most, few (c .before .before .before .before .before .before .before .before .before .before .before .before .before .before .before .before .before .before), pre .1 .1 .1 .0) }
 
 cast-choose : tie.Need-cast-choose
-cast-choose c = record { fits = omega (arith, c .before .before .before .before .before .before .before .before .before .before .before .before .before .before .before .before .before .pre .1 .1 .0 .1) }
+cast-choose c = record { fits = omega (arith, c .before .before .before .before .before .before .before .before .before .before .before .before .before .before .before .before .before .before .pre .1 .1 .0 .1) }
 
 -- the targets by the number of stock places
 abbrev ByPlaces : List ℕ → ℕ → ℕ → ℕ → List ℕ → ℕ → ℕ → Type 0
@@ -72,19 +78,19 @@ ByPlaces b i s m targets n c = Lists (ReplyTo b i s) (λ r. L.next b s (m + r) *
 
 choose-requires : tie.Need-choose-requires
 choose-requires c κs =
-    let pre = c .before .before .before .before .before .before .before .before .before .before .before .before .before .before .before .before .before .before .pre in
-    let args = c .before .before .before .before .before .before .before .before .before .before .before .before .before .before .before .before .before .before .args in
-    let reach = c .before .before .before .before .before .before .before .before .before .targets2 in
-    let n = c .before .before .before .before .before .before .before .before .before .before .before .before .before .replies .result in
-    let pays = c .before .before .before .before .before .before .payable in
+    let pre = c .before .before .before .before .before .before .before .before .before .before .before .before .before .before .before .before .before .before .before .pre in
+    let args = c .before .before .before .before .before .before .before .before .before .before .before .before .before .before .before .before .before .before .before .args in
+    let reach = c .before .before .before .before .before .before .before .before .before .before .targets2 in
+    let n = c .before .before .before .before .before .before .before .before .before .before .before .before .before .before .replies .result in
+    let pays = c .before .before .before .before .before .before .before .payable in
     let b = args .block .now in
     let lists = subst (ByPlaces b (args .i) (args .s) (args .m) (reach .last .1 .1 .1 .1 .1 .1 .1 .0) (n)) (pre .1 .1 .1 .0) (reach .ensures .0) in
     let fits = place-fits b (pre .0) (args .i) (args .s) (args .m) (pre .1 .0 .0) (pre .1 .0 .1) (pre .1 .0 .2) (pre .1 .1 .0 .0)
-    (reach .last .1 .1 .1 .1 .1 .1 .1 .0) (n) lists (pays .last .1 .1 .1 .1 .0) (pays .result) (pays .ensures .0) (c .before .before .before .before .offset .result) (c .before .before .before .before .offset .ensures) in (
+    (reach .last .1 .1 .1 .1 .1 .1 .1 .0) (n) lists (pays .last .1 .1 .1 .1 .0) (pays .result) (pays .ensures .0) (c .before .before .before .before .before .offset .result) (c .before .before .before .before .before .offset .ensures) in (
       (
         some-reply b (pre .0) (args .i) (args .s) (args .m) (pre .1 .0 .0) (pre .1 .0 .1) (pre .1 .0 .2) (pre .1 .1 .0 .0)
-            (reach .last .1 .1 .1 .1 .1 .1 .1 .0) (n) lists (pays .last .1 .1 .1 .1 .0) (pays .result) (pays .ensures .0) (c .before .before .before .before .offset .result) (c .before .before .before .before .offset .ensures),
-        omega (arith, c .before .before .before .before .before .before .before .before .before .before .before .before .before .replies .ensures .1, reach .ensures .1),
+            (reach .last .1 .1 .1 .1 .1 .1 .1 .0) (n) lists (pays .last .1 .1 .1 .1 .0) (pays .result) (pays .ensures .0) (c .before .before .before .before .before .offset .result) (c .before .before .before .before .before .offset .ensures),
+        omega (arith, c .before .before .before .before .before .before .before .before .before .before .before .before .before .before .replies .ensures .1, reach .ensures .1),
         omega (arith, pays .ensures .1),
         pre .1 .1 .1 .1,
         pre .1 .1 .1 .2,
@@ -94,7 +100,7 @@ choose-requires c κs =
         λ k l. (
           fits k l .0,
           place-inside b (pre .0) (args .i) (args .s) (args .m) (pre .1 .0 .0) (pre .1 .0 .1) (pre .1 .0 .2) (pre .1 .1 .0 .0)
-              (reach .last .1 .1 .1 .1 .1 .1 .1 .0) (n) lists (pays .last .1 .1 .1 .1 .0) (pays .result) (pays .ensures .0) (c .before .before .before .before .offset .result) (c .before .before .before .before .offset .ensures)
+              (reach .last .1 .1 .1 .1 .1 .1 .1 .0) (n) lists (pays .last .1 .1 .1 .1 .0) (pays .result) (pays .ensures .0) (c .before .before .before .before .before .offset .result) (c .before .before .before .before .before .offset .ensures)
               (args .left) (c .before .before .before .leads .result) (args .ranks .now) (args .c) (pre .1 .1 .1 .0) k l,
         ),
         λ k j l l′. omega (arith, fits k l .2 j l′, few-positions b (pre .0) (args .i) (pre .1 .0 .0) (pre .1 .0 .1)),
@@ -106,15 +112,15 @@ same-length c = search needs
 
 returns : tie.Need-returns
 returns c =
-    let pre = c .before .before .before .before .before .before .before .before .before .before .before .before .before .before .before .before .before .before .before .before .before .pre in
-    let args = c .before .before .before .before .before .before .before .before .before .before .before .before .before .before .before .before .before .before .before .before .before .args in
-    let reach = c .before .before .before .before .before .before .before .before .before .before .before .before .targets2 in
-    let n = c .before .before .before .before .before .before .before .before .before .before .before .before .before .before .before .before .replies .result in
-    let pays = c .before .before .before .before .before .before .before .before .before .payable in
+    let pre = c .before .before .before .before .before .before .before .before .before .before .before .before .before .before .before .before .before .before .before .before .before .before .pre in
+    let args = c .before .before .before .before .before .before .before .before .before .before .before .before .before .before .before .before .before .before .before .before .before .before .args in
+    let reach = c .before .before .before .before .before .before .before .before .before .before .before .before .before .targets2 in
+    let n = c .before .before .before .before .before .before .before .before .before .before .before .before .before .before .before .before .before .replies .result in
+    let pays = c .before .before .before .before .before .before .before .before .before .before .payable in
     let b = args .block .now in
     lists-tried b (pre .0) (args .i) (args .s) (args .m) (pre .1 .0 .0) (pre .1 .0 .1) (pre .1 .0 .2) (pre .1 .1 .0 .0) (reach .last .1 .1 .1 .1 .1 .1 .1 .0) (n)
     (subst (ByPlaces b (args .i) (args .s) (args .m) (reach .last .1 .1 .1 .1 .1 .1 .1 .0) (n)) (pre .1 .1 .1 .0) (reach .ensures .0))
-    (pays .last .1 .1 .1 .1 .0) (pays .result) (pays .ensures .0) (c .before .before .before .before .before .before .before .offset .result) (c .before .before .before .before .before .before .before .offset .ensures)
+    (pays .last .1 .1 .1 .1 .0) (pays .result) (pays .ensures .0) (c .before .before .before .before .before .before .before .before .offset .result) (c .before .before .before .before .before .before .before .before .offset .ensures)
     (args .left) (c .before .before .before .before .before .before .leads .result) (args .ranks .now) (args .soon) (args .ever) (c .before .before .before .before .before .before .leads .ensures) (args .c) (pre .1 .1 .1 .0) (c .before .before .choose .ensures)
 
 pub choose-move-spec : {M : Type 1} → statement M
@@ -129,6 +135,7 @@ choose-move-spec =
     slice-aggregate-payable
     payable-requires
     offset-requires
+    slice-aggregate-leads
     leads-requires
     slice-aggregate-choose
     slice-aggregate-choose-2
