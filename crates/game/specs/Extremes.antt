@@ -1,6 +1,6 @@
 -- Numbers in a list, and the largest or the smallest of them as one notion: until asks for the largest rank over the replies, always
 -- for the smallest.
-use mathlib.Core.Bool.{Bool, true, false}
+use mathlib.Core.Bool.{Bool, true, false, not}
 use mathlib.Core.List.{List}
 use mathlib.Core.Logic.{_⊎_}
 use mathlib.Core.Path.{_≡_}
@@ -22,6 +22,12 @@ pub record Further (most : Bool) (a b v : ℕ) : Type 0 where
 pub record Extreme (most : Bool) (n : ℕ) (f : ℕ → ℕ) (v : ℕ) : Type 0 where
   pub beyond : (k : ℕ) → k < n → Beyond most (f k) v
   pub taken : (k : ℕ) × (k < n) × (f k ≡ v)
+
+-- r is the extreme of the first n values, or a limit that it does not get past
+pub record BestOf (most : Bool) (n : ℕ) (f : ℕ → ℕ) (limit r : ℕ) : Type 0 where
+  pub worst : ℕ
+  pub extreme : Extreme most n f worst
+  pub further : Further (not most) worst limit r
 
 -- the first n places of a list hold the value of each r that has the property, and of no other
 pub record Lists (P : ℕ → Type 0) (f : ℕ → ℕ) (l : List ℕ) (n : ℕ) : Type 0 where

@@ -9,7 +9,7 @@ ghost use Rattle.block.specs.Decide.{Decides};
 ghost use Rattle.block.specs.Layout as L;
 ghost use Rattle.block.specs.Valid.{Valid};
 ghost use Rattle.game.specs.Buffers.{rankIn};
-ghost use Rattle.game.specs.Extremes.{Further, Extreme, Lists};
+ghost use Rattle.game.specs.Extremes.{Beyond, Further, BestOf, Lists};
 ghost use Rattle.game.specs.Position.{MoveOf};
 ghost use Rattle.game.specs.Model.{structureOf, coalitionOf, ReplyTo};
 
@@ -29,19 +29,41 @@ pub fn further(most: bool, a: usize, b: usize) -> usize
     b
 }
 
-// The largest rank, or the smallest, of the positions that stand `at` places past the first n targets.
-pub fn extreme(ranks: &[u8], targets: &[usize], n: usize, at: usize, most: bool) -> usize
+// Whether v is at least x, or at most x.
+fn beyond(most: bool, x: usize, v: usize) -> bool
+    ensures { λ r. ⌜ Decides (Beyond most x v) r ⌝ }
+{
+    if most {
+        return x <= v;
+    }
+    v <= x
+}
+
+// The largest rank, or the smallest, of the positions that stand `at` places past the first n targets, or the limit if that is
+// smaller, or larger. Goes no further than the limit, since the ranks past it change nothing.
+pub fn best_of(
+    ranks: &[u8],
+    targets: &[usize],
+    n: usize,
+    at: usize,
+    most: bool,
+    limit: usize,
+) -> usize
     requires { ⌜ (0 < n) × (n ≤ length (now targets)) ⌝ }
     requires { ⌜ ((k : ℕ) → k < n → 2 * (getD (now targets) k 0 + at) + 1 < length (now ranks)) ⌝ }
-    ensures { λ r. ⌜ Extreme most n (λ (k : ℕ). rankIn (now (ranks .entry)) (getD (now (targets .entry)) k 0 + at)) r × (r < 65536) ⌝ }
+    ensures { λ r. ⌜ BestOf most n (λ (k : ℕ). rankIn (now (ranks .entry)) (getD (now (targets .entry)) k 0 + at)) limit r ⌝ }
+    ensures { λ r. ⌜ (limit < 65536 → r < 65536) ⌝ }
 {
     let mut best = buffers::rank_at(ranks, targets[0] + at);
     let mut k = 1;
     while k < n {
+        if beyond(most, limit, best) {
+            return limit;
+        }
         best = further(most, buffers::rank_at(ranks, targets[k] + at), best);
         k += 1;
     }
-    best
+    further(!most, best, limit)
 }
 
 // Whether r is a reply to row i's team in state s.
@@ -53,23 +75,48 @@ pub fn is_reply(block: &[u8], i: usize, s: usize, r: usize) -> bool
     moves::is_move(block, s, 7 - layout::team(block, i), r)
 }
 
-// Where the replies to the move m lead in state s: for each reply the next state times c. Answers how many there are.
-pub fn targets(block: &[u8], i: usize, s: usize, m: usize, c: usize, out: &mut [usize]) -> usize
+// Lists the replies to row i's team in state s. Answers how many there are.
+pub fn replies(block: &[u8], i: usize, s: usize, out: &mut [usize]) -> usize
     requires { ⌜ Valid (now block) ⌝ }
     requires { ⌜ (i < L.rows (now block)) × L.Strategic (L.kind (now block) i) × (s < L.states (now block)) ⌝ }
-    requires { ⌜ MoveOf (structureOf (now block)) (coalitionOf (now block) i) s m ⌝ }
-    requires { ⌜ (64 ≤ length (now out)) × (c ≤ 256) ⌝ }
-    ensures { λ n. ⌜ Lists (ReplyTo (now (block .entry)) i s) (λ (r : ℕ). L.next (now (block .entry)) s (m + r) * c) (now (out .exit)) n ⌝ }
+    requires { ⌜ 64 ≤ length (now out) ⌝ }
+    ensures { λ n. ⌜ Lists (ReplyTo (now (block .entry)) i s) (λ (r : ℕ). r) (now (out .exit)) n ⌝ }
     ensures { λ n. ⌜ (n ≤ 64) × (length (now (out .exit)) ≡ length (now (out .entry))) ⌝ }
 {
     let mut n = 0;
     let mut r = 0;
     while r < 64 {
         if is_reply(block, i, s, r) {
-            out[n] = layout::next(block, s, m + r) * c;
+            out[n] = r;
             n += 1;
         }
         r += 1;
     }
     n
+}
+
+// Where the n listed replies to the move m lead in state s: for each the next state times c.
+pub fn targets(
+    block: &[u8],
+    i: usize,
+    s: usize,
+    m: usize,
+    c: usize,
+    answers: &[usize],
+    n: usize,
+    out: &mut [usize],
+)
+    requires { ⌜ Valid (now block) ⌝ }
+    requires { ⌜ (i < L.rows (now block)) × L.Strategic (L.kind (now block) i) × (s < L.states (now block)) ⌝ }
+    requires { ⌜ MoveOf (structureOf (now block)) (coalitionOf (now block) i) s m ⌝ }
+    requires { ⌜ Lists (ReplyTo (now block) i s) (λ (r : ℕ). r) (now answers) n ⌝ }
+    requires { ⌜ (n ≤ length (now answers)) × (n ≤ length (now out)) × (c ≤ 256) ⌝ }
+    ensures { λ _. ⌜ Lists (ReplyTo (now (block .entry)) i s) (λ (r : ℕ). L.next (now (block .entry)) s (m + r) * c) (now (out .exit)) n ⌝ }
+    ensures { λ _. ⌜ length (now (out .exit)) ≡ length (now (out .entry)) ⌝ }
+{
+    let mut k = 0;
+    while k < n {
+        out[k] = layout::next(block, s, m + answers[k]) * c;
+        k += 1;
+    }
 }

@@ -47,7 +47,7 @@ module _ (most : Bool) where
       earlier x e (inr (j, below, offer)) = inr (j, omega arith, subst (offers j x) (sym e) offer)
 
   -- one value is offered at one place
-  pub gathered-one : (Offers : ℕ → ℕ → Type 0) (l : List ℕ) (x v w : ℕ) → x < length l → Further most v (getD l x 0) w → v < 65536 → Offers x v → ((y u : ℕ) → Offers y u → (y ≡ x) × (u ≡ v)) → Gathered most Offers l (set l x w)
+  pub gathered-one : (Offers : ℕ → ℕ → Type 0) (l : List ℕ) (x v w : ℕ) → x < length l → Further most v (getD l x 0) w → (getD l x 0 < 65536 → w < 65536) → Offers x v → ((y u : ℕ) → Offers y u → (y ≡ x) × (u ≡ v)) → Gathered most Offers l (set l x w)
   gathered-one Offers l x v w inside step low offer only = record {
     best = λ y u o. let (e, e′) = only y u o in subst (λ (z : ℕ). Beyond most u z) (sym (there y e)) (subst (λ (z : ℕ). Beyond most z w) (sym e′) (step .first));
     kept = λ y. kept y (eq? y x);
@@ -71,7 +71,7 @@ module _ (most : Bool) where
       some y (no ne) = inl (elsewhere y ne)
 
       small : ((z : ℕ) → getD l z 0 < 65536) → (y : ℕ) → Dec (y ≡ x) → getD (set l x w) y 0 < 65536
-      small h y (yes e) = ⊎-elim (λ (e′ : w ≡ v). omega (arith, there y e)) (λ (e′ : w ≡ getD l x 0). omega (arith, there y e, h x)) (step .taken)
+      small h y (yes e) = omega (arith, there y e, low (h x))
       small h y (no ne) = omega (arith, elsewhere y ne, h y)
 
   pub gathered-same : (Offers Offers′ : ℕ → ℕ → Type 0) → ((x v : ℕ) → Offers x v → Offers′ x v) → ((x v : ℕ) → Offers′ x v → Offers x v) → {l l′ : List ℕ} → Gathered most Offers l l′ → Gathered most Offers′ l l′

@@ -6,6 +6,7 @@ pub mod Placing
 pub mod Valuing
 pub mod Lowering
 pub mod Sweeping
+pub mod Sparing
 pub mod Starting
 pub mod Marking
 pub mod Words

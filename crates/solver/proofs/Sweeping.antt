@@ -15,8 +15,13 @@ use Rattle.game.proofs.Numbers.Decide.{eq?}
 use Rattle.game.proofs.Bridge.Proper.{Proper}
 use Rattle.game.proofs.Solving.Sweeping.{at-rest}
 use Rattle.solver.specs.Values.{Attacks, Defends}
-use Rattle.solver.specs.Sweeps.{KeptFor, RestsAt, RestsBelow, Swept, Settled}
+use Rattle.solver.specs.Sweeps.{KeptFor, RestsAt, RestsBelow, visit, Swept, Settled}
 use Rattle.solver.proofs.Lowering.{defends-weaken}
+
+-- both orders of the states are their own inverses
+pub visits : (back : Bool) (n s : ℕ) → s < n → (visit back n s < n) × (visit back n (visit back n s) ≡ s)
+visits true n s l = (omega arith, omega arith)
+visits false n s l = (l, refl)
 
 module _ (G : Arena) (most : Bool) (safe : ℕ) where
   -- the sum of the ranks
@@ -33,8 +38,12 @@ module _ (G : Arena) (most : Bool) (safe : ℕ) where
     long = refl;
   }
 
-  pub swept-next : (s : ℕ) {did t : Bool} {l l′ l″ : List ℕ} → Swept G most safe (RestsBelow G most safe s) did l l′ → Swept G most safe (RestsAt G most safe s) t l′ l″ → Swept G most safe (RestsBelow G most safe (s + 1)) (cond t true did) l l″
-  swept-next s {did} {t} {l} {l′} {l″} before one = record {
+  -- the first k states in an order
+  abbrev pub RestsFirst : (ℕ → ℕ) → ℕ → List ℕ → Type 0
+  RestsFirst order k l = (j : ℕ) → j < k → RestsAt G most safe (order j) l
+
+  pub swept-next : (order : ℕ → ℕ) (k : ℕ) {did t : Bool} {l l′ l″ : List ℕ} → Swept G most safe (RestsFirst order k) did l l′ → Swept G most safe (RestsAt G most safe (order k)) t l′ l″ → Swept G most safe (RestsFirst order (k + 1)) (cond t true did) l l″
+  swept-next order k {did} {t} {l} {l′} {l″} before one = record {
     kept = λ goal kept. one .kept goal (before .kept goal kept);
     falls = falls did t before one;
     quiet = quiet did t before one;
@@ -42,22 +51,32 @@ module _ (G : Arena) (most : Bool) (safe : ℕ) where
     long = one .long ∙ before .long;
   }
     where
-      falls : (did t : Bool) → Swept G most safe (RestsBelow G most safe s) did l l′ → Swept G most safe (RestsAt G most safe s) t l′ l″ → cond t true did ≡ true → sum l″ < sum l
+      falls : (did t : Bool) → Swept G most safe (RestsFirst order k) did l l′ → Swept G most safe (RestsAt G most safe (order k)) t l′ l″ → cond t true did ≡ true → sum l″ < sum l
       falls true true before one e = omega (arith, before .falls refl, one .falls refl)
       falls false true before one e = omega (arith, one .falls refl, ap sum (before .quiet refl .0))
       falls true false before one e = omega (arith, before .falls refl, ap sum (one .quiet refl .0))
       falls false false before one e = let z : _≡_ {A = ℕ} 0 1 = cc in absurd (omega arith)
 
-      here : (x : List ℕ) → RestsBelow G most safe s x → RestsAt G most safe s x → (j : ℕ) → j < s + 1 → Dec (j ≡ s) → RestsAt G most safe j x
-      here x earlier now j small (yes e) = subst (λ (k : ℕ). RestsAt G most safe k x) (sym e) now
+      here : (x : List ℕ) → RestsFirst order k x → RestsAt G most safe (order k) x → (j : ℕ) → j < k + 1 → Dec (j ≡ k) → RestsAt G most safe (order j) x
+      here x earlier now j small (yes e) = subst (λ (y : ℕ). RestsAt G most safe (order y) x) (sym e) now
       here x earlier now j small (no ne) = earlier j (omega arith)
 
-      quiet : (did t : Bool) → Swept G most safe (RestsBelow G most safe s) did l l′ → Swept G most safe (RestsAt G most safe s) t l′ l″ → cond t true did ≡ false → (l″ ≡ l) × RestsBelow G most safe (s + 1) l
+      quiet : (did t : Bool) → Swept G most safe (RestsFirst order k) did l l′ → Swept G most safe (RestsAt G most safe (order k)) t l′ l″ → cond t true did ≡ false → (l″ ≡ l) × RestsFirst order (k + 1) l
       quiet did true before one e = let z : _≡_ {A = ℕ} 0 1 = cc in absurd (omega arith)
       quiet did false before one e =
           let (same, earlier) = before .quiet e in
           let (same′, now) = one .quiet refl in
-          (same′ ∙ same, λ j small. here l earlier (subst (RestsAt G most safe s) same now) j small (eq? j s))
+          (same′ ∙ same, λ j small. here l earlier (subst (RestsAt G most safe (order k)) same now) j small (eq? j k))
+
+  -- an order in which each of the n states has its place
+  pub swept-all : (order place : ℕ → ℕ) (n : ℕ) → ((s : ℕ) → s < n → (place s < n) × (order (place s) ≡ s)) → {did : Bool} {l l′ : List ℕ} → Swept G most safe (RestsFirst order n) did l l′ → Swept G most safe (RestsBelow G most safe n) did l l′
+  swept-all order place n there {l = l} all = record {
+    kept = all .kept;
+    falls = all .falls;
+    quiet = λ e. let (same, rests) = all .quiet e in (same, λ s small. let (inside, is) = there s small in subst (λ (y : ℕ). RestsAt G most safe y l) is (rests (place s) inside));
+    beyond = all .beyond;
+    long = all .long;
+  }
 
   -- on the way: sweeps so far, and whether another is needed
   pub record Sweeping (more : Bool) (l l′ : List ℕ) : Type 0 where

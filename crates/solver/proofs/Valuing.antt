@@ -13,8 +13,8 @@ use Rattle.game.specs.Table.{never}
 use Rattle.game.specs.Facts.{CanForce, CanAnswer}
 use Rattle.game.specs.Extremes.{Beyond, Further}
 use Rattle.game.specs.Sweep.{Worst}
-use Rattle.game.proofs.Numbers.Decide.{eq?, lt?}
-use Rattle.game.proofs.Numbers.Extremes.{beyond-equal, beyond-trans}
+use Rattle.game.proofs.Numbers.Decide.{eq?}
+use Rattle.game.proofs.Numbers.Extremes.{beyond-equal, beyond-trans, further-some}
 use Rattle.game.proofs.Bridge.Proper.{Proper}
 use Rattle.game.proofs.Bridge.Plays.{outcome-fits}
 use Rattle.game.proofs.Local.Decidable.{reply?}
@@ -25,15 +25,6 @@ use Rattle.game.proofs.Whole.Choices.{idle-allowed, idle-reply}
 use Rattle.solver.specs.Places.{PlacedAt}
 use Rattle.solver.specs.Values.{Gathered, MoveOffers, OneOf, Valued, startValue}
 use Rattle.solver.proofs.Placing.{placed-number}
-
-pick : (most : Bool) (a b : ℕ) → (v : ℕ) × Further most a b v
-pick most a b = go most (lt? a b)
-  where
-    go : (most : Bool) → Dec (a < b) → (v : ℕ) × Further most a b v
-    go true (yes l) = (b, record { first = omega arith; second = omega arith; taken = inr refl })
-    go true (no l) = (a, record { first = omega arith; second = omega arith; taken = inl refl })
-    go false (yes l) = (a, record { first = omega arith; second = omega arith; taken = inl refl })
-    go false (no l) = (b, record { first = omega arith; second = omega arith; taken = inr refl })
 
 -- a move has a worst rank
 module _ (G : Arena) (proper : Proper (G .structure)) (most : Bool) (rank : ℕ → ℕ) (p : Position) (fits : IsPosition G p) (m : ℕ) where
@@ -66,7 +57,7 @@ module _ (G : Arena) (proper : Proper (G .structure)) (most : Bool) (rank : ℕ 
           each r l reply (yes e) = absurd (fails (subst (Reply G p) e reply))
           each r l reply (no ne) = worst .each r (omega arith) reply
       go (inr (v, worst)) (yes reply) =
-          let (w, step) = pick most (rankOf n) v in
+          let (w, step) = further-some most (rankOf n) v in
           inr (w, record { each = λ r l reply′. each w step r l reply′ (eq? r n); some = ⊎-elim (λ e. (n, reply, sym e)) (λ e. let (r, reply′, e′) = worst .some in (r, reply′, e′ ∙ sym e)) (step .taken) })
         where
           each : (w : ℕ) → Further most (rankOf n) v w → (r : ℕ) → r < suc n → Reply G p r → Dec (r ≡ n) → Beyond most (rankOf r) w

@@ -2,6 +2,7 @@
 pub mod Places
 pub mod Values
 pub mod Sweeps
+pub mod Marks
 pub mod Solving
 pub mod Tables
 pub mod Next

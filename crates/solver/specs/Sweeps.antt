@@ -2,7 +2,7 @@
 use mathlib.Core.Bool.{Bool, true, false}
 use mathlib.Core.List.{List}
 use mathlib.Core.Path.{_≡_}
-use Prim.Native.Nat.{ℕ, suc, _+_, _≤_, _<_}
+use Prim.Native.Nat.{ℕ, suc, _+_, _-_, _≤_, _<_}
 use lib.ListN.{getD, length}
 use Rattle.block.specs.Decide.{Bit}
 use Rattle.game.specs.Position.{Arena, Position, IsPosition, number, positions}
@@ -26,6 +26,11 @@ RestsAt G most safe s l = (p : Position) → IsPosition G p → p .state ≡ s �
 -- and in the first n states
 abbrev pub RestsBelow : Arena → Bool → ℕ → ℕ → List ℕ → Type 0
 RestsBelow G most safe n l = (s : ℕ) → s < n → RestsAt G most safe s l
+
+-- the k-th of n states, rising or falling
+abbrev pub visit : Bool → ℕ → ℕ → ℕ
+visit true n k = n - 1 - k
+visit false n k = k
 
 -- part of a sweep: it did something and the sum of the ranks fell, or it did nothing and this part rests
 pub record Swept (G : Arena) (most : Bool) (safe : ℕ) (Rests : List ℕ → Type 0) (did : Bool) (l l′ : List ℕ) : Type 0 where

@@ -13,9 +13,10 @@ ghost use lib.ListN.{length, getD};
 ghost use Rattle.block.specs.Decide.{Decides};
 ghost use Rattle.block.specs.Layout as L;
 ghost use Rattle.block.specs.Valid.{Valid};
+ghost use Rattle.game.specs.Extremes.{Lists};
 ghost use Rattle.game.specs.Position.{MoveOf, stockPlaces};
 ghost use Rattle.game.specs.Buffers.{rankIn};
-ghost use Rattle.game.specs.Model.{structureOf, coalitionOf, arenaOf};
+ghost use Rattle.game.specs.Model.{structureOf, coalitionOf, arenaOf, ReplyTo};
 ghost use Rattle.solver.specs.Next.{LeadsInto};
 ghost use Rattle.solver.specs.Tables.{RanksOf, MovesOf};
 ghost use Rattle.solver.specs.Choices.{ClaimedBy, AimedBy, FirstMove, Tried, OneHits, Chosen, HitAt, HitsIn, HitsAny};
@@ -52,9 +53,9 @@ fn aimed(
         return into;
     }
     if ever {
-        return replies::extreme(ranks, targets, n, at, false) == 65535;
+        return replies::best_of(ranks, targets, n, at, false, 65534) == 65535;
     }
-    replies::extreme(ranks, targets, n, at, true) < rank
+    replies::best_of(ranks, targets, n, at, true, rank) < rank
 }
 
 // Tries the move m at position p, which keeps `at` of its stocks.
@@ -126,15 +127,25 @@ fn choose(
     }
 }
 
-// Whether every reply to the move m leads from state s into the set left; only a next row asks.
-fn leads(block: &[u8], i: usize, s: usize, m: usize, left: usize, soon: bool) -> bool
+// Whether each of the n listed replies to the move m leads from state s into the set left; only a next row asks.
+fn leads(
+    block: &[u8],
+    i: usize,
+    s: usize,
+    m: usize,
+    left: usize,
+    soon: bool,
+    answers: &[usize],
+    n: usize,
+) -> bool
     requires { ⌜ Valid (now block) ⌝ }
     requires { ⌜ (i < L.rows (now block)) × L.Strategic (L.kind (now block) i) × (s < L.states (now block)) ⌝ }
     requires { ⌜ MoveOf (structureOf (now block)) (coalitionOf (now block) i) s m ⌝ }
+    requires { ⌜ Lists (ReplyTo (now block) i s) (λ (r : ℕ). r) (now answers) n × (n ≤ length (now answers)) ⌝ }
     ensures { λ r. ⌜ (soon ≡ true → Decides (LeadsInto (now (block .entry)) i s m left) r) ⌝ }
 {
     if soon {
-        return next::leads_into(block, i, s, m, left);
+        return next::leads_into(block, i, s, m, left, answers, n);
     }
     false
 }
@@ -158,12 +169,14 @@ fn choose_move(
     requires { ⌜ (c ≡ stockPlaces (arenaOf (now block) i)) × (12288 ≤ length (now ranks)) × (6144 ≤ length (now moves)) ⌝ }
     ensures { λ _. ⌜ Tried (HitsIn (now (block .entry)) i soon ever left (now (ranks .entry)) m s) m (now (moves .entry)) (now (moves .exit)) ⌝ }
 {
+    let mut answers = [0; 64];
     let mut targets = [0; 64];
     let mut places = [0; 256];
-    let n = replies::targets(block, i, s, m, c, &mut targets);
+    let n = replies::replies(block, i, s, &mut answers);
+    replies::targets(block, i, s, m, c, &answers, n, &mut targets);
     let count = payable::payable(block, i, s, m, &mut places);
     let taken = positions::offset(block, i, s, m);
-    let into = leads(block, i, s, m, left, soon);
+    let into = leads(block, i, s, m, left, soon, &answers, n);
     choose(
         ranks,
         &targets,

@@ -2,6 +2,7 @@
 pub mod choose;
 pub mod gather;
 pub mod label;
+pub mod marks;
 pub mod next;
 pub mod payable;
 pub mod rows;

@@ -12,25 +12,33 @@ ghost use lib.ListN.{length, getD};
 ghost use Rattle.block.specs.Decide.{Decides};
 ghost use Rattle.block.specs.Layout as L;
 ghost use Rattle.block.specs.Valid.{Valid};
+ghost use Rattle.game.specs.Extremes.{Lists};
 ghost use Rattle.game.specs.Position.{MoveOf, stockPlaces};
-ghost use Rattle.game.specs.Model.{structureOf, coalitionOf, arenaOf};
+ghost use Rattle.game.specs.Model.{structureOf, coalitionOf, arenaOf, ReplyTo};
 ghost use Rattle.solver.specs.Next.{LeadsInto, Marked, AnyOf, PlaceMarks, MoveMarks, StateMarks, NextRanks};
 
-// Whether every reply to the move m leads from state s into the set.
-pub fn leads_into(block: &[u8], i: usize, s: usize, m: usize, set: usize) -> bool
+// Whether each of the n listed replies to the move m leads from state s into the set.
+pub fn leads_into(
+    block: &[u8],
+    i: usize,
+    s: usize,
+    m: usize,
+    set: usize,
+    answers: &[usize],
+    n: usize,
+) -> bool
     requires { ⌜ Valid (now block) ⌝ }
     requires { ⌜ (i < L.rows (now block)) × L.Strategic (L.kind (now block) i) × (s < L.states (now block)) ⌝ }
     requires { ⌜ MoveOf (structureOf (now block)) (coalitionOf (now block) i) s m ⌝ }
+    requires { ⌜ Lists (ReplyTo (now block) i s) (λ (r : ℕ). r) (now answers) n × (n ≤ length (now answers)) ⌝ }
     ensures { λ r. ⌜ Decides (LeadsInto (now (block .entry)) i s m set) r ⌝ }
 {
-    let mut r = 0;
-    while r < 64 {
-        if replies::is_reply(block, i, s, r) {
-            if !buffers::has_bit(set, layout::next(block, s, m + r)) {
-                return false;
-            }
+    let mut k = 0;
+    while k < n {
+        if !buffers::has_bit(set, layout::next(block, s, m + answers[k])) {
+            return false;
         }
-        r += 1;
+        k += 1;
     }
     true
 }
@@ -49,14 +57,25 @@ fn mark(ranks: &mut [u8], base: usize, places: &[usize], count: usize)
 }
 
 // Marks the positions of state s that can pay the move m, if it leads into the set.
-fn mark_move(block: &[u8], i: usize, s: usize, m: usize, c: usize, set: usize, ranks: &mut [u8])
+fn mark_move(
+    block: &[u8],
+    i: usize,
+    s: usize,
+    m: usize,
+    c: usize,
+    set: usize,
+    answers: &[usize],
+    n: usize,
+    ranks: &mut [u8],
+)
     requires { ⌜ Valid (now block) ⌝ }
     requires { ⌜ (i < L.rows (now block)) × L.Strategic (L.kind (now block) i) × (s < L.states (now block)) ⌝ }
     requires { ⌜ MoveOf (structureOf (now block)) (coalitionOf (now block) i) s m ⌝ }
+    requires { ⌜ Lists (ReplyTo (now block) i s) (λ (r : ℕ). r) (now answers) n × (n ≤ length (now answers)) ⌝ }
     requires { ⌜ (c ≡ stockPlaces (arenaOf (now block) i)) × (12288 ≤ length (now ranks)) ⌝ }
     ensures { λ _. ⌜ Marked (MoveMarks (now (block .entry)) i set s m) (now (ranks .entry)) (now (ranks .exit)) ⌝ }
 {
-    if !leads_into(block, i, s, m, set) {
+    if !leads_into(block, i, s, m, set, answers, n) {
         return;
     }
     let mut places = [0; 256];
@@ -71,11 +90,13 @@ fn mark_state(block: &[u8], i: usize, s: usize, c: usize, set: usize, ranks: &mu
     requires { ⌜ (c ≡ stockPlaces (arenaOf (now block) i)) × (12288 ≤ length (now ranks)) ⌝ }
     ensures { λ _. ⌜ Marked (StateMarks (now (block .entry)) i set s) (now (ranks .entry)) (now (ranks .exit)) ⌝ }
 {
+    let mut answers = [0; 64];
+    let n = replies::replies(block, i, s, &mut answers);
     let team = layout::team(block, i);
     let mut m = 0;
     while m < 64 {
         if moves::is_move(block, s, team, m) {
-            mark_move(block, i, s, m, c, set, ranks);
+            mark_move(block, i, s, m, c, set, &answers, n, ranks);
         }
         m += 1;
     }

@@ -9,6 +9,17 @@ use lib.Seq.{getD-set-same, getD-set-other}
 use Rattle.game.specs.Extremes.{Beyond, Extreme, Lists}
 use Rattle.game.proofs.Numbers.Decide.{eq?}
 
+-- the first k places of a list hold the values of those of another
+abbrev pub ValuesBelow : (ℕ → ℕ) → ℕ → List ℕ → List ℕ → Type 0
+ValuesBelow f k l l′ = (j : ℕ) → j < k → getD l′ j 0 ≡ f (getD l j 0)
+
+pub values-more : (f : ℕ → ℕ) (k v : ℕ) (l l′ : List ℕ) → k < length l′ → ValuesBelow f k l l′ → v ≡ f (getD l k 0) → ValuesBelow f (k + 1) l (set l′ k v)
+values-more f k v l l′ inside so-far is j small = go (eq? j k)
+  where
+    go : Dec (j ≡ k) → getD (set l′ k v) j 0 ≡ f (getD l j 0)
+    go (yes e) = ap (λ (x : ℕ). getD (set l′ k v) x 0) e ∙ getD-set-same l′ k v 0 inside ∙ is ∙ ap (λ (x : ℕ). f (getD l x 0)) (sym e)
+    go (no ne) = getD-set-other l′ k j v 0 ne ∙ so-far j (omega arith)
+
 module _ (P : ℕ → Type 0) (f : ℕ → ℕ) where
   -- the numbers below j
   abbrev pub ListsBelow : ℕ → List ℕ → ℕ → Type 0
@@ -48,6 +59,13 @@ module _ (P : ℕ → Type 0) (f : ℕ → ℕ) where
   lists-all j n l below so-far = record {
     each = λ r h. so-far .each r (below r h, h);
     only = λ k small. let (r, (_, h), e) = so-far .only k small in (r, h, e);
+  }
+
+  -- from a list of the numbers themselves
+  pub lists-values : (n : ℕ) (l l′ : List ℕ) → Lists P (λ r. r) l n → ValuesBelow f n l l′ → Lists P f l′ n
+  lists-values n l l′ lists values = record {
+    each = λ r h. let (k, small, e) = lists .each r h in (k, small, values k small ∙ ap f e);
+    only = λ k small. let (r, h, e) = lists .only k small in (r, h, values k small ∙ ap f e);
   }
 
   -- the extreme of a list is that of the numbers listed

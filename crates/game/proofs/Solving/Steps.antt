@@ -13,6 +13,16 @@ module _ (step : ℕ → Bool → List ℕ → List ℕ → Type 0) where
   steps-keep Q keeps (next {k} {did} {did′} {l} {l′} {l″} before one) q =
       keeps k did′ l′ l″ (omega arith) one (steps-keep Q (λ j t x x′ small. keeps j t x x′ (omega arith)) before q)
 
+  -- what each step brings about of its own, and the others keep
+  pub steps-each : (Q : ℕ → List ℕ → Type 0) → ((k : ℕ) (t : Bool) (x x′ : List ℕ) → step k t x x′ → Q k x′) → ((j k : ℕ) (t : Bool) (x x′ : List ℕ) → step k t x x′ → Q j x → Q j x′)
+      → {n : ℕ} {did : Bool} {l l′ : List ℕ} → Steps step n did l l′ → (j : ℕ) → j < n → Q j l′
+  steps-each Q after keeps none j small = absurd (omega arith)
+  steps-each Q after keeps (next {k} {did} {did′} {l} {l′} {l″} before one) j small = go (λ earlier. steps-each Q after keeps before j earlier) (eq? j k)
+    where
+      go : (j < k → Q j l′) → Dec (j ≡ k) → Q j l″
+      go earlier (yes e) = subst (λ (i : ℕ). Q i l″) (sym e) (after k did′ l′ l″ one)
+      go earlier (no ne) = keeps j k did′ l′ l″ one (earlier (omega arith))
+
   module _ (quiet : (k : ℕ) (x x′ : List ℕ) → step k false x x′ → x′ ≡ x) where
     pub steps-quiet : {n : ℕ} {did : Bool} {l l′ : List ℕ} → Steps step n did l l′ → did ≡ false → (l′ ≡ l) × ((k : ℕ) → k < n → step k false l l)
     steps-quiet none e = (refl, λ k small. absurd (omega arith))

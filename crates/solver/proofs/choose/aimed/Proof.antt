@@ -1,5 +1,6 @@
 -- `aimed` compares the largest or the smallest rank where the replies lead. Assumes nothing.
 use mathlib.Core.Bool.{Bool, true, false}
+use mathlib.Core.Logic.{⊎-elim}
 use mathlib.Core.Path.{_≡_, refl, sym, subst}
 use Prim.Native.Nat.{ℕ, _+_, _*_}
 use native.Mathlib.Omega.{arith}
@@ -22,34 +23,37 @@ returns c =
     let args = c .before .before .before .args in
     subst (λ (t : Bool). Decides (AimedBy t (args .ever) (args .into) (args .rank) (args .n) (λ (j : ℕ). rankIn (args .ranks .now) (getD (args .targets .now) j 0 + args .at))) (args .into)) (sym (c .if1 .taken)) (itself (args .into))
 
-extreme-requires : tie.Need-extreme-requires
-extreme-requires c κs = search needs
+best-of-requires : tie.Need-best-of-requires
+best-of-requires c κs = search needs
 
 returns-2 : tie.Need-returns-2
 returns-2 c =
     let args = c .before .before .before .before .before .args in
-    let found = c .extreme in
+    let found = c .best-of .ensures .0 in
+    let r = c .best-of .result in
     let f : ℕ → ℕ = λ j. rankIn (args .ranks .now) (getD (args .targets .now) j 0 + args .at) in
     let at : ℕ → ℕ = λ j. 2 * (getD (args .targets .now) j 0 + args .at) in
-    subst (λ (t : Bool). Decides (AimedBy t (args .ever) (args .into) (args .rank) (args .n) f) (eqb (found .result) 65535)) (sym (c .before .before .if1 .left))
-    (subst (λ (u : Bool). Decides (AimedBy false u (args .into) (args .rank) (args .n) f) (eqb (found .result) 65535)) (sym (c .before .if2 .taken))
-    (D.same (D.equal (found .result) 65535)
-    (λ e j l. omega (arith, found .ensures .0 .beyond j l, c .before .before .before .before .shared-slice-known .given (at j), c .before .before .before .before .shared-slice-known .given (at j + 1)))
-    (λ all. let (k, l, e) = found .ensures .0 .taken in omega (arith, all k l, e))))
+    let bytes = c .before .before .before .before .shared-slice-known .given in
+    subst (λ (t : Bool). Decides (AimedBy t (args .ever) (args .into) (args .rank) (args .n) f) (eqb r 65535)) (sym (c .before .before .if1 .left))
+    (subst (λ (u : Bool). Decides (AimedBy false u (args .into) (args .rank) (args .n) f) (eqb r 65535)) (sym (c .before .if2 .taken))
+    (D.same (D.equal r 65535)
+    (λ e j l. ⊎-elim (λ (e′ : r ≡ found .worst). omega (arith, found .extreme .beyond j l, bytes (at j), bytes (at j + 1))) (λ (e′ : r ≡ 65534). absurd (omega arith)) (found .further .taken))
+    (λ all. let (k, l, e) = found .extreme .taken in ⊎-elim (λ (e′ : r ≡ found .worst). omega (arith, all k l, e)) (λ (e′ : r ≡ 65534). absurd (omega (arith, all k l, e, found .further .first))) (found .further .taken))))
 
-extreme-requires-2 : tie.Need-extreme-requires-2
-extreme-requires-2 c κs = search needs
+best-of-requires-2 : tie.Need-best-of-requires-2
+best-of-requires-2 c κs = search needs
 
 returns-3 : tie.Need-returns-3
 returns-3 c =
     let args = c .before .before .before .before .before .args in
-    let found = c .extreme2 in
+    let found = c .best-of2 .ensures .0 in
+    let r = c .best-of2 .result in
     let f : ℕ → ℕ = λ j. rankIn (args .ranks .now) (getD (args .targets .now) j 0 + args .at) in
-    subst (λ (t : Bool). Decides (AimedBy t (args .ever) (args .into) (args .rank) (args .n) f) (ltb (found .result) (args .rank))) (sym (c .before .before .if1 .left))
-    (subst (λ (u : Bool). Decides (AimedBy false u (args .into) (args .rank) (args .n) f) (ltb (found .result) (args .rank))) (sym (c .before .if2 .left))
-    (D.same (D.less (found .result) (args .rank))
-    (λ h j l. omega (arith, found .ensures .0 .beyond j l))
-    (λ all. let (k, l, e) = found .ensures .0 .taken in omega (arith, all k l, e))))
+    subst (λ (t : Bool). Decides (AimedBy t (args .ever) (args .into) (args .rank) (args .n) f) (ltb r (args .rank))) (sym (c .before .before .if1 .left))
+    (subst (λ (u : Bool). Decides (AimedBy false u (args .into) (args .rank) (args .n) f) (ltb r (args .rank))) (sym (c .before .if2 .left))
+    (D.same (D.less r (args .rank))
+    (λ h j l. ⊎-elim (λ (e : r ≡ found .worst). omega (arith, found .extreme .beyond j l)) (λ (e : r ≡ args .rank). absurd (omega arith)) (found .further .taken))
+    (λ all. let (k, l, e) = found .extreme .taken in omega (arith, all k l, e, found .further .first))))
 
 pub aimed-spec : {M : Type 1} → statement M
-aimed-spec = tie.close (tie.spec returns extreme-requires returns-2 extreme-requires-2 returns-3)
+aimed-spec = tie.close (tie.spec returns best-of-requires returns-2 best-of-requires-2 returns-3)

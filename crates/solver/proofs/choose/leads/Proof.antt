@@ -7,7 +7,7 @@ use Rattle.solver.proofs.choose.leads.Statement.{statement}
 use Rattle.solver.proofs.choose.leads.Tie as tie
 
 leads-into-requires : tie.Need-leads-into-requires
-leads-into-requires c κs = search needs
+leads-into-requires c κs = c .before .before .before .pre
 
 returns : tie.Need-returns
 returns c = λ _. c .leads-into .ensures

@@ -29,26 +29,23 @@ mul-x c = record { fits = omega (arith, c .before .before .before .before .befor
 shared-slice-read-x : tie.Need-shared-slice-read-x Inv-loop μ-loop
 shared-slice-read-x c = omega (arith, c .before .before .before .before .before .before .before .pre .0 .2, c .before .loop-test .taken)
 
-sub-extreme : tie.Need-sub-extreme Inv-loop μ-loop
-sub-extreme c = c .before .before .before .before .before .before .before .pre .1 .0 (c .before .before .loop .k) (c .before .loop-test .taken) .0
+sub-best-of : tie.Need-sub-best-of Inv-loop μ-loop
+sub-best-of c = c .before .before .before .before .before .before .before .pre .1 .0 (c .before .before .loop .k) (c .before .loop-test .taken) .0
 
-extreme-requires : tie.Need-extreme-requires Inv-loop μ-loop
-extreme-requires c κs = ((c .before .before .before .before .before .before .before .pre .0 .0, c .before .before .before .before .before .before .before .pre .0 .1), λ j l. c .before .before .before .before .before .before .before .pre .1 .1 (c .before .before .loop .k) j (c .before .loop-test .taken) l)
+mul-best-of : tie.Need-mul-best-of Inv-loop μ-loop
+mul-best-of c = record { fits = omega (arith, c .before .before .before .before .before .before .before .pre .1 .0 (c .before .before .loop .k) (c .before .loop-test .taken) .1, c .before .before .before .before .before .before .before .good .1 .1 .1 .1 .1 .1 .1 .0 .1) }
 
-mul-further : tie.Need-mul-further Inv-loop μ-loop
-mul-further c = record { fits = omega (arith, c .before .before .before .before .before .before .before .before .pre .1 .0 (c .before .before .before .loop .k) (c .before .before .loop-test .taken) .1, c .before .before .before .before .before .before .before .before .good .1 .1 .1 .1 .1 .1 .1 .0 .1) }
+slice-read-best-of : tie.Need-slice-read-best-of Inv-loop μ-loop
+slice-read-best-of c = omega (arith, c .before .before .before .before .before .before .before .before .pre .1 .0 (c .before .before .before .loop .k) (c .before .before .loop-test .taken) .1, c .before .before .before .loop .inv .1)
 
-slice-read-further : tie.Need-slice-read-further Inv-loop μ-loop
-slice-read-further c = omega (arith, c .before .before .before .before .before .before .before .before .before .pre .1 .0 (c .before .before .before .before .loop .k) (c .before .before .before .loop-test .taken) .1, c .before .before .before .before .loop .inv .1)
-
-further-requires : tie.Need-further-requires Inv-loop μ-loop
-further-requires c κs = tt
+best-of-requires : tie.Need-best-of-requires Inv-loop μ-loop
+best-of-requires c κs = let pre = c .before .before .before .before .before .before .before .before .pre in ((pre .0 .0, pre .0 .1), λ j l. pre .1 .1 (c .before .before .before .loop .k) j (c .before .before .loop-test .taken) l)
 
 mul-values : tie.Need-mul-values Inv-loop μ-loop
-mul-values c = record { fits = omega (arith, c .before .before .before .before .before .before .before .before .before .before .pre .1 .0 (c .before .before .before .before .before .loop .k) (c .before .before .before .before .loop-test .taken) .1, c .before .before .before .before .before .before .before .before .before .before .good .1 .1 .1 .1 .1 .1 .1 .0 .1) }
+mul-values c = record { fits = omega (arith, c .before .before .before .before .before .before .before .before .before .pre .1 .0 (c .before .before .before .before .loop .k) (c .before .before .before .loop-test .taken) .1, c .before .before .before .before .before .before .before .before .before .good .1 .1 .1 .1 .1 .1 .1 .0 .1) }
 
 slice-write-values : tie.Need-slice-write-values Inv-loop μ-loop
-slice-write-values c = omega (arith, c .before .before .before .before .before .before .before .before .before .before .pre .1 .0 (c .before .before .before .before .before .loop .k) (c .before .before .before .before .loop-test .taken) .1, c .before .before .before .before .before .loop .inv .1)
+slice-write-values c = omega (arith, c .before .before .before .before .before .before .before .before .before .pre .1 .0 (c .before .before .before .before .loop .k) (c .before .before .before .loop-test .taken) .1, c .before .before .before .before .loop .inv .1)
 
 add-k : tie.Need-add-k Inv-loop μ-loop
 add-k c = omega arith
@@ -58,19 +55,20 @@ loop-less c = omega arith
 
 loop-again : tie.Need-loop-again Inv-loop μ-loop
 loop-again c =
-    let start = c .before .before .before .before .before .before .before .before .before .before in
+    let start = c .before .before .before .before .before .before .before .before .before in
     let args = start .args in
-    let at = c .before .before .before .before .before .loop in
-    let inside = c .before .before .before .before .loop-test .taken in
-    let found = c .before .before .extreme in
+    let at = c .before .before .before .before .loop in
+    let inside = c .before .before .before .loop-test .taken in
+    let found = c .best-of .ensures in
+    let worst = found .0 .worst in
     let x = getD (args .places .now) (at .k) 0 in
     let offers = ListOffers (args .most) (args .ranks .now) (args .targets .now) (args .n) (args .places .now) (args .taken) in
-    let one = gathered-one (not (args .most)) (offers (at .k)) (at .values) x (found .result) (c .further .result)
-    (omega (arith, start .pre .1 .0 (at .k) inside .1, at .inv .1)) (c .further .ensures) (found .ensures .1) (refl, found .ensures .0)
+    let one = gathered-one (not (args .most)) (offers (at .k)) (at .values) x worst (c .best-of .result)
+    (omega (arith, start .pre .1 .0 (at .k) inside .1, at .inv .1)) (found .0 .further) (found .1) (refl, found .0 .extreme)
     (λ y u offer. (
       sym (offer .0),
-      extreme-one (args .most) (args .n) (λ j. rankIn (args .ranks .now) (getD (args .targets .now) j 0 + (x - args .taken))) u (found .result)
-          (subst (λ (z : ℕ). Extreme (args .most) (args .n) (λ j. rankIn (args .ranks .now) (getD (args .targets .now) j 0 + (z - args .taken))) u) (sym (offer .0)) (offer .1)) (found .ensures .0),
+      extreme-one (args .most) (args .n) (λ j. rankIn (args .ranks .now) (getD (args .targets .now) j 0 + (x - args .taken))) u worst
+          (subst (λ (z : ℕ). Extreme (args .most) (args .n) (λ j. rankIn (args .ranks .now) (getD (args .targets .now) j 0 + (z - args .taken))) u) (sym (offer .0)) (offer .1)) (found .0 .extreme),
     )) in
     let all = gathered-next (not (args .most)) offers (at .k) (at .inv .2) one in
     (omega (arith, inside), all .long, all)
@@ -94,11 +92,10 @@ gather-spec =
     loop-holds
     mul-x
     shared-slice-read-x
-    sub-extreme
-    extreme-requires
-    mul-further
-    slice-read-further
-    further-requires
+    sub-best-of
+    mul-best-of
+    slice-read-best-of
+    best-of-requires
     mul-values
     slice-write-values
     add-k

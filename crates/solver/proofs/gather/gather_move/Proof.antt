@@ -22,7 +22,9 @@ module _ (start : tie.Start) where
   few = few-stocks (start .args .block .now) (start .pre .0) (start .args .i) (start .pre .1 .0 .0) (start .pre .1 .0 .1) (L.resources (start .args .block .now)) (omega arith)
 
 targets-requires : tie.Need-targets-requires
-targets-requires c κs = let pre = c .before .before .before .before .pre in (pre .0, (pre .1 .0, (pre .1 .1 .0, (omega arith, omega (arith, pre .1 .1 .1 .0, few (c .before .before .before .before))))))
+targets-requires c κs =
+    let pre = c .before .before .before .before .before .pre in
+    (pre .0, (pre .1 .0, (pre .1 .1 .0, (pre .1 .1 .1 .0 .0, (pre .1 .1 .1 .0 .2, pre .1 .1 .1 .0 .1, omega (arith, pre .1 .1 .1 .1 .0, few (c .before .before .before .before .before)))))))
 
 slice-aggregate-payable : tie.Need-slice-aggregate-payable
 slice-aggregate-payable c = search needs
@@ -45,23 +47,23 @@ ByPlaces b i s m targets n c = Lists (ReplyTo b i s) (λ r. L.next b s (m + r) *
 
 gather-requires : tie.Need-gather-requires
 gather-requires c κs =
-    let pre = c .before .before .before .before .before .before .before .before .before .before .before .before .before .pre in
-    let args = c .before .before .before .before .before .before .before .before .before .before .before .before .before .args in
+    let pre = c .before .before .before .before .before .before .before .before .before .before .before .before .before .before .pre in
+    let args = c .before .before .before .before .before .before .before .before .before .before .before .before .before .before .args in
     let reach = c .before .before .before .before .before .before .before .before .targets2 in
     let pays = c .before .before .before .before .before .payable in
     let b = args .block .now in
-    let lists = subst (ByPlaces b (args .i) (args .s) (args .m) (reach .last .1 .1 .1 .1 .1 .0) (reach .result)) (pre .1 .1 .1 .0) (reach .ensures .0) in
+    let lists = subst (ByPlaces b (args .i) (args .s) (args .m) (reach .last .1 .1 .1 .1 .1 .1 .1 .0) (args .n)) (pre .1 .1 .1 .1 .0) (reach .ensures .0) in
     let fits = place-fits b (pre .0) (args .i) (args .s) (args .m) (pre .1 .0 .0) (pre .1 .0 .1) (pre .1 .0 .2) (pre .1 .1 .0)
-    (reach .last .1 .1 .1 .1 .1 .0) (reach .result) lists (pays .last .1 .1 .1 .1 .0) (pays .result) (pays .ensures .0) (c .before .before .before .offset .result) (c .before .before .before .offset .ensures) in (
+    (reach .last .1 .1 .1 .1 .1 .1 .1 .0) (args .n) lists (pays .last .1 .1 .1 .1 .0) (pays .result) (pays .ensures .0) (c .before .before .before .offset .result) (c .before .before .before .offset .ensures) in (
       (
         some-reply b (pre .0) (args .i) (args .s) (args .m) (pre .1 .0 .0) (pre .1 .0 .1) (pre .1 .0 .2) (pre .1 .1 .0)
-            (reach .last .1 .1 .1 .1 .1 .0) (reach .result) lists (pays .last .1 .1 .1 .1 .0) (pays .result) (pays .ensures .0) (c .before .before .before .offset .result) (c .before .before .before .offset .ensures),
-        omega (arith, reach .ensures .1),
+            (reach .last .1 .1 .1 .1 .1 .1 .1 .0) (args .n) lists (pays .last .1 .1 .1 .1 .0) (pays .result) (pays .ensures .0) (c .before .before .before .offset .result) (c .before .before .before .offset .ensures),
+        omega (arith, pre .1 .1 .1 .0 .1, reach .ensures .1),
         omega (arith, pays .ensures .1),
       ),
       (
-        λ k l. (fits k l .0, omega (arith, fits k l .1, few (c .before .before .before .before .before .before .before .before .before .before .before .before .before), pre .1 .1 .1 .2)),
-        λ k j l l′. omega (arith, fits k l .2 j l′, few-positions b (pre .0) (args .i) (pre .1 .0 .0) (pre .1 .0 .1), pre .1 .1 .1 .1),
+        λ k l. (fits k l .0, omega (arith, fits k l .1, few (c .before .before .before .before .before .before .before .before .before .before .before .before .before .before), pre .1 .1 .1 .1 .2)),
+        λ k j l l′. omega (arith, fits k l .2 j l′, few-positions b (pre .0) (args .i) (pre .1 .0 .0) (pre .1 .0 .1), pre .1 .1 .1 .1 .1),
       ),
     )
 
@@ -70,13 +72,13 @@ same-length c = search needs
 
 returns : tie.Need-returns
 returns c =
-    let pre = c .before .before .before .before .before .before .before .before .before .before .before .before .before .before .before .before .pre in
-    let args = c .before .before .before .before .before .before .before .before .before .before .before .before .before .before .before .before .args in
+    let pre = c .before .before .before .before .before .before .before .before .before .before .before .before .before .before .before .before .before .pre in
+    let args = c .before .before .before .before .before .before .before .before .before .before .before .before .before .before .before .before .before .args in
     let reach = c .before .before .before .before .before .before .before .before .before .before .before .targets2 in
     let pays = c .before .before .before .before .before .before .before .before .payable in
     let b = args .block .now in
-    move-gathered b (pre .0) (args .i) (args .s) (args .m) (pre .1 .0 .0) (pre .1 .0 .1) (pre .1 .0 .2) (pre .1 .1 .0) (reach .last .1 .1 .1 .1 .1 .0) (reach .result)
-    (subst (ByPlaces b (args .i) (args .s) (args .m) (reach .last .1 .1 .1 .1 .1 .0) (reach .result)) (pre .1 .1 .1 .0) (reach .ensures .0))
+    move-gathered b (pre .0) (args .i) (args .s) (args .m) (pre .1 .0 .0) (pre .1 .0 .1) (pre .1 .0 .2) (pre .1 .1 .0) (reach .last .1 .1 .1 .1 .1 .1 .1 .0) (args .n)
+    (subst (ByPlaces b (args .i) (args .s) (args .m) (reach .last .1 .1 .1 .1 .1 .1 .1 .0) (args .n)) (pre .1 .1 .1 .1 .0) (reach .ensures .0))
     (pays .last .1 .1 .1 .1 .0) (pays .result) (pays .ensures .0) (c .before .before .before .before .before .before .offset .result) (c .before .before .before .before .before .before .offset .ensures) (args .most) (args .ranks .now) (c .before .before .gather .ensures)
 
 pub gather-move-spec : {M : Type 1} → statement M

@@ -5,6 +5,7 @@ use mathlib.Core.Path.{_≡_, sym, _∙_, subst}
 use Prim.Native.Nat.{ℕ, _+_, _-_, _≤_, _<_}
 use native.Mathlib.Omega.{arith}
 use lib.ListN.{length}
+use borrow.Author.Needs.{needs}
 use Rattle.block.proofs.Decide as D
 use Rattle.game.specs.Position.{MoveOf}
 use Rattle.game.specs.Model.{bit, structureOf, coalitionOf}
@@ -14,31 +15,41 @@ use Rattle.solver.proofs.next.mark_state.Statement.{statement}
 use Rattle.solver.proofs.next.mark_state.Tie as tie
 
 abbrev Inv-loop : tie.InvT-loop
-Inv-loop block i s c set ranks₀ team m₀ ranks m = (m ≤ 64) × Marked (AnyOf m (MoveMarks block i set s)) ranks₀ ranks
+Inv-loop block i s c set ranks₀ answers n team m₀ ranks m = (m ≤ 64) × Marked (AnyOf m (MoveMarks block i set s)) ranks₀ ranks
 
 abbrev μ-loop : tie.MeasureT-loop
-μ-loop block i s c set ranks₀ team m₀ ranks m = 64 - m
+μ-loop block i s c set ranks₀ answers n team m₀ ranks m = 64 - m
+
+slice-aggregate-replies : tie.Need-slice-aggregate-replies Inv-loop μ-loop
+slice-aggregate-replies c = search needs
+
+replies-requires : tie.Need-replies-requires Inv-loop μ-loop
+replies-requires c κs = search needs
 
 team-requires : tie.Need-team-requires Inv-loop μ-loop
-team-requires c κs = let pre = c .before .before .pre in (pre .0 .sized .bytes, omega (arith, pre .1 .0 .0, pre .0 .sized .rows-fit))
+team-requires c κs = let pre = c .before .before .before .before .before .pre in (pre .0 .sized .bytes, omega (arith, pre .1 .0 .0, pre .0 .sized .rows-fit))
 
 loop-holds : tie.Need-loop-holds Inv-loop μ-loop
-loop-holds c = let args = c .before .before .before .args in (omega arith, marked-none (MoveMarks (args .block .now) (args .i) (args .set) (args .s)) (args .ranks .now))
+loop-holds c = let args = c .before .before .before .before .before .before .args in (omega arith, marked-none (MoveMarks (args .block .now) (args .i) (args .set) (args .s)) (args .ranks .now))
 
 is-move-requires : tie.Need-is-move-requires Inv-loop μ-loop
-is-move-requires c κs = (c .before .before .before .before .before .pre .0, c .before .before .before .before .before .pre .1 .0 .2)
+is-move-requires c κs = (c .before .before .before .before .before .before .before .before .pre .0, c .before .before .before .before .before .before .before .before .pre .1 .0 .2)
+
+slice-aggregate-mark-move : tie.Need-slice-aggregate-mark-move Inv-loop μ-loop
+slice-aggregate-mark-move c = search needs
 
 mark-move-requires : tie.Need-mark-move-requires Inv-loop μ-loop
 mark-move-requires c κs =
-    let pre = c .before .before .before .before .before .before .before .before .pre in
-    let args = c .before .before .before .before .before .before .before .before .args in
-    let at = c .before .before .before .before .loop in (
+    let pre = c .before .before .before .before .before .before .before .before .before .before .before .before .pre in
+    let args = c .before .before .before .before .before .before .before .before .before .before .before .before .args in
+    let found = c .before .before .before .before .before .before .before .before .replies .ensures in
+    let at = c .before .before .before .before .before .loop in (
       pre .0,
       (
         pre .1 .0,
         (
-          subst (λ (team : ℕ). MoveOf (structureOf (args .block .now)) (bit team) (args .s) (at .m)) (c .before .before .before .before .before .team .ensures) (D.truth (c .before .before .is-move .ensures) (c .before .if1 .taken)),
-          (pre .1 .1 .0, omega (arith, pre .1 .1 .1, at .inv .1 .long)),
+          subst (λ (team : ℕ). MoveOf (structureOf (args .block .now)) (bit team) (args .s) (at .m)) (c .before .before .before .before .before .before .team .ensures) (D.truth (c .before .before .before .is-move .ensures) (c .before .before .if1 .taken)),
+          ((found .0, omega (arith, found .1)), (pre .1 .1 .0, omega (arith, pre .1 .1 .1, at .inv .1 .long))),
         ),
       ),
     )
@@ -51,13 +62,13 @@ loop-less c = omega arith
 
 loop-again : tie.Need-loop-again Inv-loop μ-loop
 loop-again c =
-    let args = c .before .before .before .before .before .before .before .args in
+    let args = c .before .before .before .before .before .before .before .before .before .before .args in
     let at = c .before .before .before .loop in
     let marks = MoveMarks (args .block .now) (args .i) (args .set) (args .s) in
     let One : List ℕ → Type 0 = λ l. Marked (marks (at .m)) (at .ranks) l in
     let one : One (c .if1 .ranks) =
     ⊎-elim
-    (λ w. subst One (sym (w .5)) (w .2 .ensures))
+    (λ w. subst One (sym (w .6)) (w .3 .ensures))
     (λ w. subst One (sym (w .1)) (marked-nothing (marks (at .m)) (λ n (leads, (p, fits, state, e, allowed)).
     D.falsity (c .before .is-move .ensures) (w .0 .left)
     (subst (λ (team : ℕ). MoveOf (structureOf (args .block .now)) (bit team) (args .s) (at .m)) (sym (c .before .before .before .before .team .ensures)) (subst (λ (q : ℕ). MoveOf (structureOf (args .block .now)) (coalitionOf (args .block .now) (args .i)) q (at .m)) state (allowed .0)))) (at .ranks)))
@@ -69,10 +80,10 @@ same-length c = c .before .loop .inv .1 .long
 
 returns : tie.Need-returns Inv-loop μ-loop
 returns c =
-    let args = c .before .before .before .before .before .args in
+    let args = c .before .before .before .before .before .before .before .before .args in
     let at = c .before .loop in
     let all : at .m ≡ 64 = omega (arith, at .inv .0, c .loop-test .left) in
     subst (λ (m : ℕ). Marked (AnyOf m (MoveMarks (args .block .now) (args .i) (args .set) (args .s))) (args .ranks .now) (at .ranks)) all (at .inv .1)
 
 pub mark-state-spec : {M : Type 1} → statement M
-mark-state-spec = tie.close (tie.spec Inv-loop μ-loop team-requires loop-holds is-move-requires mark-move-requires add-m loop-less loop-again same-length returns)
+mark-state-spec = tie.close (tie.spec Inv-loop μ-loop slice-aggregate-replies replies-requires team-requires loop-holds is-move-requires slice-aggregate-mark-move mark-move-requires add-m loop-less loop-again same-length returns)

@@ -6,6 +6,7 @@ use Rattle.block.proofs.Decide as D
 use Rattle.game.specs.Model.{arenaOf}
 use Rattle.solver.specs.Sweeps.{RestsAt}
 use Rattle.solver.proofs.Sweeping.{swept-nothing}
+use Rattle.solver.proofs.Sparing.{unsafe-spares}
 use Rattle.solver.proofs.sweep.settle_safe.Statement.{statement}
 use Rattle.solver.proofs.sweep.settle_safe.Tie as tie
 
@@ -16,8 +17,10 @@ returns : tie.Need-returns
 returns c =
     let args = c .before .before .before .before .args in
     let G = arenaOf (args .block .now) (args .i) in
-    swept-nothing G (args .most) (args .safe) (RestsAt G (args .most) (args .safe) (args .s)) (args .ranks .now)
-    (λ p fits e in-safe. absurd (D.falsity (c .before .has-bit .ensures) (not-true _ (c .if1 .taken)) in-safe))
+    let unsafe = D.falsity (c .before .has-bit .ensures) (not-true _ (c .if1 .taken)) in (
+      swept-nothing G (args .most) (args .safe) (RestsAt G (args .most) (args .safe) (args .s)) (args .ranks .now) (λ p fits e in-safe. absurd (unsafe in-safe)),
+      unsafe-spares (args .block .now) (args .i) (args .most) (args .safe) (args .s) (args .ranks .now) unsafe,
+    )
 
 settle-state-requires : tie.Need-settle-state-requires
 settle-state-requires c κs =

@@ -17,6 +17,7 @@ use Rattle.solver.specs.Values.{Valued}
 use Rattle.solver.proofs.Placing.{stocks-below}
 use Rattle.solver.proofs.Valuing.{gathered-valued}
 use Rattle.solver.proofs.Lowering.{state-swept}
+use Rattle.solver.proofs.Sparing.{state-spares}
 use Rattle.solver.proofs.sweep.settle_state.Statement.{statement}
 use Rattle.solver.proofs.sweep.settle_state.Tie as tie
 
@@ -77,9 +78,12 @@ returns c =
     let values = found .last .1 .1 .1 .1 .1 .1 .0 in
     let valued : (x : ℕ) (p : Position) → PlacedAt G (args .s) x p → Valued G (args .most) (rankIn (args .ranks .now)) p (getD values x 0) =
     λ x p placed. gathered-valued G (valid-proper b (start .pre .0)) (rankIn (args .ranks .now)) (args .s) x (args .most) (replicate 256 (c .before .before .before .before .before .before .before .before .before .start-value .result)) values
-    (getD-replicate 256 x (c .before .before .before .before .before .before .before .before .before .start-value .result) 0 (omega (arith, few start, stocks-below G p (placed .fits), placed .place)) ∙ c .before .before .before .before .before .before .before .before .before .start-value .ensures .0) (found .ensures) p placed in
-    state-swept G (valid-proper b (start .pre .0)) (args .most) (args .safe) (args .s) (args .s * args .c) (start .pre .1 .0 .2) (start .pre .1 .1 .2) (ap (λ (k : ℕ). args .s * k) (start .pre .1 .1 .0))
-    values (args .ranks .now) valued (args .c) (start .pre .1 .1 .0) (lowered .result) (lowered .last .0) (lowered .ensures .0) (lowered .ensures .1)
+    (getD-replicate 256 x (c .before .before .before .before .before .before .before .before .before .start-value .result) 0 (omega (arith, few start, stocks-below G p (placed .fits), placed .place)) ∙ c .before .before .before .before .before .before .before .before .before .start-value .ensures .0) (found .ensures) p placed in (
+      state-swept G (valid-proper b (start .pre .0)) (args .most) (args .safe) (args .s) (args .s * args .c) (start .pre .1 .0 .2) (start .pre .1 .1 .2) (ap (λ (k : ℕ). args .s * k) (start .pre .1 .1 .0))
+          values (args .ranks .now) valued (args .c) (start .pre .1 .1 .0) (lowered .result) (lowered .last .0) (lowered .ensures .0) (lowered .ensures .1),
+      state-spares b (start .pre .0) (args .i) (args .most) (args .safe) (args .s) (args .s * args .c) (start .pre .1 .0 .2) (ap (λ (k : ℕ). args .s * k) (start .pre .1 .1 .0))
+          values (args .ranks .now) valued (args .c) (start .pre .1 .1 .0) (lowered .result) (lowered .last .0) (lowered .ensures .0),
+    )
 
 pub settle-state-spec : {M : Type 1} → statement M
 settle-state-spec = tie.close (tie.spec start-value-requires slice-aggregate-gather-all gather-all-requires mul-lower-all slice-aggregate-lower-all lower-all-requires same-length returns)

@@ -1,4 +1,4 @@
--- `sweep` goes over the states one after another. Assumes nothing.
+-- `sweep` goes over the states one after another, in either order. Assumes nothing.
 use mathlib.Core.Bool.{Bool, true, cond}
 use mathlib.Core.Logic.{⊎-elim}
 use mathlib.Core.Path.{_≡_, refl, sym, _∙_, ap, subst}
@@ -7,63 +7,85 @@ use native.Mathlib.Omega.{arith}
 use lib.ListN.{length}
 use Rattle.block.specs.Layout as L
 use Rattle.game.specs.Model.{arenaOf}
-use Rattle.solver.specs.Sweeps.{RestsBelow, Swept}
-use Rattle.solver.proofs.Sweeping.{swept-nothing, swept-next}
+use Rattle.solver.specs.Sweeps.{RestsAt, RestsBelow, visit, Swept}
+use Rattle.solver.specs.Marks.{Unmarked}
+use Rattle.solver.proofs.Sweeping.{RestsFirst, visits, swept-nothing, swept-next, swept-all}
 use Rattle.solver.proofs.sweep.sweep.Statement.{statement}
 use Rattle.solver.proofs.sweep.sweep.Tie as tie
 
 abbrev Inv-loop : tie.InvT-loop
-Inv-loop block i c safe most ranks₀ n did₀ s₀ ranks did s = (s ≤ n) × Swept (arenaOf block i) most safe (RestsBelow (arenaOf block i) most safe s) did ranks₀ ranks
+Inv-loop block i c safe most back marks₀ ranks₀ n did₀ k₀ marks ranks did k = (k ≤ n) × Swept (arenaOf block i) most safe (RestsFirst (arenaOf block i) most safe (visit back n) k) did ranks₀ ranks × Unmarked (arenaOf block i) most safe marks ranks × (length marks ≡ length marks₀)
 
 abbrev μ-loop : tie.MeasureT-loop
-μ-loop block i c safe most ranks₀ n did₀ s₀ ranks did s = n - s
+μ-loop block i c safe most back marks₀ ranks₀ n did₀ k₀ marks ranks did k = n - k
 
 states-requires : tie.Need-states-requires Inv-loop μ-loop
-states-requires c κs = omega (arith, c .before .before .pre .0 .sized .bytes)
+states-requires c κs = omega (arith, c .before .before .before .pre .0 .sized .bytes)
 
 loop-holds : tie.Need-loop-holds Inv-loop μ-loop
 loop-holds c =
-    let args = c .before .before .before .args in
+    let args = c .before .before .before .before .args in
     let G = arenaOf (args .block .now) (args .i) in
-    (omega arith, swept-nothing G (args .most) (args .safe) (RestsBelow G (args .most) (args .safe) 0) (args .ranks .now) (λ s l. absurd (omega arith)))
+    (omega arith, swept-nothing G (args .most) (args .safe) (RestsFirst G (args .most) (args .safe) (visit (args .back) (c .states .result)) 0) (args .ranks .now) (λ j l. absurd (omega arith)), c .before .before .before .before .pre .1 .1 .1, refl)
 
-settle-safe-requires : tie.Need-settle-safe-requires Inv-loop μ-loop
-settle-safe-requires c κs =
-    let pre = c .before .before .before .before .before .before .pre in
-    (pre .0, ((pre .1 .0 .0, pre .1 .0 .1, omega (arith, c .before .loop-test .taken, c .before .before .before .states .ensures)), (pre .1 .1 .0, omega (arith, pre .1 .1 .1, c .before .before .loop .inv .1 .long))))
+visited-requires : tie.Need-visited-requires Inv-loop μ-loop
+visited-requires c κs = c .loop-test .taken
 
-add-s : tie.Need-add-s Inv-loop μ-loop
-add-s c = omega arith
+settle-marked-requires : tie.Need-settle-marked-requires Inv-loop μ-loop
+settle-marked-requires c κs =
+    let start = c .before .before .before .before .before .before .before .before .before in
+    let pre = start .pre in
+    let states = c .before .before .before .before .before .states in
+    let at = c .before .before .before .before .loop in
+    let inside = visits (start .args .back) (states .result) (c .before .before .before .before .loop .k) (c .before .before .before .loop-test .taken) .0 in
+    (pre .0, ((pre .1 .0 .0, pre .1 .0 .1, omega (arith, inside, c .before .before .visited .ensures, states .ensures)), ((pre .1 .1 .0 .0, omega (arith, pre .1 .1 .0 .1, at .inv .1 .long), omega (arith, pre .1 .1 .0 .2, at .inv .3)), at .inv .2)))
+
+add-k : tie.Need-add-k Inv-loop μ-loop
+add-k c = omega arith
 
 loop-less : tie.Need-loop-less Inv-loop μ-loop
 loop-less c = omega arith
 
 loop-again : tie.Need-loop-again Inv-loop μ-loop
 loop-again c =
-    let args = c .before .before .before .before .before .before .before .before .before .before .args in
+    let args = c .before .before .before .before .before .before .before .before .before .before .before .before .before .before .before .args in
     let G = arenaOf (args .block .now) (args .i) in
-    let at = c .before .before .before .before .before .before .loop in
-    let step = c .before .before .before .settle-safe in
+    let at = c .before .before .before .before .before .before .before .before .before .before .loop in
+    let step = c .before .before .before .before .before .settle-marked in
+    let order = visit (args .back) (c .before .before .before .before .before .before .before .before .before .before .before .states .result) in
+    let last = step .last .1 .1 .1 .1 .1 .1 .1 .0 in
     let any : c .if1 .did ≡ cond (step .result) true (at .did) =
     ⊎-elim
     (λ w. w .1 ∙ sym (ap (λ (t : Bool). cond t true (at .did)) (w .0 .taken)))
     (λ w. w .1 ∙ sym (ap (λ (t : Bool). cond t true (at .did)) (w .0 .left)))
-    (c .if1 .came) in (
-      omega (arith, at .inv .0, c .before .before .before .before .before .loop-test .taken),
-      subst (λ (t : Bool). Swept G (args .most) (args .safe) (RestsBelow G (args .most) (args .safe) (at .s + 1)) t (args .ranks .now) (step .last .1 .1 .1 .1 .1 .1 .0)) (sym any)
-          (swept-next G (args .most) (args .safe) (at .s) (at .inv .1) (step .ensures)),
+    (c .if1 .came) in
+    let one = subst (λ (s : ℕ). Swept G (args .most) (args .safe) (RestsAt G (args .most) (args .safe) s) (step .result) (at .ranks) last) (c .before .before .before .before .before .before .before .before .visited .ensures) (step .ensures .0) in (
+      omega (arith, at .inv .0, c .before .before .before .before .before .before .before .before .before .loop-test .taken),
+      subst (λ (t : Bool). Swept G (args .most) (args .safe) (RestsFirst G (args .most) (args .safe) order (at .k + 1)) t (args .ranks .now) last) (sym any)
+          (swept-next G (args .most) (args .safe) order (at .k) (at .inv .1) one),
+      step .ensures .1 .0,
+      step .ensures .1 .1 ∙ at .inv .3,
     )
 
 same-length : tie.Need-same-length Inv-loop μ-loop
-same-length c = c .before .loop .inv .1 .long
+same-length c = c .before .loop .inv .3
+
+same-length-2 : tie.Need-same-length-2 Inv-loop μ-loop
+same-length-2 c = c .before .loop .inv .1 .long
 
 returns : tie.Need-returns Inv-loop μ-loop
 returns c =
-    let args = c .before .before .before .before .before .args in
+    let args = c .before .before .before .before .before .before .args in
     let G = arenaOf (args .block .now) (args .i) in
     let at = c .before .loop in
-    let all : at .s ≡ L.states (args .block .now) = omega (arith, at .inv .0, c .loop-test .left, c .before .before .states .ensures) in
-    subst (λ (s : ℕ). Swept G (args .most) (args .safe) (RestsBelow G (args .most) (args .safe) s) (at .did) (args .ranks .now) (at .ranks)) all (at .inv .1)
+    let states = c .before .before .states in
+    let order = visit (args .back) (states .result) in
+    let all : at .k ≡ states .result = omega (arith, at .inv .0, c .loop-test .left) in (
+      subst (λ (n : ℕ). Swept G (args .most) (args .safe) (RestsBelow G (args .most) (args .safe) n) (at .did) (args .ranks .now) (at .ranks)) (states .ensures)
+          (swept-all G (args .most) (args .safe) order order (states .result) (visits (args .back) (states .result))
+          (subst (λ (k : ℕ). Swept G (args .most) (args .safe) (RestsFirst G (args .most) (args .safe) order k) (at .did) (args .ranks .now) (at .ranks)) all (at .inv .1))),
+      (at .inv .2, at .inv .3),
+    )
 
 pub sweep-spec : {M : Type 1} → statement M
-sweep-spec = tie.close (tie.spec Inv-loop μ-loop states-requires loop-holds settle-safe-requires add-s loop-less loop-again same-length returns)
+sweep-spec = tie.close (tie.spec Inv-loop μ-loop states-requires loop-holds visited-requires settle-marked-requires add-k loop-less loop-again same-length same-length-2 returns)
