@@ -132,6 +132,24 @@ int32_t rbatl_label(const uint8_t *block, size_t block_len, uint8_t *sets, size_
 int32_t rbatl_table(const uint8_t *block, size_t block_len, uint8_t row, uint8_t *ranks,
                     size_t ranks_len, uint8_t *moves, size_t moves_len);
 
+/* The coalition's move of a row at a position, a state with its stocks: the
+ * move of the row's table. A move has the number a0 + 4 * a1 + 16 * a2 of its
+ * agents' actions, with 0 for agents outside the coalition. A stock is 0 where
+ * its resource is unlimited or absent. The room is RBATL_ROOM_BYTES of working
+ * room, whatever they hold, and holds zeros afterwards. -RBATL_LENGTH for a
+ * block or a room of any other length, and then nothing changes; else what
+ * rbatl_check answers on the block; else the first of -RBATL_ROW_CHOICE,
+ * -RBATL_POSITION and -RBATL_WRONG_SIDE that applies. */
+int32_t rbatl_move(const uint8_t *block, size_t block_len, uint8_t row, uint8_t state,
+                   uint8_t stock0, uint8_t stock1, uint8_t *room, size_t room_len);
+
+/* The reply of all other agents to the coalition's move at a position where the
+ * coalition does not win: against these replies no strategy within the stock
+ * makes the row true. A reply has 0 for the coalition's agents. Otherwise as
+ * rbatl_move, with -RBATL_MOVE last of the refusals. */
+int32_t rbatl_reply(const uint8_t *block, size_t block_len, uint8_t row, uint8_t state,
+                    uint8_t stock0, uint8_t stock1, uint8_t move, uint8_t *room, size_t room_len);
+
 /* Lists the states in which a row, of any kind, is true: their count, and the
  * list of RBATL_STATES_BYTES holds them in rising order and zeros after them.
  * The room is RBATL_ROOM_BYTES of working room, whatever they hold, and holds

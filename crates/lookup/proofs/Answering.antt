@@ -86,11 +86,11 @@ module _ (b : Block) (valid : Valid b) (i : ℕ) (inside : i < L.rows b) (strate
       told-claim : Claims (arenaOf b i) ready-table told p
       told-claim = transport (claims-by b i left right ready-table p) claim
 
-      team : (m : ℕ) → m ≡ moveAt (arenaOf b i) ready-table p → TeamMove b i p m
-      team m e = record { table = ready-table; decided = ready-decided; wins = claimed-wins claim; move = e }
+      team : (m : ℕ) → m < 64 → m ≡ moveAt (arenaOf b i) ready-table p → TeamMove b i p m
+      team m small e = record { table = ready-table; decided = ready-decided; wins = claimed-wins claim; move = e; small = small }
 
       pub team-met : L.kind b i ≡ 5 → rankIn ranks (number (arenaOf b i) p) ≡ 0 → TeamMove b i p 0
-      team-met kind zero = team 0 (sym (ready-facts .moves p fits .met told-claim (by-met b i left right ready-table p kind zero)))
+      team-met kind zero = team 0 (omega arith) (sym (ready-facts .moves p fits .met told-claim (by-met b i left right ready-table p kind zero)))
 
       good : (m : ℕ) → GoodBy b i left (rankIn ranks (number (arenaOf b i) p)) ranks p m → Good (arenaOf b i) ready-table told p m
       good m (allowed, each) = (allowed, λ r reply. transport (aim-by b i left right ready-table p (outcome (arenaOf b i) p m r)) (each r reply))
@@ -100,7 +100,7 @@ module _ (b : Block) (valid : Valid b) (i : ℕ) (inside : i < L.rows b) (strate
 
       pub team-found : (L.kind b i ≡ 5 → rankIn ranks (number (arenaOf b i) p) ≡ 0 → ⊥) → (m : ℕ) → FoundBelow (GoodBy b i left (rankIn ranks (number (arenaOf b i) p)) ranks p) m → TeamMove b i p m
       team-found unmet m found = ⊎-elim
-          (λ (small, least). team m (smallest-unique (GoodBy b i left (rankIn ranks (number (arenaOf b i) p)) ranks p) (Good (arenaOf b i) ready-table told p) good by-good m (moveAt (arenaOf b i) ready-table p) least
+          (λ (small, least). team m small (smallest-unique (GoodBy b i left (rankIn ranks (number (arenaOf b i) p)) ranks p) (Good (arenaOf b i) ready-table told p) good by-good m (moveAt (arenaOf b i) ready-table p) least
           (ready-facts .moves p fits .best told-claim not-met)))
           (λ (_, none).
           let (k, h) = good-exists (arenaOf b i) ready-table told (ready .ranks-of .facts) p fits told-claim not-met in

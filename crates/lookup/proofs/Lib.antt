@@ -3,5 +3,7 @@ pub mod Aiming
 pub mod Searching
 pub mod Answering
 pub mod Refusing
+pub mod Replying
+pub mod Playing
 pub mod Listing
 pub mod Calls

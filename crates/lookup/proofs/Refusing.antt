@@ -12,13 +12,14 @@ use Rattle.block.specs.Refusal.{numberOf, First, none, here, later}
 use Rattle.block.specs.Check.{Broken, Verdict, blockOrder}
 use Rattle.block.specs.declared.refusal.Refusal.{Refusal}
 use Rattle.block.specs.declared.refusal.Refusal.the-variants as refusal
-use Rattle.block.proofs.Refusals.{first-same-in, block-numbers, first-before, first-after, not-first, number-some}
-use Rattle.game.specs.Position.{places, position, IsPosition}
-use Rattle.game.specs.Model.{boundsOf, arenaOf}
+use Rattle.block.proofs.Refusals.{Each, first-same-in, block-numbers, first-before, first-after, not-first, number-some}
+use Rattle.game.specs.Position.{places, position, IsPosition, Allowed}
+use Rattle.game.specs.Play.{CoalitionWins, OpponentsWin}
+use Rattle.game.specs.Model.{boundsOf, arenaOf, objectiveOf}
 use Rattle.game.proofs.Numbers.Decide.{lt?}
-use Rattle.solver.specs.Calls.{roomBytes, RoomAfter, NoChoice}
+use Rattle.solver.specs.Calls.{roomBytes, NoChoice}
 use Rattle.lookup.specs.Aims.{NoPosition}
-use Rattle.lookup.specs.Calls.{answerNumber, TeamMove, TeamAnswer, Unplaced, Unmoved, moveOrder, Found, MoveFound, MoveCall}
+use Rattle.lookup.specs.Calls.{TeamMove, OthersReply, TeamAnswer, OthersAnswer, Unplaced, Found, MoveFound, ReplyFound, Call}
 use Rattle.lookup.specs.declared.answer.Answer.{Answer}
 use Rattle.lookup.specs.declared.answer.Answer.the-variants as answer
 
@@ -81,58 +82,102 @@ module _ (b : Block) (i s : ℕ) (stocks room : List ℕ) where
         go (inr (inr (inl (e, _)))) = absurd (omega arith)
         go (inr (inr (inr (e, _)))) = absurd (omega arith)
 
-    -- the team's move
-    move-verdict : {n : ℕ} → Verdict b n → First (Unmoved b i s stocks room) blockOrder n
-    move-verdict v = first-same-in (λ r. numberOf r < 8) blockOrder block-numbers (λ r _ h. inl (inl h)) (λ r small. ⊎-elim (early r small) (λ (e, _). absurd (omega (arith, ap numberOf e)))) v
+-- a call refuses by these conditions and late ones, whose numbers are above 9
+module _ (b : Block) (i s : ℕ) (stocks room : List ℕ) (Late : Refusal → Type 0) (late : (r : Refusal) → Late r → 9 < numberOf r) (tail : List Refusal) (right : ℕ → Type 0) where
+  abbrev Refuses : Refusal → Type 0
+  Refuses r = Unplaced b i s stocks room r ⊎ Late r
 
-    pub move-refused : (r : Refusal) → Verdict b (numberOf r) → MoveFound b i s stocks room (answer.Refused r)
-    move-refused r v = record { number = first-before (refusal.RowChoice ∷ refusal.Position ∷ refusal.WrongSide ∷ []) (move-verdict v) (λ e. omega (arith, number-some r)); value = tt }
+  abbrev order : List Refusal
+  order = blockOrder ++ (refusal.RowChoice ∷ refusal.Position ∷ tail)
+
+  module _ (room-long : length room ≡ roomBytes) where
+    verdict : {n : ℕ} → Verdict b n → First Refuses blockOrder n
+    verdict v = first-same-in (λ r. numberOf r < 8) blockOrder block-numbers (λ r _ h. inl (inl h)) (λ r small. ⊎-elim (early b i s stocks room room-long r small) (λ h. absurd (omega (arith, late r h)))) v
+
+    pub refused : (r : Refusal) → Verdict b (numberOf r) → Found Refuses order right (answer.Refused r)
+    refused r v = record { number = first-before (refusal.RowChoice ∷ refusal.Position ∷ tail) (verdict v) (λ e. omega (arith, number-some r)); value = tt }
 
     module _ (passed : Verdict b 0) where
-      pub move-no-choice : NoChoice b i → MoveFound b i s stocks room (answer.Refused refusal.RowChoice)
-      move-no-choice h = record { number = first-after refl (move-verdict passed) (here (inl (inr (inr (inl (refl, h))))) refl); value = tt }
+      pub no-choice : NoChoice b i → Found Refuses order right (answer.Refused refusal.RowChoice)
+      no-choice h = record { number = first-after refl (verdict passed) (here (inl (inr (inr (inl (refl, h))))) refl); value = tt }
 
       module _ (chosen : NoChoice b i → ⊥) where
-        at-choice : Unmoved b i s stocks room refusal.RowChoice → ⊥
-        at-choice = ⊎-elim (choice-only chosen) (λ (e, _). absurd (omega (arith, ap numberOf e)))
+        at-choice : Refuses refusal.RowChoice → ⊥
+        at-choice = ⊎-elim (choice-only b i s stocks room room-long chosen) (λ h. omega (arith, late refusal.RowChoice h))
 
-        pub move-no-position : NoPosition b i s stocks → MoveFound b i s stocks room (answer.Refused refusal.Position)
-        move-no-position h = record { number = first-after refl (move-verdict passed) (later at-choice (here (inl (inr (inr (inr (refl, h))))) refl)); value = tt }
+        pub no-position : NoPosition b i s stocks → Found Refuses order right (answer.Refused refusal.Position)
+        no-position h = record { number = first-after refl (verdict passed) (later at-choice (here (inl (inr (inr (inr (refl, h))))) refl)); value = tt }
 
-        pub move-answered : (NoPosition b i s stocks → ⊥) → (a : Answer) → TeamAnswer b i (position s stocks) a → MoveFound b i s stocks room a
-        move-answered fits (answer.Value m) found = record {
-          number = first-after refl (move-verdict passed) (later at-choice (later at-position (later (⊎-elim (never-late refusal.WrongSide (λ h. h) (omega arith)) (λ (_, loses). loses (found .wins))) (none refl))));
-          value = found;
-        }
-          where
-            at-position : Unmoved b i s stocks room refusal.Position → ⊥
-            at-position = ⊎-elim (position-only fits) (λ (e, _). absurd (omega (arith, ap numberOf e)))
-        move-answered fits (answer.Refused r) (e, loses) = record {
-          number = first-after refl (move-verdict passed) (later at-choice (later at-position (here (inr (refl, loses)) (ap numberOf e))));
-          value = tt;
-        }
-          where
-            at-position : Unmoved b i s stocks room refusal.Position → ⊥
-            at-position = ⊎-elim (position-only fits) (λ (e, _). absurd (omega (arith, ap numberOf e)))
+        -- the late conditions decide
+        pub decided-late : (NoPosition b i s stocks → ⊥) → {n : ℕ} → First Refuses tail n → First Refuses order n
+        decided-late fits w = first-after refl (verdict passed) (later at-choice (later (⊎-elim (position-only b i s stocks room room-long fits) (λ h. omega (arith, late refusal.Position h))) w))
 
--- the call: another length leaves the room, and any other answer clears it
-module _ (b : Block) (i s : ℕ) (stocks room : List ℕ) where
-  pub move-length : ((length b ≡ L.blockBytes → ⊥) ⊎ (length room ≡ roomBytes → ⊥)) → MoveCall b i s stocks room room (answer.Refused refusal.Length)
-  move-length wrong = record {
+    -- any answer but 1 clears the room
+    pub clears : length b ≡ L.blockBytes → Each (λ r. 1 < numberOf r) tail → (room′ : List ℕ) (a : Answer) → Found Refuses order right a → room′ ≡ replicate roomBytes 0 → Call Refuses order right room room′ a
+    clears block-long larger room′ a found zeros = record {
+      found = found;
+      room-after = record {
+        left = λ one. absurd (not-first
+            (refusal.Sizes ∷ refusal.State ∷ refusal.Next ∷ refusal.Row ∷ refusal.Unused ∷ refusal.RowChoice ∷ refusal.Position ∷ tail)
+            (omega arith, (omega arith, (omega arith, (omega arith, (omega arith, (omega arith, (omega arith, larger)))))))
+            (⊎-elim (λ h. early b i s stocks room room-long refusal.Length (omega arith) h block-long) (λ h. omega (arith, late refusal.Length h)))
+            (found .number) one);
+        cleared = λ _. zeros;
+      };
+    }
+
+  -- another length leaves it
+  pub another-length : ((length b ≡ L.blockBytes → ⊥) ⊎ (length room ≡ roomBytes → ⊥)) → Call Refuses order right room room (answer.Refused refusal.Length)
+  another-length wrong = record {
     found = record { number = here (inl (⊎-elim inl (λ h. inr (inl (refl, h))) wrong)) refl; value = tt };
     room-after = record { left = λ _. refl; cleared = λ other. absurd (other refl) };
   }
 
-  module _ (block-long : length b ≡ L.blockBytes) (room-long : length room ≡ roomBytes) where
-    pub move-cleared : (room′ : List ℕ) (a : Answer) → MoveFound b i s stocks room a → room′ ≡ replicate roomBytes 0 → MoveCall b i s stocks room room′ a
-    move-cleared room′ a found zeros = record {
-      found = found;
-      room-after = record {
-        left = λ one. absurd (not-first
-            (refusal.Sizes ∷ refusal.State ∷ refusal.Next ∷ refusal.Row ∷ refusal.Unused ∷ refusal.RowChoice ∷ refusal.Position ∷ refusal.WrongSide ∷ [])
-            (omega arith, (omega arith, (omega arith, (omega arith, (omega arith, (omega arith, (omega arith, (omega arith, tt))))))))
-            (⊎-elim (λ h. early b i s stocks room room-long refusal.Length (omega arith) h block-long) (λ (e, _). omega (arith, ap numberOf e)))
-            (found .number) one);
-        cleared = λ _. zeros;
-      };
+-- the late conditions of the two calls
+module _ (b : Block) (i s : ℕ) (stocks : List ℕ) where
+  abbrev pub LateMove : Refusal → Type 0
+  LateMove r = (r ≡ refusal.WrongSide) × (CoalitionWins (arenaOf b i) (objectiveOf b i) (position s stocks) → ⊥)
+
+  pub late-move : (r : Refusal) → LateMove r → 9 < numberOf r
+  late-move r (e, _) = omega (arith, ap numberOf e)
+
+  abbrev pub LateReply : ℕ → Refusal → Type 0
+  LateReply m r = ((r ≡ refusal.WrongSide) × CoalitionWins (arenaOf b i) (objectiveOf b i) (position s stocks)) ⊎ ((r ≡ refusal.Move) × (Allowed (arenaOf b i) (position s stocks) m → ⊥))
+
+  pub late-reply : (m : ℕ) (r : Refusal) → LateReply m r → 9 < numberOf r
+  late-reply m r (inl (e, _)) = omega (arith, ap numberOf e)
+  late-reply m r (inr (e, _)) = omega (arith, ap numberOf e)
+
+  module _ (room : List ℕ) (room-long : length room ≡ roomBytes) (passed : Verdict b 0) (chosen : NoChoice b i → ⊥) (fits : NoPosition b i s stocks → ⊥) where
+    -- by itself a late refusal is none of the earlier conditions
+    only-late : (r : Refusal) (Late : Refusal → Type 0) → (Broken b r → ⊥) → 9 < numberOf r → (Late r → ⊥) → Unplaced b i s stocks room r ⊎ Late r → ⊥
+    only-late r Late whole large fails = ⊎-elim (never-late b i s stocks room room-long r whole large) fails
+
+    pub move-answered : (a : Answer) → TeamAnswer b i (position s stocks) a → MoveFound b i s stocks room a
+    move-answered (answer.Value m) found = record {
+      number = decided-late b i s stocks room LateMove late-move (refusal.WrongSide ∷ []) (TeamMove b i (position s stocks)) room-long passed chosen fits
+          (later (only-late refusal.WrongSide LateMove (λ h. h) (omega arith) (λ (_, loses). loses (found .wins))) (none refl));
+      value = found;
+    }
+    move-answered (answer.Refused r) (e, loses) = record {
+      number = decided-late b i s stocks room LateMove late-move (refusal.WrongSide ∷ []) (TeamMove b i (position s stocks)) room-long passed chosen fits (here (inr (refl, loses)) (ap numberOf e));
+      value = tt;
+    }
+
+    pub reply-answered : (m : ℕ) → (OpponentsWin (arenaOf b i) (objectiveOf b i) (position s stocks) → CoalitionWins (arenaOf b i) (objectiveOf b i) (position s stocks) → ⊥)
+        → (a : Answer) → OthersAnswer b i (position s stocks) m a → ReplyFound b i s stocks m room a
+    reply-answered m not-both (answer.Value r) (found, allowed) = record {
+      number = decided-late b i s stocks room (LateReply m) (late-reply m) (refusal.WrongSide ∷ refusal.Move ∷ []) (OthersReply b i (position s stocks) m) room-long passed chosen fits
+          (later (only-late refusal.WrongSide (LateReply m) (λ h. h) (omega arith) (⊎-elim (λ (_, wins). not-both (found .loses) wins) (λ (e, _). omega (arith, ap numberOf e))))
+          (later (only-late refusal.Move (LateReply m) (λ h. h) (omega arith) (⊎-elim (λ (e, _). omega (arith, ap numberOf e)) (λ (_, fails). fails allowed))) (none refl)));
+      value = found;
+    }
+    reply-answered m not-both (answer.Refused r) (inl (e, wins)) = record {
+      number = decided-late b i s stocks room (LateReply m) (late-reply m) (refusal.WrongSide ∷ refusal.Move ∷ []) (OthersReply b i (position s stocks) m) room-long passed chosen fits (here (inr (inl (refl, wins))) (ap numberOf e));
+      value = tt;
+    }
+    reply-answered m not-both (answer.Refused r) (inr (e, (loses, fails))) = record {
+      number = decided-late b i s stocks room (LateReply m) (late-reply m) (refusal.WrongSide ∷ refusal.Move ∷ []) (OthersReply b i (position s stocks) m) room-long passed chosen fits
+          (later (only-late refusal.WrongSide (LateReply m) (λ h. h) (omega arith) (⊎-elim (λ (_, wins). loses wins) (λ (e, _). omega (arith, ap numberOf e)))) (here (inr (inr (refl, fails))) (ap numberOf e)));
+      value = tt;
     }

@@ -25,6 +25,10 @@ AimBy k left own q rank = cond (eqb k L.nextKind) (Bit left q) (cond (eqb k L.al
 abbrev pub CounterBy : ℕ → ℕ → ℕ → ℕ → ℕ → Type 0
 CounterBy k left own q rank = cond (eqb k L.nextKind) (Bit left q → ⊥) (cond (eqb k L.alwaysKind) (rank < own) (rank < never → ⊥))
 
+-- the row has failed already in state q, at a position of rank own: there the reply is 0
+abbrev pub FailedBy : ℕ → ℕ → ℕ → ℕ → ℕ → Type 0
+FailedBy k left right own q = cond (eqb k L.nextKind) ⊥ (cond (eqb k L.alwaysKind) (own ≡ 0) ((Bit left q → ⊥) × (Bit right q → ⊥)))
+
 -- of the coalition, or of its opponents
 abbrev pub SideBy : Bool → ℕ → ℕ → ℕ → ℕ → ℕ → Type 0
 SideBy true = AimBy

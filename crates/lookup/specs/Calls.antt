@@ -4,6 +4,7 @@ use mathlib.Core.Logic.{_⊎_}
 use mathlib.Core.Path.{_≡_}
 use Prim.Native.Nat.{ℕ, _<_}
 use lib.ListN.{length}
+use Rattle.block.specs.Layout as L
 use Rattle.block.specs.Layout.{Block}
 use Rattle.block.specs.Refusal.{numberOf, First}
 use Rattle.block.specs.Check.{Broken, blockOrder}
@@ -33,6 +34,7 @@ pub record TeamMove (b : Block) (i : ℕ) (p : Position) (m : ℕ) : Type 0 wher
   pub decided : TableOf b i table
   pub wins : CoalitionWins (arenaOf b i) (objectiveOf b i) p
   pub move : m ≡ moveAt (arenaOf b i) table p
+  pub small : m < L.maxJoint
 
 -- r is the reply at p to the move m, where the others win
 pub record OthersReply (b : Block) (i : ℕ) (p : Position) (m r : ℕ) : Type 0 where
@@ -40,6 +42,7 @@ pub record OthersReply (b : Block) (i : ℕ) (p : Position) (m r : ℕ) : Type 0
   pub decided : TableOf b i table
   pub loses : OpponentsWin (arenaOf b i) (objectiveOf b i) p
   pub reply : ReplyIs (arenaOf b i) table (objectiveOf b i) (CoalitionWins (arenaOf b i) (objectiveOf b i)) p m r
+  pub small : r < L.maxJoint
 
 -- the conditions that both calls refuse: those of the block and the room, 8 and 9
 abbrev pub Unplaced : Block → ℕ → ℕ → List ℕ → List ℕ → Refusal → Type 0
@@ -84,15 +87,24 @@ abbrev pub ReplyFound : Block → ℕ → ℕ → List ℕ → ℕ → List ℕ 
 ReplyFound b i s stocks m room = Found (Unanswered b i s stocks m room) replyOrder (OthersReply b i (position s stocks) m)
 
 -- and the room, before and after the call
-pub record MoveCall (b : Block) (i s : ℕ) (stocks room room′ : List ℕ) (a : Answer) : Type 0 where
-  pub found : MoveFound b i s stocks room a
+pub record Call (Refuses : Refusal → Type 0) (order : List Refusal) (right : ℕ → Type 0) (room room′ : List ℕ) (a : Answer) : Type 0 where
+  pub found : Found Refuses order right a
   pub room-after : RoomAfter room room′ (answerNumber a)
 
-pub record ReplyCall (b : Block) (i s : ℕ) (stocks : List ℕ) (m : ℕ) (room room′ : List ℕ) (a : Answer) : Type 0 where
-  pub found : ReplyFound b i s stocks m room a
-  pub room-after : RoomAfter room room′ (answerNumber a)
+abbrev pub MoveCall : Block → ℕ → ℕ → List ℕ → List ℕ → List ℕ → Answer → Type 0
+MoveCall b i s stocks room = Call (Unmoved b i s stocks room) moveOrder (TeamMove b i (position s stocks)) room
+
+abbrev pub ReplyCall : Block → ℕ → ℕ → List ℕ → ℕ → List ℕ → List ℕ → Answer → Type 0
+ReplyCall b i s stocks m room = Call (Unanswered b i s stocks m room) replyOrder (OthersReply b i (position s stocks) m) room
 
 -- the same of a position that exists in a row that is chosen: 10, or a value
 abbrev pub TeamAnswer : Block → ℕ → Position → Answer → Type 0
 TeamAnswer b i p (answer.Value m) = TeamMove b i p m
 TeamAnswer b i p (answer.Refused r) = (r ≡ refusal.WrongSide) × (CoalitionWins (arenaOf b i) (objectiveOf b i) p → ⊥)
+
+-- 10, 11, or a reply
+abbrev pub OthersAnswer : Block → ℕ → Position → ℕ → Answer → Type 0
+OthersAnswer b i p m (answer.Value r) = OthersReply b i p m r × Allowed (arenaOf b i) p m
+OthersAnswer b i p m (answer.Refused r) =
+    ((r ≡ refusal.WrongSide) × CoalitionWins (arenaOf b i) (objectiveOf b i) p)
+    ⊎ ((r ≡ refusal.Move) × ((CoalitionWins (arenaOf b i) (objectiveOf b i) p → ⊥) × (Allowed (arenaOf b i) p m → ⊥)))

@@ -2,5 +2,6 @@
 pub mod Aims
 pub mod Calls
 pub mod Rows
+pub mod Plays
 pub mod Sets
 pub mod States

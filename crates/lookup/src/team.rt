@@ -19,6 +19,7 @@ ghost use Rattle.block.specs.Valid.{Valid};
 ghost use Rattle.game.specs.Position.{position, IsPosition};
 ghost use Rattle.game.specs.Model.{arenaOf};
 ghost use Rattle.lookup.specs.Calls.{TeamAnswer, MoveFound, MoveCall};
+ghost use Rattle.lookup.specs.Plays.{TeamDemand};
 
 // The team's move at a position of a strategic row.
 pub fn team_at(block: &[u8], i: usize, s: usize, stocks: &[u8], room: &mut [u8]) -> Answer
@@ -72,6 +73,7 @@ pub fn team_move(
     room: &mut [u8],
 ) -> Answer
     ensures { λ a. ⌜ MoveCall (now (block .entry)) i s (stock0 ∷ stock1 ∷ []) (now (room .entry)) (now (room .exit)) a ⌝ }
+    ensures { λ _. ⌜ TeamDemand (now (block .entry)) i ⌝ }
 {
     if block.len() != layout::BLOCK_BYTES {
         return Answer::Refused(Refusal::Length);

@@ -1,2 +1,2 @@
--- The law that the calls with a value rest on.
+-- Laws that belong to no one function.
 pub mod Values

@@ -1,7 +1,7 @@
 -- The number that a C caller is handed back: a value from 0, or minus document 01's number of a refusal.
 use mathlib.Core.List.{List}
 use mathlib.Core.Path.{_≡_}
-use Prim.Native.Nat.{ℕ}
+use Prim.Native.Nat.{ℕ, _<_}
 use lib.IntN.{ℤ, pos, negℤ}
 use Rattle.block.specs.Layout.{Block}
 use Rattle.block.specs.Refusal.{numberOf, answerOf}
@@ -9,6 +9,7 @@ use Rattle.block.specs.Check.{Verdict}
 use Rattle.block.specs.declared.refusal.Checked.{Checked}
 use Rattle.text.specs.Text.{readCall, answerTo}
 use Rattle.solver.specs.Calls.{LabelCall, TableCall}
+use Rattle.lookup.specs.Calls.{MoveCall, ReplyCall}
 use Rattle.lookup.specs.States.{StatesCall}
 use Rattle.lookup.specs.declared.answer.Answer.{Answer}
 use Rattle.lookup.specs.declared.answer.Answer.the-variants as answer
@@ -45,11 +46,23 @@ LabelAnswer b sets room sets′ room′ r = (a : Checked) × LabelCall b sets ro
 abbrev pub TableAnswer : Block → ℕ → List ℕ → List ℕ → List ℕ → List ℕ → ℤ → Type 0
 TableAnswer b i ranks moves ranks′ moves′ r = (a : Checked) × TableCall b i ranks moves ranks′ moves′ a × (r ≡ minus (answerOf a))
 
--- what an answer with a value is handed back as: the value, or minus the number of the refusal
-abbrev pub valueCode : Answer → ℤ
-valueCode (answer.Value n) = pos n
-valueCode (answer.Refused r) = minus (numberOf r)
+-- what a value or a refusal is handed back as
+abbrev pub answerCode : Answer → ℤ
+answerCode (answer.Value n) = pos n
+answerCode (answer.Refused r) = minus (numberOf r)
+
+-- a value is the number of a joint action, or a count of states
+abbrev pub Small : Answer → Type 0
+Small (answer.Value n) = n < 64
+Small (answer.Refused r) = Unit {0}
+
+-- what the team's move and the reply calls promise of their answer and of the room, before and after
+abbrev pub MoveAnswer : Block → ℕ → ℕ → List ℕ → List ℕ → List ℕ → ℤ → Type 0
+MoveAnswer b i s stocks room room′ r = (a : Answer) × MoveCall b i s stocks room room′ a × (r ≡ answerCode a)
+
+abbrev pub ReplyAnswer : Block → ℕ → ℕ → List ℕ → ℕ → List ℕ → List ℕ → ℤ → Type 0
+ReplyAnswer b i s stocks m room room′ r = (a : Answer) × ReplyCall b i s stocks m room room′ a × (r ≡ answerCode a)
 
 -- what the lister promises of its answer, the list and the room, each before and after it
 abbrev pub StatesAnswer : Block → ℕ → List ℕ → List ℕ → List ℕ → List ℕ → ℤ → Type 0
-StatesAnswer b i list room list′ room′ r = (a : Answer) × StatesCall b i list room list′ room′ a × (r ≡ valueCode a)
+StatesAnswer b i list room list′ room′ r = (a : Answer) × StatesCall b i list room list′ room′ a × (r ≡ answerCode a)

@@ -3,10 +3,12 @@ use block::refusal::Checked;
 use block::refusal::Refusal;
 use lookup::answer::Answer;
 use writer::written::Written;
+ghost use mathlib.Core.List.{[], _∷_};
 ghost use mathlib.Core.Path.{_≡_};
 ghost use Rattle.block.specs.Refusal.{numberOf, answerOf};
 ghost use Rattle.text.specs.Text.{readCall, blockAfter, Exact};
-ghost use Rattle.rbatl.specs.Answer.{minus, CheckAnswer, readAnswer, WriteAnswer, LabelAnswer, TableAnswer, StatesAnswer};
+ghost use Rattle.lookup.specs.Plays.{TeamDemand, OthersDemand};
+ghost use Rattle.rbatl.specs.Answer.{minus, CheckAnswer, readAnswer, WriteAnswer, LabelAnswer, TableAnswer, Small, answerCode, MoveAnswer, ReplyAnswer, StatesAnswer};
 
 fn refused(r: Refusal) -> i32
     ensures { λ x. ⌜ x ≡ minus (numberOf r) ⌝ }
@@ -33,6 +35,17 @@ fn answer(c: Checked) -> i32
     match c {
         Checked::Passed => 0,
         Checked::Refused(r) => refused(r),
+    }
+}
+
+// The answer of a call that gives a value.
+fn value(a: Answer) -> i32
+    requires { ⌜ Small a ⌝ }
+    ensures { λ x. ⌜ x ≡ answerCode a ⌝ }
+{
+    match a {
+        Answer::Value(n) => n as i32,
+        Answer::Refused(r) => refused(r),
     }
 }
 
@@ -77,11 +90,47 @@ pub extern "C" fn rbatl_table(block: &[u8], row: u8, ranks: &mut [u8], moves: &m
 }
 
 #[no_mangle]
+pub extern "C" fn rbatl_move(
+    block: &[u8],
+    row: u8,
+    state: u8,
+    stock0: u8,
+    stock1: u8,
+    room: &mut [u8],
+) -> i32
+    ensures { λ r. ⌜ MoveAnswer (now (block .entry)) row state (stock0 ∷ stock1 ∷ []) (now (room .entry)) (now (room .exit)) r ⌝ }
+    ensures { λ _. ⌜ TeamDemand (now (block .entry)) row ⌝ }
+{
+    value(lookup::team::team_move(block, row as usize, state as usize, stock0, stock1, room))
+}
+
+#[no_mangle]
+pub extern "C" fn rbatl_reply(
+    block: &[u8],
+    row: u8,
+    state: u8,
+    stock0: u8,
+    stock1: u8,
+    mv: u8,
+    room: &mut [u8],
+) -> i32
+    ensures { λ r. ⌜ ReplyAnswer (now (block .entry)) row state (stock0 ∷ stock1 ∷ []) mv (now (room .entry)) (now (room .exit)) r ⌝ }
+    ensures { λ _. ⌜ OthersDemand (now (block .entry)) row ⌝ }
+{
+    value(lookup::others::reply(
+        block,
+        row as usize,
+        state as usize,
+        stock0,
+        stock1,
+        mv as usize,
+        room,
+    ))
+}
+
+#[no_mangle]
 pub extern "C" fn rbatl_states(block: &[u8], row: u8, list: &mut [u8], room: &mut [u8]) -> i32
     ensures { λ r. ⌜ StatesAnswer (now (block .entry)) row (now (list .entry)) (now (room .entry)) (now (list .exit)) (now (room .exit)) r ⌝ }
 {
-    match lookup::states::fill_states(block, row as usize, list, room) {
-        Answer::Value(n) => n as i32,
-        Answer::Refused(r) => refused(r),
-    }
+    value(lookup::states::fill_states(block, row as usize, list, room))
 }

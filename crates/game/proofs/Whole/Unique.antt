@@ -56,12 +56,12 @@ module _ (G : Arena) (proper : Proper (G .structure)) (X X′ : Table) (same : (
   met-agree (always left) p fits e = e
   met-agree (next left) p fits e = e
 
-  failed-agree : (t : Objective) (p : Position) → IsPosition G p → Failed G X t p → Failed G X′ t p
+  pub failed-agree : (t : Objective) (p : Position) → IsPosition G p → Failed G X t p → Failed G X′ t p
   failed-agree (until left right) p fits over = over
   failed-agree (always left) p fits e = sym (same p fits) ∙ e
   failed-agree (next left) p fits over = over
 
-  counter-agree : (t : Objective) (Won : Position → Type 0) (p : Position) → IsPosition G p → (m : ℕ) → Allowed G p m → (r : ℕ) → Reply G p r → CounterAim G X t Won p (outcome G p m r) → CounterAim G X′ t Won p (outcome G p m r)
+  pub counter-agree : (t : Objective) (Won : Position → Type 0) (p : Position) → IsPosition G p → (m : ℕ) → Allowed G p m → (r : ℕ) → Reply G p r → CounterAim G X t Won p (outcome G p m r) → CounterAim G X′ t Won p (outcome G p m r)
   counter-agree (until left right) Won p fits m a r reply h = h
   counter-agree (always left) Won p fits m a r reply h = omega (arith, same p fits, same (outcome G p m r) (outcome-fits G proper p m r fits (a .0) reply), h)
   counter-agree (next left) Won p fits m a r reply h = h

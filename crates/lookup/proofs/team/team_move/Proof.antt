@@ -6,15 +6,19 @@ use Prim.Native.Nat.{ℕ, _≤_, _<_}
 use native.Mathlib.Omega.{arith}
 use borrow.Author.Needs.{needs}
 use Rattle.solver.proofs.Calls.{cleared}
-use Rattle.lookup.proofs.Refusing.{move-length, move-cleared}
+use Rattle.block.specs.declared.refusal.Refusal.the-variants as refusal
+use Rattle.game.specs.Position.{position}
+use Rattle.lookup.specs.Calls.{TeamMove}
+use Rattle.lookup.proofs.Playing.{team-demand}
+use Rattle.lookup.proofs.Refusing.{clears, another-length, LateMove, late-move}
 use Rattle.lookup.proofs.team.team_move.Statement.{statement}
 use Rattle.lookup.proofs.team.team_move.Tie as tie
 
 returns : tie.Need-returns
-returns c = let args = c .before .before .before .args in move-length (args .block .now) (args .i) (args .s) (args .stock0 ∷ args .stock1 ∷ []) (args .room .now) (inl (c .if1 .taken))
+returns c = let args = c .before .before .before .args in (another-length (args .block .now) (args .i) (args .s) (args .stock0 ∷ args .stock1 ∷ []) (args .room .now) (LateMove (args .block .now) (args .i) (args .s) (args .stock0 ∷ args .stock1 ∷ [])) (late-move (args .block .now) (args .i) (args .s) (args .stock0 ∷ args .stock1 ∷ [])) (refusal.WrongSide ∷ []) (TeamMove (args .block .now) (args .i) (position (args .s) (args .stock0 ∷ args .stock1 ∷ []))) (inl (c .if1 .taken)), team-demand (args .block .now) (args .i))
 
 returns-2 : tie.Need-returns-2
-returns-2 c = let args = c .before .before .before .before .args in move-length (args .block .now) (args .i) (args .s) (args .stock0 ∷ args .stock1 ∷ []) (args .room .now) (inr (c .if2 .taken))
+returns-2 c = let args = c .before .before .before .before .args in (another-length (args .block .now) (args .i) (args .s) (args .stock0 ∷ args .stock1 ∷ []) (args .room .now) (LateMove (args .block .now) (args .i) (args .s) (args .stock0 ∷ args .stock1 ∷ [])) (late-move (args .block .now) (args .i) (args .s) (args .stock0 ∷ args .stock1 ∷ [])) (refusal.WrongSide ∷ []) (TeamMove (args .block .now) (args .i) (position (args .s) (args .stock0 ∷ args .stock1 ∷ []))) (inr (c .if2 .taken)), team-demand (args .block .now) (args .i))
 
 slice-aggregate-team-answer : tie.Need-slice-aggregate-team-answer
 slice-aggregate-team-answer c = search needs
@@ -31,9 +35,11 @@ same-length c = search needs
 returns-3 : tie.Need-returns-3
 returns-3 c =
     let args = c .before .before .before .before .before .before .before .before .before .before .before .before .before .args in
-    let found = c .before .before .before .before .before .before .team-answer in
-    move-cleared (args .block .now) (args .i) (args .s) (args .stock0 ∷ args .stock1 ∷ []) (args .room .now) (c .before .before .before .before .before .before .before .before .before .before .if1 .left) (c .before .before .before .before .before .before .before .before .before .if2 .left) (c .before .before .zeros .last .0) (found .result) (found .ensures .0)
-    (cleared (found .last .1 .1 .1 .1 .0) (c .before .before .zeros .last .0) 12288 (c .before .before .zeros .ensures) (omega (arith, found .ensures .1, c .before .before .before .before .before .before .before .before .before .if2 .left)))
+    let found = c .before .before .before .before .before .before .team-answer in (
+      clears (args .block .now) (args .i) (args .s) (args .stock0 ∷ args .stock1 ∷ []) (args .room .now) (LateMove (args .block .now) (args .i) (args .s) (args .stock0 ∷ args .stock1 ∷ [])) (late-move (args .block .now) (args .i) (args .s) (args .stock0 ∷ args .stock1 ∷ [])) (refusal.WrongSide ∷ []) (TeamMove (args .block .now) (args .i) (position (args .s) (args .stock0 ∷ args .stock1 ∷ []))) (c .before .before .before .before .before .before .before .before .before .if2 .left) (c .before .before .before .before .before .before .before .before .before .before .if1 .left) (omega arith, tt) (c .before .before .zeros .last .0) (found .result) (found .ensures .0)
+          (cleared (found .last .1 .1 .1 .1 .0) (c .before .before .zeros .last .0) 12288 (c .before .before .zeros .ensures) (omega (arith, found .ensures .1, c .before .before .before .before .before .before .before .before .before .if2 .left))),
+      team-demand (args .block .now) (args .i),
+    )
 
 pub team-move-spec : {M : Type 1} → statement M
 team-move-spec = tie.close (tie.spec returns returns-2 slice-aggregate-team-answer team-answer-requires zeros-requires same-length returns-3)

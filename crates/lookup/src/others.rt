@@ -1,0 +1,126 @@
+// The reply of all others to the team's move at a position.
+use crate::aims;
+use crate::answer::Answer;
+use crate::place;
+use block::fill;
+use block::layout;
+use block::refusal::Checked;
+use block::refusal::Refusal;
+use game::buffers;
+use game::positions;
+use solver::rows;
+use solver::table;
+ghost use mathlib.Core.List.{[], _∷_};
+ghost use mathlib.Core.Path.{_≡_};
+ghost use Prim.Native.Nat.{_≤_, _<_};
+ghost use lib.ListN.{length};
+ghost use Rattle.block.specs.Decide.{Decides};
+ghost use Rattle.block.specs.Layout as L;
+ghost use Rattle.block.specs.Valid.{Valid};
+ghost use Rattle.game.specs.Position.{position, IsPosition};
+ghost use Rattle.game.specs.Model.{arenaOf};
+ghost use Rattle.lookup.specs.Aims.{FailedBy};
+ghost use Rattle.lookup.specs.Calls.{OthersAnswer, ReplyFound, ReplyCall};
+ghost use Rattle.lookup.specs.Plays.{OthersDemand};
+
+// Whether the row has failed already in state s, at a position of rank own.
+fn failed(kind: usize, left: usize, right: usize, own: usize, s: usize) -> bool
+    requires { ⌜ s < 32 ⌝ }
+    ensures { λ r. ⌜ Decides (FailedBy kind left right own s) r ⌝ }
+{
+    if kind == 3 {
+        return false;
+    }
+    if kind == 4 {
+        return own == 0;
+    }
+    if buffers::has_bit(left, s) {
+        return false;
+    }
+    !buffers::has_bit(right, s)
+}
+
+// The reply to the move m at a position of a strategic row.
+pub fn others_at(
+    block: &[u8],
+    i: usize,
+    s: usize,
+    stocks: &[u8],
+    m: usize,
+    room: &mut [u8],
+) -> Answer
+    requires { ⌜ Valid (now block) ⌝ }
+    requires { ⌜ (i < L.rows (now block)) × L.Strategic (L.kind (now block) i) × (L.resources (now block) ≤ length (now stocks)) × (12288 ≤ length (now room)) ⌝ }
+    requires { ⌜ IsPosition (arenaOf (now block) i) (position s (now stocks)) ⌝ }
+    ensures { λ a. ⌜ OthersAnswer (now (block .entry)) i (position s (now (stocks .entry))) m a ⌝ }
+    ensures { λ _. ⌜ length (now (room .exit)) ≡ length (now (room .entry)) ⌝ }
+{
+    let words = place::prepare(block, i, room);
+    let left = words.left;
+    let right = words.right;
+    let kind = layout::kind(block, i);
+    let own = buffers::rank_at(room, positions::number(block, i, s, stocks));
+    if rows::claims(kind, own) {
+        return Answer::Refused(Refusal::WrongSide);
+    }
+    if !aims::allowed(block, i, s, stocks, m) {
+        return Answer::Refused(Refusal::Move);
+    }
+    if failed(kind, left, right, own, s) {
+        return Answer::Value(0);
+    }
+    let r = aims::find_reply(block, i, left, own, room, s, stocks, m);
+    Answer::Value(r)
+}
+
+// The same of any block, row and position; the room is left as it comes out.
+fn others_answer(
+    block: &[u8],
+    i: usize,
+    s: usize,
+    stocks: &[u8],
+    m: usize,
+    room: &mut [u8],
+) -> Answer
+    requires { ⌜ (length (now stocks) ≡ 2) × (length (now room) ≡ 12288) ⌝ }
+    ensures { λ a. ⌜ ReplyFound (now (block .entry)) i s (now (stocks .entry)) m (now (room .entry)) a ⌝ }
+    ensures { λ _. ⌜ length (now (room .exit)) ≡ length (now (room .entry)) ⌝ }
+{
+    match block::check(block) {
+        Checked::Passed => {
+            if table::no_choice(block, i) {
+                return Answer::Refused(Refusal::RowChoice);
+            }
+            if place::no_position(block, i, s, stocks) {
+                return Answer::Refused(Refusal::Position);
+            }
+            others_at(block, i, s, stocks, m, room)
+        }
+        Checked::Refused(r) => Answer::Refused(r),
+    }
+}
+
+// The reply to the move m in row i, state s with these stocks. The room is left filled with zeros, unless a buffer has another length.
+pub fn reply(
+    block: &[u8],
+    i: usize,
+    s: usize,
+    stock0: u8,
+    stock1: u8,
+    m: usize,
+    room: &mut [u8],
+) -> Answer
+    ensures { λ a. ⌜ ReplyCall (now (block .entry)) i s (stock0 ∷ stock1 ∷ []) m (now (room .entry)) (now (room .exit)) a ⌝ }
+    ensures { λ _. ⌜ OthersDemand (now (block .entry)) i ⌝ }
+{
+    if block.len() != layout::BLOCK_BYTES {
+        return Answer::Refused(Refusal::Length);
+    }
+    if room.len() != 12288 {
+        return Answer::Refused(Refusal::Length);
+    }
+    let stocks = [stock0, stock1];
+    let answer = others_answer(block, i, s, &stocks, m, room);
+    fill::zeros(room, 0);
+    answer
+}
