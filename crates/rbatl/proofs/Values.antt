@@ -1,11 +1,15 @@
 -- A length, a count or the number of a joint action fits the number that a C caller is handed back. Assumes nothing.
+use mathlib.Core.List.{List}
 use Prim.Native.Nat.{ℕ, _≤_, _<_}
 use native.Mathlib.Nat.{lt-of-le-of-lt}
+use native.Mathlib.Omega.{arith}
 use lib.Dec.{lit<}
 use lib.IntN.{pos}
 use mir.Syntax.{w32}
 use mir.Val.{SFits}
+use Rattle.block.specs.Layout.{Block}
 use Rattle.lookup.specs.Calls.{ValueIs}
+use Rattle.lookup.specs.States.{StatesCall}
 use Rattle.lookup.specs.declared.answer.Answer.{Answer}
 use Rattle.lookup.specs.declared.answer.Answer.the-variants as answer
 use Rattle.rbatl.specs.Answer.{Small}
@@ -16,3 +20,7 @@ small h = record { sfits = lt-of-le-of-lt h (lit< tt) }
 pub small-value : (right : ℕ → Type 0) → ((n : ℕ) → right n → n < 64) → (a : Answer) → ValueIs right a → Small a
 small-value right least (answer.Value n) h = least n h
 small-value right least (answer.Refused r) h = tt
+
+pub small-count : (b : Block) (i : ℕ) (list room list′ room′ : List ℕ) (a : Answer) → StatesCall b i list room list′ room′ a → Small a
+small-count b i list room list′ room′ (answer.Value n) call = omega (arith, call .list-after .lists .fits)
+small-count b i list room list′ room′ (answer.Refused r) call = tt

@@ -51,7 +51,7 @@ abbrev pub answerCode : Answer → ℤ
 answerCode (answer.Value n) = pos n
 answerCode (answer.Refused r) = minus (numberOf r)
 
--- a value is the number of a joint action
+-- a value is the number of a joint action, or a count of states
 abbrev pub Small : Answer → Type 0
 Small (answer.Value n) = n < 64
 Small (answer.Refused r) = Unit {0}

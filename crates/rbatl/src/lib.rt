@@ -132,8 +132,5 @@ pub extern "C" fn rbatl_reply(
 pub extern "C" fn rbatl_states(block: &[u8], row: u8, list: &mut [u8], room: &mut [u8]) -> i32
     ensures { λ r. ⌜ StatesAnswer (now (block .entry)) row (now (list .entry)) (now (room .entry)) (now (list .exit)) (now (room .exit)) r ⌝ }
 {
-    match lookup::states::fill_states(block, row as usize, list, room) {
-        Answer::Value(n) => n as i32,
-        Answer::Refused(r) => refused(r),
-    }
+    value(lookup::states::fill_states(block, row as usize, list, room))
 }
