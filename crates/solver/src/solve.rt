@@ -3,7 +3,7 @@ use crate::sweep;
 use game::buffers;
 use game::positions;
 ghost use mathlib.Core.Path.{_≡_};
-ghost use Prim.Native.Nat.{ℕ, _*_, _≤_, _<_};
+ghost use Prim.Native.Nat.{ℕ, _/_, _≤_, _<_};
 ghost use lib.ListN.{length};
 ghost use Rattle.block.specs.Layout as L;
 ghost use Rattle.block.specs.Valid.{Valid};
@@ -12,21 +12,21 @@ ghost use Rattle.game.specs.Buffers.{rankIn};
 ghost use Rattle.game.specs.Model.{arenaOf};
 ghost use Rattle.solver.specs.Solving.{FirstRank, Solved};
 
-// The first rank of position n of count, with c of them in each state: 0 at a goal, and past the last position.
-fn first_rank(goal: usize, c: usize, count: usize, n: usize) -> usize
-    requires { ⌜ (0 < c) × (count ≤ 24 * c) ⌝ }
+// The first rank of position n of count, in state s with c positions in each: 0 at a goal, and past the last position.
+fn first_rank(goal: usize, c: usize, count: usize, n: usize, s: usize) -> usize
+    requires { ⌜ (n < count → (n / c ≡ s) × (s < 32)) ⌝ }
     ensures { λ r. ⌜ FirstRank goal c count n r × (r < 65536) ⌝ }
 {
     if count <= n {
         return 0;
     }
-    if buffers::has_bit(goal, n / c) {
+    if buffers::has_bit(goal, s) {
         return 0;
     }
     65535
 }
 
-// Stores the first ranks of row i.
+// Stores the first ranks of row i. Counts the places of each state, since a division for each would be slow.
 pub fn first_ranks(block: &[u8], i: usize, c: usize, goal: usize, ranks: &mut [u8])
     requires { ⌜ Valid (now block) ⌝ }
     requires { ⌜ (i < L.rows (now block)) × L.Strategic (L.kind (now block) i) ⌝ }
@@ -36,9 +36,16 @@ pub fn first_ranks(block: &[u8], i: usize, c: usize, goal: usize, ranks: &mut [u
 {
     let count = positions::count(block, i);
     let mut n = 0;
+    let mut s = 0;
+    let mut x = 0;
     while n < 6144 {
-        buffers::set_rank(ranks, n, first_rank(goal, c, count, n));
+        buffers::set_rank(ranks, n, first_rank(goal, c, count, n, s));
         n += 1;
+        x += 1;
+        if x == c {
+            s += 1;
+            x = 0;
+        }
     }
 }
 
