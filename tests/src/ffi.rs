@@ -1,5 +1,7 @@
 //! The calls of include/rbatl.h, each with a safe wrapper.
 
+mod lookup;
+
 extern "C" {
     fn rbatl_check(block: *const u8, block_len: usize) -> i32;
     fn rbatl_read(text: *const u8, text_len: usize, block: *mut u8, block_len: usize) -> i32;
@@ -26,7 +28,7 @@ pub fn write(block: &[u8], text: &mut [u8]) -> i32 {
     unsafe { rbatl_write(block.as_ptr(), block.len(), text.as_mut_ptr(), text.len()) }
 }
 
-/// The calls that the feature `solver` waits for.
+/// The calls on the rows of a block.
 mod solver {
     extern "C" {
         fn rbatl_label(
@@ -82,4 +84,5 @@ mod solver {
     }
 }
 
+pub use lookup::{coalition_move, reply};
 pub use solver::{label, table};
