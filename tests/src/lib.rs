@@ -12,6 +12,7 @@ pub mod games;
 pub mod jobs;
 pub mod layout;
 pub mod lookup;
+pub mod play;
 pub mod random;
 pub mod solver;
 pub mod text;

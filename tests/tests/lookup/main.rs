@@ -3,6 +3,8 @@
 
 mod borders;
 mod catch;
+mod every_play;
+mod plays;
 mod random;
 
 use rbatl_tests::agree::{self, Outcome};
