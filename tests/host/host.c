@@ -1,15 +1,9 @@
 /* A C host: includes the header, links the library and checks a few answers.
  * Prints each check that fails, then 'N passed, M failed'. */
-#include "rbatl.h"
+#include "host.h"
 
 #include <stdio.h>
 #include <string.h>
-
-/* A place of a block and its value. */
-struct byte {
-    size_t place;
-    uint8_t value;
-};
 
 /* The bytes of the job Catch (document 01) that are not 0. */
 static const struct byte catch_bytes[] = {
@@ -66,14 +60,7 @@ static const struct refused_text refused_texts[] = {
     {FRONT "until,,4,2,0\n", -RBATL_FORM},
 };
 
-/* Catch with one byte changed, and the answer that it must get. */
-struct damage {
-    const char *name;
-    struct byte change;
-    int32_t answer;
-};
-
-static const struct damage damages[] = {
+const struct damage damages[] = {
     {"Catch", {0, 2}, 0},
     {"a fourth state without actions", {2, 4}, -RBATL_STATE},
     {"M 25", {2, 25}, -RBATL_SIZES},
@@ -93,18 +80,19 @@ static const struct damage damages[] = {
     {"byte 28", {28, 1}, -RBATL_UNUSED},
     {"last byte", {2468, 1}, -RBATL_UNUSED},
 };
+const size_t damages_count = sizeof damages / sizeof damages[0];
 
 static int passed;
 static int failed;
 
-static void fill_catch(uint8_t *block)
+void fill_catch(uint8_t *block)
 {
     memset(block, 0, RBATL_BLOCK_BYTES);
     for (size_t i = 0; i < sizeof catch_bytes / sizeof catch_bytes[0]; i++)
         block[catch_bytes[i].place] = catch_bytes[i].value;
 }
 
-static void count(int good, const char *name, const char *what)
+void count(int good, const char *name, const char *what)
 {
     if (good) {
         passed++;
@@ -143,17 +131,14 @@ static void check_damages(void)
 {
     static uint8_t block[RBATL_BLOCK_BYTES];
 
-    for (size_t i = 0; i < sizeof damages / sizeof damages[0]; i++) {
+    for (size_t i = 0; i < damages_count; i++) {
         fill_catch(block);
         block[damages[i].change.place] = damages[i].change.value;
         expect(damages[i].name, block, sizeof block, damages[i].answer);
     }
 }
 
-/* A byte that neither a text nor Catch has. */
-#define FILL 0xEE
-
-static int all(const uint8_t *bytes, size_t length, uint8_t value)
+int all(const uint8_t *bytes, size_t length, uint8_t value)
 {
     for (size_t i = 0; i < length; i++)
         if (bytes[i] != value)
@@ -253,7 +238,7 @@ static void check_write(void)
         expect_write("another length", bytes, size, lengths[i], -RBATL_LENGTH, NULL);
     bytes[2257] = RBATL_UNLIMITED;
     expect_write("inf", bytes, size, RBATL_TEXT_BYTES, sizeof inf - 1, inf);
-    for (size_t i = 0; i < sizeof damages / sizeof damages[0]; i++) {
+    for (size_t i = 0; i < damages_count; i++) {
         if (damages[i].answer == 0)
             continue;
         fill_catch(bytes);
@@ -323,7 +308,7 @@ static void check_label(void)
     expect_label("long sets", bytes, size, RBATL_SETS_BYTES + 1, RBATL_ROOM_BYTES, -RBATL_LENGTH);
     expect_label("a short room", bytes, size, RBATL_SETS_BYTES, RBATL_ROOM_BYTES - 1, -RBATL_LENGTH);
     expect_label("a long room", bytes, size, RBATL_SETS_BYTES, RBATL_ROOM_BYTES + 1, -RBATL_LENGTH);
-    for (size_t i = 0; i < sizeof damages / sizeof damages[0]; i++) {
+    for (size_t i = 0; i < damages_count; i++) {
         if (damages[i].answer == 0)
             continue;
         fill_catch(bytes);
@@ -378,7 +363,7 @@ static void check_table(void)
     for (size_t i = 0; i < sizeof tableless; i++)
         expect_table("a row without a table", bytes, size, tableless[i], RBATL_RANKS_BYTES, RBATL_MOVES_BYTES,
                      -RBATL_ROW_CHOICE);
-    for (size_t i = 0; i < sizeof damages / sizeof damages[0]; i++) {
+    for (size_t i = 0; i < damages_count; i++) {
         if (damages[i].answer == 0)
             continue;
         fill_catch(bytes);
@@ -388,7 +373,6 @@ static void check_table(void)
     }
 }
 
-
 int main(void)
 {
     check_damages();
@@ -397,6 +381,8 @@ int main(void)
     check_write();
     check_label();
     check_table();
+    check_move();
+    check_reply();
     printf("%d passed, %d failed\n", passed, failed);
     return failed != 0;
 }

@@ -1,0 +1,38 @@
+/* What the checks of the host share. */
+#ifndef HOST_H
+#define HOST_H
+
+#include "rbatl.h"
+
+/* A byte that neither a text nor Catch has. */
+#define FILL 0xEE
+
+/* A place of a block and its value. */
+struct byte {
+    size_t place;
+    uint8_t value;
+};
+
+/* Catch with one byte changed, and the answer that it must get. */
+struct damage {
+    const char *name;
+    struct byte change;
+    int32_t answer;
+};
+
+extern const struct damage damages[];
+extern const size_t damages_count;
+
+/* Fills a block with the job Catch. */
+void fill_catch(uint8_t *block);
+
+/* Counts a check, and prints one that fails. */
+void count(int good, const char *name, const char *what);
+
+/* Whether all the bytes have the value. */
+int all(const uint8_t *bytes, size_t length, uint8_t value);
+
+void check_move(void);
+void check_reply(void);
+
+#endif
