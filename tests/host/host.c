@@ -256,6 +256,8 @@ int main(void)
     check_label();
     check_table();
     check_states();
+    check_move();
+    check_reply();
     printf("%d passed, %d failed\n", passed, failed);
     return failed != 0;
 }

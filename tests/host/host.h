@@ -30,5 +30,7 @@ int all(const uint8_t *bytes, size_t length, uint8_t value);
 void check_label(void);
 void check_table(void);
 void check_states(void);
+void check_move(void);
+void check_reply(void);
 
 #endif

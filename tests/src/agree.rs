@@ -2,10 +2,12 @@
 //! input both must give the same answer and leave the same bytes in the whole
 //! lent buffer.
 
+mod lookup;
 mod solver;
 
 use crate::random::Rng;
 use crate::{ffi, text};
+pub use lookup::{coalition_move, reply};
 pub use solver::{label, states, table};
 
 /// Bytes on both sides of a lent buffer, which no call may touch.

@@ -1,5 +1,7 @@
 //! The calls of include/rbatl.h, each with a safe wrapper.
 
+mod lookup;
+
 extern "C" {
     fn rbatl_check(block: *const u8, block_len: usize) -> i32;
     fn rbatl_read(text: *const u8, text_len: usize, block: *mut u8, block_len: usize) -> i32;
@@ -108,4 +110,5 @@ mod rows {
     }
 }
 
+pub use lookup::{coalition_move, reply};
 pub use rows::{label, states, table};

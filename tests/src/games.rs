@@ -39,6 +39,44 @@ pub fn tiny(rng: &mut Rng) -> Vec<u8> {
     block(rng, shape)
 }
 
+/// Few positions, and opponents in most rows who have to act.
+pub fn contest(rng: &mut Rng) -> Vec<u8> {
+    let sizes = Sizes {
+        agents: rng.within(2..=MAX_AGENTS),
+        resources: rng.within(1..=2),
+        states: rng.within(2..=6),
+        propositions: 2,
+        rows: rng.within(6..=8),
+    };
+    let bound = rng.within(0..=if sizes.resources == 1 { 5 } else { 2 }) as u8;
+    let shape = Shape {
+        sizes,
+        actions: rng.within(2..=MAX_ACTIONS),
+        cost: 2,
+        bound,
+        fixed: false,
+        driver: rng.within(1..=(1 << sizes.agents) - 2) as u8,
+    };
+    let mut block = block(rng, shape);
+    punish_idling(rng, &mut block, shape.driver);
+    block
+}
+
+/// Opponents of the driver who idle often let it reach the rare proposition.
+fn punish_idling(rng: &mut Rng, block: &mut [u8], driver: u8) {
+    let states = Sizes::of(block).states;
+    let goal = rng.below(states);
+    block[mask(goal)] |= 1;
+    for state in 0..states {
+        let joints: Vec<usize> = joint_actions(block, state).collect();
+        for joint in joints {
+            if part(joint, driver) == joint && rng.one_in(2) {
+                block[next(state, joint)] = goal as u8;
+            }
+        }
+    }
+}
+
 pub fn small(rng: &mut Rng) -> Vec<u8> {
     let sizes = Sizes {
         agents: rng.within(1..=MAX_AGENTS),

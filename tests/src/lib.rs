@@ -11,6 +11,8 @@ pub mod full;
 pub mod games;
 pub mod jobs;
 pub mod layout;
+pub mod lookup;
+pub mod play;
 pub mod random;
 pub mod solver;
 pub mod text;
@@ -26,4 +28,7 @@ pub mod refusal {
     pub const UNUSED: u8 = 6;
     pub const FORM: u8 = 7;
     pub const ROW_CHOICE: u8 = 8;
+    pub const POSITION: u8 = 9;
+    pub const WRONG_SIDE: u8 = 10;
+    pub const MOVE: u8 = 11;
 }

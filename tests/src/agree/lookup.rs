@@ -1,0 +1,37 @@
+//! The calls at one position, which are lent a room alone.
+
+use super::{compare, lend, Outcome};
+use crate::ffi;
+use crate::lookup::{At, Model};
+
+/// The coalition's move with the lent room; `what` names the block if the
+/// library and the model differ.
+pub fn coalition_move(
+    block: &[u8],
+    model: &Model,
+    at: At,
+    room: &[u8],
+    what: impl Fn() -> String,
+) -> Outcome {
+    let expected = lend(room, |room| model.coalition_move(at, room));
+    let found = lend(room, |room| ffi::coalition_move(block, at, room));
+    compare("rbatl_move", expected, found, || {
+        format!("{at:?} of {}", what())
+    })
+}
+
+/// The reply to the move with the lent room.
+pub fn reply(
+    block: &[u8],
+    model: &Model,
+    at: At,
+    mv: u8,
+    room: &[u8],
+    what: impl Fn() -> String,
+) -> Outcome {
+    let expected = lend(room, |room| model.reply(at, mv, room));
+    let found = lend(room, |room| ffi::reply(block, at, mv, room));
+    compare("rbatl_reply", expected, found, || {
+        format!("move {mv} at {at:?} of {}", what())
+    })
+}

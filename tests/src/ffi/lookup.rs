@@ -1,0 +1,64 @@
+//! The calls at one position.
+
+use crate::lookup::At;
+
+extern "C" {
+    fn rbatl_move(
+        block: *const u8,
+        block_len: usize,
+        row: u8,
+        state: u8,
+        stock0: u8,
+        stock1: u8,
+        room: *mut u8,
+        room_len: usize,
+    ) -> i32;
+    fn rbatl_reply(
+        block: *const u8,
+        block_len: usize,
+        row: u8,
+        state: u8,
+        stock0: u8,
+        stock1: u8,
+        mv: u8,
+        room: *mut u8,
+        room_len: usize,
+    ) -> i32;
+}
+
+/// The coalition's move, or minus the refusal number.
+pub fn coalition_move(block: &[u8], at: At, room: &mut [u8]) -> i32 {
+    // SAFETY: each pointer is valid for the length beside it, and the room,
+    // borrowed mutably, overlaps no block.
+    unsafe {
+        rbatl_move(
+            block.as_ptr(),
+            block.len(),
+            at.row,
+            at.state,
+            at.stock[0],
+            at.stock[1],
+            room.as_mut_ptr(),
+            room.len(),
+        )
+    }
+}
+
+/// The reply to the move, or minus the refusal number.
+pub fn reply(block: &[u8], at: At, mv: u8, room: &mut [u8]) -> i32 {
+    // SAFETY: each pointer is valid for the length beside it, and the room,
+    // borrowed mutably, overlaps no block.
+    unsafe {
+        rbatl_reply(
+            block.as_ptr(),
+            block.len(),
+            at.row,
+            at.state,
+            at.stock[0],
+            at.stock[1],
+            mv,
+            room.as_mut_ptr(),
+            room.len(),
+        )
+    }
+}

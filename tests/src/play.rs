@@ -1,0 +1,122 @@
+//! Plays of a row (document 01, "When a row is true"): states and stock are
+//! followed move by move, and the row is judged by the states alone.
+
+use crate::checker::search;
+use crate::checker::structure::*;
+use crate::layout::MAX_RESOURCES;
+use crate::lookup::At;
+
+/// A strategic row, and what can be played in each state.
+pub struct Game {
+    moves: Vec<Vec<Move>>,
+    limited: [bool; MAX_RESOURCES],
+    aim: Aim,
+}
+
+/// When the row is true on a play.
+#[derive(Clone, Copy)]
+pub enum Aim {
+    Next { left: Set },
+    Always { left: Set },
+    Until { left: Set, right: Set },
+}
+
+/// The states from the first on, and the position that the last move left.
+pub struct Play {
+    pub states: Vec<usize>,
+    pub at: At,
+}
+
+impl Play {
+    pub fn from(at: At) -> Play {
+        let states = vec![at.state.into()];
+        Play { states, at }
+    }
+}
+
+impl Game {
+    /// Of a strategic row of a block that the check lets pass.
+    pub fn of(block: &[u8], row: u8) -> Game {
+        let structure = Structure::of(block);
+        let sets = search::label(&structure);
+        let (ability, aim) = match structure.formulas[usize::from(row)] {
+            Formula::Next(ability, left) => (ability, Aim::Next { left: sets[left] }),
+            Formula::Always(ability, left) => (ability, Aim::Always { left: sets[left] }),
+            Formula::Until(ability, left, right) => {
+                let (left, right) = (sets[left], sets[right]);
+                (ability, Aim::Until { left, right })
+            }
+            formula => panic!("{formula:?} is not strategic"),
+        };
+        Game {
+            moves: structure.moves(ability.coalition),
+            limited: ability.bound.map(|bound| bound != INFINITE),
+            aim,
+        }
+    }
+
+    pub fn aim(&self) -> Aim {
+        self.aim
+    }
+
+    /// The moves that the stock of the position can pay.
+    pub fn affordable(&self, at: At) -> Vec<&Move> {
+        let moves = self.moves[usize::from(at.state)].iter();
+        moves
+            .filter(|mv| self.left_over(at, mv.cost).is_some())
+            .collect()
+    }
+
+    /// The position after a move of the state and a reply to it.
+    pub fn outcome(&self, at: At, mv: &Move, reply: &Reply) -> At {
+        let stock = self.left_over(at, mv.cost);
+        At {
+            state: reply.target as u8,
+            stock: stock.unwrap_or_else(|| panic!("move {} at {at:?} costs more", mv.number)),
+            ..at
+        }
+    }
+
+    /// The move of the number, which must be one of the state's.
+    pub fn find(&self, at: At, number: u8) -> &Move {
+        let mut moves = self.moves[usize::from(at.state)].iter();
+        let found = moves.find(|mv| mv.number == number);
+        found.unwrap_or_else(|| panic!("no move {number} at {at:?}"))
+    }
+
+    pub fn go(&self, play: &mut Play, mv: u8, reply: u8) {
+        let mv = self.find(play.at, mv);
+        let found = mv.replies.iter().find(|found| found.number == reply);
+        let found = found.unwrap_or_else(|| panic!("no reply {reply} at {:?}", play.at));
+        play.at = self.outcome(play.at, mv, found);
+        play.states.push(found.target);
+    }
+
+    /// Whether the states so far make the row true or false; none if they do
+    /// not settle it.
+    pub fn settled(&self, states: &[usize]) -> Option<bool> {
+        match self.aim {
+            Aim::Next { left } => states.get(1).map(|&state| contains(left, state)),
+            Aim::Always { left } => {
+                let fails = states.iter().any(|&state| !contains(left, state));
+                fails.then_some(false)
+            }
+            Aim::Until { left, right } => {
+                let open = |&&state: &&usize| contains(left & !right, state);
+                let last = states.iter().find(|state| !open(state));
+                last.map(|&state| contains(right, state))
+            }
+        }
+    }
+
+    fn left_over(&self, at: At, cost: Amounts) -> Option<[u8; MAX_RESOURCES]> {
+        let mut stock = at.stock;
+        for (resource, left) in stock.iter_mut().enumerate() {
+            if self.limited[resource] {
+                let spent = u8::try_from(cost[resource]).ok()?;
+                *left = left.checked_sub(spent)?;
+            }
+        }
+        Some(stock)
+    }
+}

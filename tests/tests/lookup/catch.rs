@@ -1,0 +1,94 @@
+//! Catch, as document 01 has it.
+
+use super::*;
+use rbatl_tests::jobs;
+
+fn catch() -> Vec<u8> {
+    jobs::load("catch.job")
+}
+
+/// Starred cases 11 and 12: agent 1 holds agent 0 back by its action 1.
+#[test]
+fn replies_of_row_3() {
+    let job = catch();
+    let asked = Asked::patterned(&job, "Catch");
+    assert_eq!(asked.reply(at(3, 0, [5, 0]), 1), 4);
+    assert_eq!(asked.reply(at(3, 0, [5, 0]), 0), 0);
+}
+
+/// Starred case 13, with the seventh row `always,2,0,1`.
+#[test]
+fn move_of_the_seventh_row() {
+    let job = jobs::catch_with_always();
+    let asked = Asked::patterned(&job, "Catch with a seventh row");
+    assert_eq!(asked.coalition_move(at(6, 0, [0, 0])), 4);
+    assert_eq!(asked.reply(at(6, 0, [0, 0]), 4), -10);
+    assert_eq!(asked.coalition_move(at(6, 1, [0, 0])), -10);
+    assert_eq!(asked.reply(at(6, 1, [0, 0]), 0), 1);
+    assert_eq!(asked.reply(at(6, 2, [0, 0]), 0), 0);
+}
+
+/// The examples of the table of refusals.
+#[test]
+fn refusals_of_document_01() {
+    let job = catch();
+    let asked = Asked::patterned(&job, "Catch");
+    assert_eq!(asked.coalition_move(at(1, 0, [0, 0])), -8);
+    assert_eq!(asked.reply(at(1, 0, [0, 0]), 0), -8);
+    assert_eq!(asked.coalition_move(at(3, 1, [6, 0])), -9);
+    assert_eq!(asked.reply(at(3, 1, [6, 0]), 0), -9);
+    assert_eq!(asked.coalition_move(at(3, 0, [5, 0])), -10);
+    assert_eq!(asked.reply(at(3, 0, [1, 0]), 1), -11);
+}
+
+/// Rows 3 to 5 at each state and stock: the move, or 10.
+#[test]
+fn moves_of_every_position() {
+    let job = catch();
+    let asked = Asked::patterned(&job, "Catch");
+    for (row, bound, from) in [(3, 5, 6), (4, 5, 5), (5, 4, 6)] {
+        for stock in 0..=bound {
+            let found = |state| asked.coalition_move(at(row, state, [stock, 0]));
+            assert_eq!(found(0), if stock >= from { 1 } else { -10 }, "row {row}");
+            assert_eq!(found(1), if stock >= 3 { 1 } else { -10 }, "row {row}");
+            assert_eq!(found(2), 0, "row {row}");
+        }
+    }
+}
+
+/// Row 3 at state 0 with each number for the move. Agent 1 is outside the
+/// coalition, and action 1 of agent 0 costs 2. Only with 3 left does the
+/// coalition win from state 1, so that agent 1 must act.
+#[test]
+fn replies_to_every_number() {
+    let job = catch();
+    let asked = Asked::patterned(&job, "Catch");
+    for stock in 0..=5 {
+        for mv in 0..=u8::MAX {
+            let expected = match (mv, stock) {
+                (0, _) | (1, 2..=4) => 0,
+                (1, 5) => 4,
+                _ => -11,
+            };
+            let found = asked.reply(at(3, 0, [stock, 0]), mv);
+            assert_eq!(found, expected, "move {mv} with {stock}");
+        }
+    }
+}
+
+/// Row 4, with nobody outside the coalition: every reply is 0.
+#[test]
+fn replies_of_nobody() {
+    let job = catch();
+    let asked = Asked::patterned(&job, "Catch");
+    for stock in 0..=4 {
+        for mv in 0..=u8::MAX {
+            let expected = match (mv, stock) {
+                (0 | 4, _) | (1 | 5, 2..=4) => 0,
+                _ => -11,
+            };
+            let found = asked.reply(at(4, 0, [stock, 0]), mv);
+            assert_eq!(found, expected, "move {mv} with {stock}");
+        }
+    }
+}

@@ -1,0 +1,80 @@
+//! `rbatl_move` and `rbatl_reply` beside the checker made from document 003: the
+//! same answers and zeros in the room, and plays that they decide.
+
+mod borders;
+mod catch;
+mod every_play;
+mod plays;
+mod random;
+
+use rbatl_tests::agree::{self, Outcome};
+use rbatl_tests::answers::{assert_each_came, number};
+use rbatl_tests::lookup::{At, Model};
+use rbatl_tests::solver::ROOM_BYTES;
+
+/// The room after a call.
+const ZEROS: [u8; ROOM_BYTES] = [0; ROOM_BYTES];
+
+/// A block, what the calls should make of it, and the room that they are lent.
+struct Asked<'a> {
+    block: &'a [u8],
+    model: Model,
+    room: Vec<u8>,
+    what: String,
+}
+
+impl Asked<'_> {
+    fn new(block: &[u8], room: Vec<u8>, what: impl Into<String>) -> Asked<'_> {
+        Asked {
+            block,
+            model: Model::of(block),
+            room,
+            what: what.into(),
+        }
+    }
+
+    /// With a room of bytes that have no meaning.
+    fn patterned(block: &[u8], what: impl Into<String>) -> Asked<'_> {
+        Asked::new(block, agree::pattern(ROOM_BYTES), what)
+    }
+
+    /// The coalition's move, as the library and the model agree.
+    fn coalition_move(&self, at: At) -> i32 {
+        let what = || self.what.clone();
+        self.answer(agree::coalition_move(
+            self.block,
+            &self.model,
+            at,
+            &self.room,
+            what,
+        ))
+    }
+
+    /// The reply to the move, as the library and the model agree.
+    fn reply(&self, at: At, mv: u8) -> i32 {
+        let what = || self.what.clone();
+        self.answer(agree::reply(
+            self.block,
+            &self.model,
+            at,
+            mv,
+            &self.room,
+            what,
+        ))
+    }
+
+    /// The room holds zeros after every answer but -1, which leaves it.
+    fn answer(&self, outcome: Outcome) -> i32 {
+        let room = outcome.buffer;
+        let good = match outcome.answer {
+            -1 => room == self.room,
+            _ => room == ZEROS,
+        };
+        assert!(good, "{}: the room after {}", self.what, outcome.answer);
+        outcome.answer
+    }
+}
+
+const fn at(row: u8, state: u8, stock: [u8; 2]) -> At {
+    At { row, state, stock }
+}
