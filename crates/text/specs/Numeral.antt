@@ -29,6 +29,14 @@ decimal n =
     (cond (ltb n 100) (numeral (n / 10) ∷ numeral (n % 10) ∷ [])
     (numeral (n / 100) ∷ numeral (n / 10 % 10) ∷ numeral (n % 10) ∷ []))
 
+-- a number in base ten, without leading zeros; k bounds how many digits follow the first
+unfoldable pub numeralsTo : ℕ → ℕ → List ℕ
+numeralsTo zero n = numeral n ∷ []
+numeralsTo (suc k) n = cond (ltb n 10) (numeral n ∷ []) (numeralsTo k (n / 10) ++ numeral (n % 10) ∷ [])
+
+abbrev pub numerals : ℕ → List ℕ
+numerals n = numeralsTo n n
+
 -- the text t begins with the word w
 abbrev pub Starts : List ℕ → List ℕ → Type 0
 Starts w t = (rest : List ℕ) × (t ≡ w ++ rest)

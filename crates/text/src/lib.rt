@@ -2,6 +2,7 @@
 pub mod ends;
 pub mod joint;
 pub mod kinds;
+pub mod output;
 pub mod sizes;
 
 // A text is at most this long, and the writer's buffer has this length.

@@ -1,4 +1,4 @@
--- Steps of writing (specs' Adds and Past): one byte, a word, a loop.
+-- Steps of writing (specs' Past): a loop, a bound, the agents of a state.
 -- Assumes nothing.
 use mathlib.Core.List.{List, [], _∷_, _++_, append-assoc, append-nil}
 use mathlib.Core.Path.{_≡_, refl, sym, ap, _∙_}
@@ -15,28 +15,8 @@ use Rattle.text.specs.declared.sizes.Sizes.{Sizes}
 use Rattle.text.specs.Numeral.{comma, decimal}
 use Rattle.text.specs.Format.{Format, write}
 use Rattle.text.specs.Job.{bound, boundField, actsLine, agentLines, noCounts}
-use Rattle.writer.specs.Writing.{Adds, Past, PastWith, countsTo}
+use Rattle.writer.specs.Writing.{Past, PastWith, countsTo}
 use Rattle.text.proofs.Loops.{Loop, left-more, turn, finish}
-
--- a byte stored at a place
-pub byte-added : (t : List ℕ) (place x : ℕ) → place < length t → Adds (x ∷ []) t place (set t place x) (place + 1)
-byte-added t place x h rest = rw (add-one, take-suc-set t place x, append-assoc) refl
-
--- i bytes of a word have been stored
-pub record Begun (w t : List ℕ) (place : ℕ) (u : List ℕ) (i : ℕ) : Type 0 where
-  pub so : take (place + i) u ≡ take place t ++ take i w
-
-pub begun-none : {w t : List ℕ} {place : ℕ} → Begun w t place t 0
-begun-none {w} {t} {place} = record { so = rw (add-zero, append-nil) refl }
-
-module _ {w t u : List ℕ} {place i : ℕ} (b : Begun w t place u i) where
-  pub begun-more : i < length w → place + i < length u → Begun w t place (set u (place + i) (getD w i 0)) (i + 1)
-  begun-more h l =
-      let next : place + (i + 1) ≡ suc (place + i) = omega arith in
-      record { so = rw (next, take-suc-set u (place + i) (getD w i 0), add-one, take-suc w i 0, ← append-assoc) (ap (λ (l : List ℕ). l ++ getD w i 0 ∷ []) (b .so)) }
-
-  pub begun-all : length w ≤ i → Adds w t place u (place + i)
-  begun-all h rest = rw (b .so, take-all i w h, append-assoc) refl
 
 -- the writer's loop has written j turns
 pub record Looped (loop : ℕ → ℕ → Format → Format) (count : ℕ) (b : Block) (t : List ℕ) (place : ℕ) (u : List ℕ) (next j : ℕ) : Type 0 where

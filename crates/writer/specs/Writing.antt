@@ -10,11 +10,7 @@ use Rattle.text.specs.Format.{Format, write}
 use Rattle.text.specs.Job.{noCounts}
 use Rattle.text.specs.Text.{textBytes}
 
--- from the text t up to a place, to the text u up to the next place: the word has been added
-abbrev pub Adds : List ℕ → List ℕ → ℕ → List ℕ → ℕ → Type 0
-Adds w t place u next = (rest : List ℕ) → take next u ++ rest ≡ take place t ++ (w ++ rest)
-
--- the same for a part of a format, whatever follows it
+-- a part of a format has been added, whatever follows it
 abbrev pub Past : Block → (Format → Format) → List ℕ → ℕ → List ℕ → ℕ → Type 0
 Past b part t place u next = (f : Format) → take next u ++ write f b ≡ take place t ++ write (part f) b
 

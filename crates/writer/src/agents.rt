@@ -1,8 +1,8 @@
 // The acts lines of a state.
 use crate::output::number;
-use crate::output::word;
 use block::layout;
 use text::ends::cost_end;
+use text::output::word;
 ghost use mathlib.Core.Path.{_≡_};
 ghost use Prim.Native.Nat.{_+_, _≤_, _<_};
 ghost use Rattle.block.specs.Layout as L;

@@ -1,9 +1,9 @@
 // The text of a block.
 use crate::output::number;
-use crate::output::word;
 use crate::rows::row_lines;
 use crate::states::states;
 use block::layout;
+use text::output::word;
 ghost use mathlib.Core.Path.{_≡_};
 ghost use Prim.Native.Nat.{_+_, _≤_};
 ghost use lib.ListN.{length, take};

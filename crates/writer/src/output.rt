@@ -1,45 +1,14 @@
-// Bytes of the text: words, numbers, and the spellings of a field.
+// The spellings of a field.
+use text::output::digits;
+use text::output::put;
+use text::output::word;
 ghost use mathlib.Core.List.{_∷_, [], _++_};
 ghost use mathlib.Core.Path.{_≡_};
 ghost use Prim.Native.Nat.{_+_, _≤_, _<_};
 ghost use lib.ListN.{length};
 ghost use Rattle.text.specs.Job as J;
-ghost use Rattle.text.specs.Numeral.{numeral, decimal};
-ghost use Rattle.writer.specs.Writing.{Adds};
-
-// Puts a byte at a place of the text.
-fn put(text: &mut [u8], at: usize, x: u8) -> usize
-    requires { ⌜ at < length (now text) ⌝ }
-    ensures { λ r. ⌜ Adds (x ∷ []) (now (text .entry)) at (now (text .exit)) r × (r ≡ at + 1) ⌝ }
-{
-    text[at] = x;
-    at + 1
-}
-
-fn digit(text: &mut [u8], at: usize, d: usize) -> usize
-    requires { ⌜ (at < length (now text)) × (d < 10) ⌝ }
-    ensures { λ r. ⌜ Adds (numeral d ∷ []) (now (text .entry)) at (now (text .exit)) r × (r ≡ at + 1) ⌝ }
-{
-    put(text, at, (48 + d) as u8)
-}
-
-// The digits of a number.
-fn digits(text: &mut [u8], at: usize, n: usize) -> usize
-    requires { ⌜ (at + 3 ≤ length (now text)) × (n < 256) ⌝ }
-    ensures { λ r. ⌜ Adds (decimal n) (now (text .entry)) at (now (text .exit)) r ⌝ }
-    ensures { λ r. ⌜ (r ≤ at + 3) × ((n < 100 → r ≤ at + 2) × (n < 10 → r ≤ at + 1)) ⌝ }
-{
-    if n < 10 {
-        return digit(text, at, n);
-    }
-    if n < 100 {
-        let last = digit(text, at, n / 10);
-        return digit(text, last, n % 10);
-    }
-    let tens = digit(text, at, n / 100);
-    let last = digit(text, tens, n / 10 % 10);
-    digit(text, last, n % 10)
-}
+ghost use Rattle.text.specs.Numeral.{decimal};
+ghost use Rattle.text.specs.Adding.{Adds};
 
 // A number and the comma or line end after it.
 pub fn number(text: &mut [u8], at: usize, n: usize, sep: u8) -> usize
@@ -49,18 +18,6 @@ pub fn number(text: &mut [u8], at: usize, n: usize, sep: u8) -> usize
 {
     let end = digits(text, at, n);
     put(text, end, sep)
-}
-
-pub fn word(text: &mut [u8], at: usize, w: &[u8]) -> usize
-    requires { ⌜ at + length (now w) ≤ length (now text) ⌝ }
-    ensures { λ r. ⌜ Adds (now (w .entry)) (now (text .entry)) at (now (text .exit)) r × (r ≡ at + length (now (w .entry))) ⌝ }
-{
-    let mut i = 0;
-    while i < w.len() {
-        text[at + i] = w[i];
-        i += 1;
-    }
-    at + i
 }
 
 // A bound and a comma; an unlimited one is inf.

@@ -2,9 +2,9 @@
 use crate::agents::agent_lines;
 use crate::agents::counts;
 use crate::output::number;
-use crate::output::word;
 use block::layout;
 use text::joint;
+use text::output::word;
 ghost use mathlib.Core.Bool.{cond};
 ghost use Prim.Native.Nat.{_+_, _≤_, _<_};
 ghost use Rattle.block.specs.Layout as L;

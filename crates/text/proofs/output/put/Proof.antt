@@ -1,9 +1,9 @@
 -- `put` stores a byte. Assumes nothing.
 use mathlib.Core.Path.{refl}
-use Rattle.writer.proofs.Writing.{byte-added}
+use Rattle.text.proofs.Adding.{byte-added}
 use borrow.Author.Needs.{needs}
-use Rattle.writer.proofs.output.put.Statement.{statement}
-use Rattle.writer.proofs.output.put.Tie as tie
+use Rattle.text.proofs.output.put.Statement.{statement}
+use Rattle.text.proofs.output.put.Tie as tie
 
 slice-write-text : tie.Need-slice-write-text
 slice-write-text c = search needs

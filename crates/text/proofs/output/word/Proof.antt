@@ -3,9 +3,9 @@ use mathlib.Core.Path.{_≡_, refl}
 use Prim.Native.Nat.{_-_, _≤_}
 use native.Mathlib.Omega.{arith}
 use lib.ListN.{length, length-set}
-use Rattle.writer.proofs.Writing.{Begun, begun-none, begun-more, begun-all}
-use Rattle.writer.proofs.output.word.Statement.{statement}
-use Rattle.writer.proofs.output.word.Tie as tie
+use Rattle.text.proofs.Adding.{Begun, begun-none, begun-more, begun-all}
+use Rattle.text.proofs.output.word.Statement.{statement}
+use Rattle.text.proofs.output.word.Tie as tie
 
 abbrev Inv-loop : tie.InvT-loop
 Inv-loop text₀ at w i₀ text i = (i ≤ length w) × ((length text ≡ length text₀) × Begun w text₀ at text i)

@@ -1,0 +1,48 @@
+// Bytes of a text: words and numbers, added to a buffer from a place on.
+ghost use mathlib.Core.List.{_∷_, []};
+ghost use mathlib.Core.Path.{_≡_};
+ghost use Prim.Native.Nat.{ℕ, _+_, _^_, _≤_, _<_};
+ghost use lib.ListN.{length};
+ghost use Rattle.text.specs.Adding.{Adds};
+ghost use Rattle.text.specs.Numeral.{numeral, numerals};
+
+// Puts a byte at a place of the text.
+pub fn put(text: &mut [u8], at: usize, x: u8) -> usize
+    requires { ⌜ at < length (now text) ⌝ }
+    ensures { λ r. ⌜ Adds (x ∷ []) (now (text .entry)) at (now (text .exit)) r × (r ≡ at + 1) ⌝ }
+{
+    text[at] = x;
+    at + 1
+}
+
+fn digit(text: &mut [u8], at: usize, d: usize) -> usize
+    requires { ⌜ (at < length (now text)) × (d < 10) ⌝ }
+    ensures { λ r. ⌜ Adds (numeral d ∷ []) (now (text .entry)) at (now (text .exit)) r × (r ≡ at + 1) ⌝ }
+{
+    put(text, at, (48 + d) as u8)
+}
+
+// The digits of a number, for which there is room.
+pub fn digits(text: &mut [u8], at: usize, n: usize) -> usize
+    requires { ⌜ ((k : ℕ) × ((0 < k) × ((n < 10 ^ k) × (at + k ≤ length (now text))))) ⌝ }
+    ensures { λ r. ⌜ Adds (numerals n) (now (text .entry)) at (now (text .exit)) r ⌝ }
+    ensures { λ r. ⌜ ((k : ℕ) → 0 < k → n < 10 ^ k → r ≤ at + k) ⌝ }
+{
+    if n < 10 {
+        return digit(text, at, n);
+    }
+    let last = digits(text, at, n / 10);
+    digit(text, last, n % 10)
+}
+
+pub fn word(text: &mut [u8], at: usize, w: &[u8]) -> usize
+    requires { ⌜ at + length (now w) ≤ length (now text) ⌝ }
+    ensures { λ r. ⌜ Adds (now (w .entry)) (now (text .entry)) at (now (text .exit)) r × (r ≡ at + length (now (w .entry))) ⌝ }
+{
+    let mut i = 0;
+    while i < w.len() {
+        text[at + i] = w[i];
+        i += 1;
+    }
+    at + i
+}
