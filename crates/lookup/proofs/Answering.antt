@@ -28,7 +28,7 @@ use Rattle.game.proofs.Whole.Unique.{smallest-unique}
 use Rattle.solver.specs.Rows.{ClaimsBy}
 use Rattle.solver.proofs.Labelling.{words-decided, claims-by, retold-claims, row-retold, facts-told}
 use Rattle.lookup.specs.Aims.{AimBy, Aimed, GoodBy, FoundBelow}
-use Rattle.lookup.specs.Rows.{Prepared}
+use Rattle.solver.specs.Labels.{Prepared}
 use Rattle.lookup.specs.Calls.{TableOf, TeamMove}
 
 -- until at rank 0, by the kind of the row

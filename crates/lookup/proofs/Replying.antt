@@ -27,7 +27,7 @@ use Rattle.game.proofs.Whole.Decided.{claims-win, unclaimed-opponents, reply-by
 use Rattle.solver.specs.Rows.{ClaimsBy}
 use Rattle.solver.proofs.Labelling.{claims-by, retold-claims, row-retold}
 use Rattle.lookup.specs.Aims.{CounterBy, FailedBy, CountersBy, FoundBelow}
-use Rattle.lookup.specs.Rows.{Prepared}
+use Rattle.solver.specs.Labels.{Prepared}
 use Rattle.lookup.specs.Calls.{OthersReply}
 use Rattle.lookup.proofs.Answering.{ready-table, ready-facts, row-facts, ready-decided, wins-claimed-by}
 

@@ -12,7 +12,7 @@ ghost use Rattle.block.specs.Valid.{Valid};
 ghost use Rattle.game.specs.Position as P;
 ghost use Rattle.game.specs.Model.{boundsOf};
 ghost use Rattle.lookup.specs.Aims.{NoPosition};
-ghost use Rattle.lookup.specs.Rows.{Prepared};
+ghost use Rattle.solver.specs.Labels.{Prepared};
 
 pub struct Words {
     pub left: usize,

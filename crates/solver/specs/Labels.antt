@@ -1,11 +1,13 @@
--- Sets of rows in a buffer, row by row.
+-- Sets of rows in a buffer, row by row, and the ranks of a strategic row from the sets of lower rows.
 use mathlib.Core.List.{List}
 use mathlib.Core.Path.{_≡_}
 use Prim.Native.Nat.{ℕ, _<_}
 use lib.ListN.{length}
+use Rattle.block.specs.Layout as L
 use Rattle.block.specs.Layout.{Block}
 use Rattle.game.specs.Buffers.{wordIn}
 use Rattle.game.specs.Model.{RowSet}
+use Rattle.solver.specs.Tables.{RanksOf}
 
 -- the rows below row i have their sets
 abbrev pub LowerSets : Block → ℕ → List ℕ → Type 0
@@ -16,3 +18,13 @@ pub record RowLabelled (b : Block) (i : ℕ) (sets sets′ : List ℕ) : Type 0 
   pub set : RowSet b i (wordIn sets′ i)
   pub others : (j : ℕ) → (j ≡ i → ⊥) → wordIn sets′ j ≡ wordIn sets j
   pub long : length sets′ ≡ length sets
+
+-- a row with the sets of the rows that it names, and its ranks
+pub record Prepared (b : Block) (i left right : ℕ) (ranks : List ℕ) : Type 0 where
+  pub left-set : L.propKind < L.kind b i → RowSet b (L.left b i) left
+  pub right-set : L.Binary (L.kind b i) → RowSet b (L.right b i) right
+  pub ranks-of : RanksOf b i left right ranks
+
+-- the ranks of row i, where it is strategic, with the left row's set in the buffer
+abbrev pub Ranked : Block → ℕ → List ℕ → List ℕ → Type 0
+Ranked b i sets ranks = L.Strategic (L.kind b i) → (right : ℕ) × Prepared b i (wordIn sets (L.left b i)) right ranks

@@ -12,7 +12,7 @@ ghost use Rattle.block.specs.Layout as L;
 ghost use Rattle.block.specs.Valid.{Valid};
 ghost use Rattle.game.specs.Buffers.{wordIn};
 ghost use Rattle.solver.specs.Calls.{LabelCall};
-ghost use Rattle.solver.specs.Labels.{LowerSets, RowLabelled};
+ghost use Rattle.solver.specs.Labels.{LowerSets, RowLabelled, Ranked};
 
 // The set of the row that row i names left; 0 where it names none.
 pub fn left_set(block: &[u8], sets: &[u8], i: usize) -> usize
@@ -39,12 +39,13 @@ pub fn right_set(block: &[u8], sets: &[u8], i: usize) -> usize
     0
 }
 
-// Stores the set of row i, where lower rows have theirs. The ranks are working room.
-fn label_row(block: &[u8], i: usize, sets: &mut [u8], ranks: &mut [u8])
+// Stores the set of row i, where lower rows have theirs. The ranks are working room, and hold those of a strategic row.
+pub fn label_row(block: &[u8], i: usize, sets: &mut [u8], ranks: &mut [u8])
     requires { ⌜ Valid (now block) ⌝ }
     requires { ⌜ (i < L.rows (now block)) × (128 ≤ length (now sets)) × (12288 ≤ length (now ranks)) ⌝ }
     requires { ⌜ LowerSets (now block) i (now sets) ⌝ }
     ensures { λ _. ⌜ RowLabelled (now (block .entry)) i (now (sets .entry)) (now (sets .exit)) ⌝ }
+    ensures { λ _. ⌜ Ranked (now (block .entry)) i (now (sets .exit)) (now (ranks .exit)) ⌝ }
     ensures { λ _. ⌜ length (now (ranks .exit)) ≡ length (now (ranks .entry)) ⌝ }
 {
     let left = left_set(block, sets, i);

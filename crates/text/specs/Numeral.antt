@@ -37,6 +37,10 @@ numeralsTo (suc k) n = cond (ltb n 10) (numeral n ∷ []) (numeralsTo k (n / 10)
 abbrev pub numerals : ℕ → List ℕ
 numerals n = numeralsTo n n
 
+-- a number and the byte after it
+abbrev pub field : ℕ → ℕ → List ℕ
+field n sep = numerals n ++ sep ∷ []
+
 -- the text t begins with the word w
 abbrev pub Starts : List ℕ → List ℕ → Type 0
 Starts w t = (rest : List ℕ) × (t ≡ w ++ rest)

@@ -4,10 +4,10 @@ ghost use mathlib.Core.Path.{_≡_};
 ghost use Prim.Native.Nat.{ℕ, _+_, _^_, _≤_, _<_};
 ghost use lib.ListN.{length};
 ghost use Rattle.text.specs.Adding.{Adds};
-ghost use Rattle.text.specs.Numeral.{numeral, numerals};
+ghost use Rattle.text.specs.Numeral.{numeral, numerals, field};
 
 // Puts a byte at a place of the text.
-pub fn put(text: &mut [u8], at: usize, x: u8) -> usize
+fn put(text: &mut [u8], at: usize, x: u8) -> usize
     requires { ⌜ at < length (now text) ⌝ }
     ensures { λ r. ⌜ Adds (x ∷ []) (now (text .entry)) at (now (text .exit)) r × (r ≡ at + 1) ⌝ }
 {
@@ -23,7 +23,7 @@ fn digit(text: &mut [u8], at: usize, d: usize) -> usize
 }
 
 // The digits of a number, for which there is room.
-pub fn digits(text: &mut [u8], at: usize, n: usize) -> usize
+fn digits(text: &mut [u8], at: usize, n: usize) -> usize
     requires { ⌜ ((k : ℕ) × ((0 < k) × ((n < 10 ^ k) × (at + k ≤ length (now text))))) ⌝ }
     ensures { λ r. ⌜ Adds (numerals n) (now (text .entry)) at (now (text .exit)) r ⌝ }
     ensures { λ r. ⌜ ((k : ℕ) → 0 < k → n < 10 ^ k → r ≤ at + k) ⌝ }
@@ -33,6 +33,16 @@ pub fn digits(text: &mut [u8], at: usize, n: usize) -> usize
     }
     let last = digits(text, at, n / 10);
     digit(text, last, n % 10)
+}
+
+// A number and the byte after it.
+pub fn field(text: &mut [u8], at: usize, n: usize, sep: u8) -> usize
+    requires { ⌜ ((k : ℕ) × ((0 < k) × ((n < 10 ^ k) × (at + k < length (now text))))) ⌝ }
+    ensures { λ r. ⌜ Adds (field n sep) (now (text .entry)) at (now (text .exit)) r ⌝ }
+    ensures { λ r. ⌜ ((k : ℕ) → 0 < k → n < 10 ^ k → r ≤ at + k + 1) ⌝ }
+{
+    let end = digits(text, at, n);
+    put(text, end, sep)
 }
 
 pub fn word(text: &mut [u8], at: usize, w: &[u8]) -> usize

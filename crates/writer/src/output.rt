@@ -1,6 +1,5 @@
 // The spellings of a field.
-use text::output::digits;
-use text::output::put;
+use text::output::field;
 use text::output::word;
 ghost use mathlib.Core.List.{_∷_, [], _++_};
 ghost use mathlib.Core.Path.{_≡_};
@@ -16,8 +15,7 @@ pub fn number(text: &mut [u8], at: usize, n: usize, sep: u8) -> usize
     ensures { λ r. ⌜ Adds (decimal n ++ sep ∷ []) (now (text .entry)) at (now (text .exit)) r ⌝ }
     ensures { λ r. ⌜ (r ≤ at + 4) × ((n < 100 → r ≤ at + 3) × (n < 10 → r ≤ at + 2)) ⌝ }
 {
-    let end = digits(text, at, n);
-    put(text, end, sep)
+    field(text, at, n, sep)
 }
 
 // A bound and a comma; an unlimited one is inf.

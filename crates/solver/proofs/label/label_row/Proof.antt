@@ -10,6 +10,7 @@ use Rattle.block.specs.Layout as L
 use Rattle.game.specs.Buffers.{wordIn}
 use Rattle.game.specs.Model.{RowSet}
 use Rattle.solver.specs.Tables.{RanksOf}
+use Rattle.solver.specs.Labels.{Prepared}
 use Rattle.solver.proofs.Labelling.{row-labelled}
 use Rattle.solver.proofs.label.label_row.Statement.{statement}
 use Rattle.solver.proofs.label.label_row.Tie as tie
@@ -52,23 +53,38 @@ ranked c strategic =
     (λ w. absurd (omega (arith, c .before .kind .ensures, w .0 .left, strategic)))
     (c .if1 .came)
 
+-- the words that the row names, as sets
+left-told : (c : tie.Joined1) → L.propKind < L.kind (c .before .before .before .before .before .before .before .before .before .args .block .now) (c .before .before .before .before .before .before .before .before .before .args .i) → RowSet (c .before .before .before .before .before .before .before .before .before .args .block .now) (L.left (c .before .before .before .before .before .before .before .before .before .args .block .now) (c .before .before .before .before .before .before .before .before .before .args .i)) (c .before .before .before .before .left-set .result)
+left-told c uses =
+    let start = c .before .before .before .before .before .before .before .before .before in
+    let b = start .args .block .now in
+    subst (RowSet b (L.left b (start .args .i))) (sym (c .before .before .before .before .left-set .ensures uses)) (start .pre .1 .1 (L.left b (start .args .i)) (start .pre .0 .row-fits (start .args .i) (start .pre .1 .0 .0) .left-lower uses))
+
+right-told : (c : tie.Joined1) → L.Binary (L.kind (c .before .before .before .before .before .before .before .before .before .args .block .now) (c .before .before .before .before .before .before .before .before .before .args .i)) → RowSet (c .before .before .before .before .before .before .before .before .before .args .block .now) (L.right (c .before .before .before .before .before .before .before .before .before .args .block .now) (c .before .before .before .before .before .before .before .before .before .args .i)) (c .before .before .right-set .result)
+right-told c uses =
+    let start = c .before .before .before .before .before .before .before .before .before in
+    let b = start .args .block .now in
+    subst (RowSet b (L.right b (start .args .i))) (sym (c .before .before .right-set .ensures uses)) (start .pre .1 .1 (L.right b (start .args .i)) (start .pre .0 .row-fits (start .args .i) (start .pre .1 .0 .0) .right-lower uses))
+
 returns : tie.Need-returns
 returns c =
-    let start = c .before .before .before .before .before .before .before .before .before .before .before .before .before .before .before in
-    let args = start .args in
-    let pre = start .pre in
+    let args = c .before .before .before .before .before .before .before .before .before .before .before .before .before .before .before .args in
+    let pre = c .before .before .before .before .before .before .before .before .before .before .before .before .before .before .before .pre in
     let b = args .block .now in
-    let row = pre .0 .row-fits (args .i) (pre .1 .0 .0) in
-    let left = c .before .before .before .before .before .before .before .before .before .before .left-set in
-    let right = c .before .before .before .before .before .before .before .before .right-set in
+    let at = c .before .before .before .before .before .before in
     let word = c .before .before .before .before .row-word in
     let stored = c .before .before .set-word .ensures in
-    let set : RowSet b (args .i) (word .result) =
-    row-labelled b (pre .0) (args .i) (pre .1 .0 .0) (left .result) (right .result)
-    (λ uses. subst (RowSet b (L.left b (args .i))) (sym (left .ensures uses)) (pre .1 .1 (L.left b (args .i)) (row .left-lower uses)))
-    (λ uses. subst (RowSet b (L.right b (args .i))) (sym (right .ensures uses)) (pre .1 .1 (L.right b (args .i)) (row .right-lower uses)))
-    (c .before .before .before .before .before .before .if1 .ranks) (word .result) (word .ensures) (ranked (c .before .before .before .before .before .before)) in
-    (record { set = subst (RowSet b (args .i)) (sym (stored .stored)) set; others = stored .others; long = stored .kept }, long (c .before .before .before .before .before .before))
+    let set : RowSet b (args .i) (word .result) = row-labelled b (pre .0) (args .i) (pre .1 .0 .0) (c .before .before .before .before .before .before .before .before .before .before .left-set .result) (c .before .before .before .before .before .before .before .before .right-set .result) (left-told at) (right-told at) (at .if1 .ranks) (word .result) (word .ensures) (ranked at) in (
+      record { set = subst (RowSet b (args .i)) (sym (stored .stored)) set; others = stored .others; long = stored .kept },
+      (
+        λ strategic.
+            let uses : L.propKind < L.kind b (args .i) = omega (arith, strategic .0) in
+            let lower = pre .0 .row-fits (args .i) (pre .1 .0 .0) .left-lower uses in
+            let same = c .before .before .before .before .before .before .before .before .before .before .left-set .ensures uses ∙ sym (stored .others (L.left b (args .i)) (λ e. omega arith)) in
+            (c .before .before .before .before .before .before .before .before .right-set .result, subst (λ (w : ℕ). Prepared b (args .i) w (c .before .before .before .before .before .before .before .before .right-set .result) (at .if1 .ranks)) same (record { left-set = left-told at; right-set = right-told at; ranks-of = ranked at strategic })),
+        long at,
+      ),
+    )
 
 pub label-row-spec : {M : Type 1} → statement M
 label-row-spec = tie.close (tie.spec left-set-requires right-set-requires kind-requires rank-row-requires row-word-requires set-word-requires same-length same-length-2 returns)
