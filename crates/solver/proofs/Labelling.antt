@@ -3,7 +3,7 @@ use mathlib.Core.Bool.{Bool, true, false, cond}
 use mathlib.Core.List.{List}
 use mathlib.Core.Logic.{_⊎_, _↔_, inl, inr}
 use mathlib.Core.Path.{_≡_, refl, sym, _∙_, ap, subst, transport}
-use Prim.Native.Nat.{ℕ, _/_, _%_, _^_, _≤_, _<_}
+use Prim.Native.Nat.{ℕ, _+_, _/_, _%_, _^_, _≤_, _<_}
 use native.Mathlib.Omega.{arith}
 use lib.Dec.{T, eqb, eqb→eq}
 use lib.ListN.{getD}
@@ -15,7 +15,7 @@ use Rattle.game.specs.Position.{Position, number, full}
 use Rattle.game.specs.Play.{Objective, next, always, until}
 use Rattle.game.specs.Table.{Table, never, rankAt}
 use Rattle.game.specs.Facts.{Claims, Facts}
-use Rattle.game.specs.Buffers.{rankIn}
+use Rattle.game.specs.Buffers.{rankIn, wordIn}
 use Rattle.game.specs.Model.{bit, byKind, RowTrue, RowSet, Says, arenaOf, objectiveOf, objectiveBy}
 use Rattle.game.proofs.Numbers.Decide.{eq?, eq-test}
 use Rattle.game.proofs.Local.Certificate.{RowsDecided}
@@ -24,6 +24,7 @@ use Rattle.game.proofs.Blocks.Passing.{valid-proper}
 use Rattle.game.proofs.Blocks.Formulas.{next-objective, always-objective, until-objective}
 use Rattle.game.proofs.Blocks.Labels.{set-tells, prop-set, not-set, or-set, table-says-set}
 use Rattle.game.proofs.Solving.Determined.{foundMoves, moves-found}
+use Rattle.solver.specs.Labels.{LowerSets, RowLabelled}
 use Rattle.solver.specs.Tables.{tableIn, RanksOf}
 use Rattle.solver.specs.Rows.{ClaimsBy, TrueBy}
 use Rattle.solver.proofs.Words.{strategic-stands, until-claims}
@@ -132,3 +133,11 @@ module _ (b : Block) (valid : Valid b) (i : ℕ) (inside : i < L.rows b) (left r
         go (no n₀) (no n₁) (no n₂) =
             let strategic : Strategic (L.kind b i) = (omega arith, valid .row-fits i inside .known) in
             strategic-set strategic (found strategic)
+
+-- one more row has its set
+pub lower-more : (b : Block) (i : ℕ) (l l′ : List ℕ) → LowerSets b i l → RowLabelled b i l l′ → LowerSets b (i + 1) l′
+lower-more b i l l′ lower one j small = go (eq? j i)
+  where
+    go : Dec (j ≡ i) → RowSet b j (wordIn l′ j)
+    go (yes e) = subst (λ (k : ℕ). RowSet b k (wordIn l′ k)) (sym e) (one .set)
+    go (no ne) = subst (RowSet b j) (sym (one .others j ne)) (lower j (omega arith))

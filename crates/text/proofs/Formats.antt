@@ -93,7 +93,7 @@ written (value x p k) b (field a i c h) g =
 abbrev Shown : Format → Block → Block → List ℕ → Type 0
 Shown f b₀ b t = Spells f b t × (length b ≡ blockBytes) × ((n : ℕ) → Avoids n f b → byteAt b n ≡ byteAt b₀ n)
 
-never : {A : Type 0} (r : Refusal) (b : Block) → refused r ≡ accepted b → A
+pub never : {A : Type 0} (r : Refusal) (b : Block) → refused r ≡ accepted b → A
 never r b e = let z : _≡_ {A = ℕ} 0 1 = cc in absurd (omega arith)
 
 stored : (b : Block) (p : Place) (v : ℕ) → length b ≡ blockBytes → InLayout p → at (store b p v) p ≡ v

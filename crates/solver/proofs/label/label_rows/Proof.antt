@@ -1,14 +1,11 @@
 -- `label_rows` labels one row after another. Assumes nothing.
-use mathlib.Core.List.{List}
-use mathlib.Core.Path.{_≡_, refl, sym, _∙_, subst}
+use mathlib.Core.Path.{_≡_, refl, _∙_}
 use Prim.Native.Nat.{ℕ, _+_, _-_, _≤_, _<_}
 use native.Mathlib.Omega.{arith}
 use lib.ListN.{length}
-use Rattle.block.specs.Layout.{Block}
 use Rattle.game.specs.Buffers.{wordIn}
-use Rattle.game.specs.Model.{RowSet}
-use Rattle.game.proofs.Numbers.Decide.{eq?}
-use Rattle.solver.specs.Labels.{LowerSets, RowLabelled}
+use Rattle.solver.specs.Labels.{LowerSets}
+use Rattle.solver.proofs.Labelling.{lower-more}
 use Rattle.solver.proofs.label.label_rows.Statement.{statement}
 use Rattle.solver.proofs.label.label_rows.Tie as tie
 
@@ -32,14 +29,6 @@ add-i c = omega arith
 
 loop-less : tie.Need-loop-less Inv-loop μ-loop
 loop-less c = omega arith
-
--- one more row
-lower-more : (b : Block) (i : ℕ) (l l′ : List ℕ) → LowerSets b i l → RowLabelled b i l l′ → LowerSets b (i + 1) l′
-lower-more b i l l′ lower one j small = go (eq? j i)
-  where
-    go : Dec (j ≡ i) → RowSet b j (wordIn l′ j)
-    go (yes e) = subst (λ (k : ℕ). RowSet b k (wordIn l′ k)) (sym e) (one .set)
-    go (no ne) = subst (RowSet b j) (sym (one .others j ne)) (lower j (omega arith))
 
 loop-again : tie.Need-loop-again Inv-loop μ-loop
 loop-again c =

@@ -1,0 +1,76 @@
+// The lines of all rows, each solved once from the sets of lower rows.
+use crate::lines::list_line;
+use crate::lines::set_line;
+use crate::plans::plan_lines;
+use block::layout;
+use game::buffers;
+use solver::choose;
+use solver::label;
+ghost use mathlib.Core.List.{List};
+ghost use mathlib.Core.Path.{_≡_};
+ghost use Prim.Native.Nat.{ℕ, _+_, _≤_, _<_};
+ghost use lib.ListN.{length, take};
+ghost use Rattle.block.specs.Layout as L;
+ghost use Rattle.block.specs.Valid.{Valid};
+ghost use Rattle.text.specs.Adding.{Adds};
+ghost use Rattle.solver.specs.Calls.{setsBytes, roomBytes, movesBytes, RowTable};
+ghost use Rattle.solver.specs.Labels.{LowerSets, RowLabelled, Ranked};
+ghost use Rattle.report.specs.Call.{listingBytes};
+ghost use Rattle.report.specs.Listing.{RowListed, Listed};
+
+// The table of a strategic row, whose ranks are there.
+fn row_table(block: &[u8], i: usize, sets: &[u8], ranks: &[u8], moves: &mut [u8])
+    requires { ⌜ Valid (now block) ⌝ }
+    requires { ⌜ (i < L.rows (now block)) × L.Strategic (L.kind (now block) i) ⌝ }
+    requires { ⌜ (length (now sets) ≡ setsBytes) × (length (now ranks) ≡ roomBytes) × (length (now moves) ≡ movesBytes) ⌝ }
+    requires { ⌜ Ranked (now block) i (now sets) (now ranks) ⌝ }
+    ensures { λ _. ⌜ RowTable (now (block .entry)) i (now (ranks .entry)) (now (moves .exit)) ⌝ }
+{
+    let left = label::left_set(block, sets, i);
+    choose::fill_moves(block, i, left, ranks, moves);
+}
+
+// The lines of row i, where lower rows have their sets; its own is stored.
+fn row_lines(
+    block: &[u8],
+    i: usize,
+    sets: &mut [u8],
+    ranks: &mut [u8],
+    moves: &mut [u8],
+    out: &mut [u8],
+    at: usize,
+) -> usize
+    requires { ⌜ Valid (now block) × (i < L.rows (now block)) ⌝ }
+    requires { ⌜ (length (now sets) ≡ setsBytes) × (length (now ranks) ≡ roomBytes) × (length (now moves) ≡ movesBytes) × (at + 1015 ≤ length (now out)) ⌝ }
+    requires { ⌜ LowerSets (now block) i (now sets) ⌝ }
+    ensures { λ _. ⌜ RowLabelled (now (block .entry)) i (now (sets .entry)) (now (sets .exit)) ⌝ }
+    ensures { λ _. ⌜ (length (now (ranks .exit)) ≡ roomBytes) × (length (now (moves .exit)) ≡ movesBytes) ⌝ }
+    ensures { λ r. ⌜ ((lines : List ℕ) × (RowListed (now (block .entry)) i lines × Adds lines (now (out .entry)) at (now (out .exit)) r)) × (r ≤ at + 1015) ⌝ }
+{
+    label::label_row(block, i, sets, ranks);
+    let set = buffers::word_at(sets, i);
+    let plans = set_line(out, at, i, set);
+    if layout::kind(block, i) < 3 {
+        return plans;
+    }
+    row_table(block, i, sets, ranks, moves);
+    plan_lines(block, i, set, ranks, moves, out, plans)
+}
+
+// The listing of a job, from the front of the buffer.
+pub fn job_lines(block: &[u8], out: &mut [u8], ranks: &mut [u8], moves: &mut [u8]) -> usize
+    requires { ⌜ Valid (now block) ⌝ }
+    requires { ⌜ (length (now out) ≡ listingBytes) × (length (now ranks) ≡ roomBytes) × (length (now moves) ≡ movesBytes) ⌝ }
+    ensures { λ r. ⌜ Listed (now (block .entry)) (take r (now (out .exit))) × (r ≤ listingBytes) ⌝ }
+    ensures { λ _. ⌜ (length (now (ranks .exit)) ≡ roomBytes) × (length (now (moves .exit)) ≡ movesBytes) ⌝ }
+{
+    let mut sets = [0u8; 128];
+    let n = layout::rows(block);
+    let mut next = list_line(out, 0, n);
+    let mut i = 0;
+    while i < n {
+        next = row_lines(block, i, &mut sets, ranks, moves, out, next);
+        i += 1;
+    }
+    next
+}
