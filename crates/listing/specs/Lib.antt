@@ -1,0 +1,2 @@
+-- What reading the input comes to.
+pub mod Input

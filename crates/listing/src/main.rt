@@ -1,0 +1,53 @@
+// Reads the text of a job on standard input and prints its listing. It only moves bytes: what is printed is made by `report`.
+use libc::STDIN_FILENO;
+use libc::STDOUT_FILENO;
+ghost use Prim.Native.Nat.{_≤_};
+ghost use lib.ListN.{length};
+ghost use Rattle.listing.specs.Input.{Within};
+
+// One byte more than a text may have, so that a longer one is seen to be too long, also one that never ends.
+const INPUT_BYTES: usize = 32769;
+
+// How much of the input was read, all of it or as much as the buffer holds; or that a read failed.
+pub enum Input {
+    Bytes(usize),
+    Failed,
+}
+
+// Reads until the buffer is full or the input ends.
+fn read_input(text: &mut [u8]) -> Input
+    ensures { λ r. ⌜ Within (length (now (text .exit))) r ⌝ }
+{
+    let mut n = 0;
+    while n < text.len() {
+        let got = libc::read(STDIN_FILENO, &mut text[n..]);
+        if got < 0 {
+            return Input::Failed;
+        }
+        let more = io::count(got, &text[n..]);
+        if more == 0 {
+            return Input::Bytes(n);
+        }
+        n += more;
+    }
+    Input::Bytes(n)
+}
+
+// Prints what is listed for the text, or says that it cannot.
+fn print_listing(text: &[u8]) {
+    let mut out = [0u8; 32768];
+    let mut ranks = [0u8; 12288];
+    let mut moves = [0u8; 6144];
+    let n = report::listing(text, &mut out, &mut ranks, &mut moves);
+    if !io::write_all(STDOUT_FILENO, &out[..n]) {
+        os::fail(b"standard output");
+    }
+}
+
+fn main() {
+    let mut text = [0u8; INPUT_BYTES];
+    match read_input(&mut text) {
+        Input::Bytes(n) => print_listing(&text[..n]),
+        Input::Failed => os::fail(b"standard input"),
+    }
+}
