@@ -27,9 +27,10 @@ static const struct command commands[] = {
     {"dot", 1, false, draw},
 };
 
-static enum status usage(const char *reason, const char *what)
+/* The words given are not repeated, since they may hold any bytes. */
+static enum status usage(const char *reason)
 {
-    fprintf(stderr, "desk: %s%s\n", reason, what);
+    fprintf(stderr, "desk: %s\n", reason);
     fprintf(stderr, "usage: desk check | list | table ROW | move ROW STATE STOCK.. | "
                     "reply ROW STATE STOCK.. MOVE | dot ROW < job\n");
     return FAILED;
@@ -67,11 +68,11 @@ static enum status parse_numbers(const struct command *command, int count, char 
     size_t most = command->numbers + (command->stocks ? RBATL_MAX_RESOURCES : 0);
 
     if (count < 0 || (size_t)count < least || (size_t)count > most)
-        return usage("wrong count of numbers for ", command->name);
+        return usage("wrong count of numbers");
     numbers->count = (size_t)count;
     for (size_t i = 0; i < numbers->count; i++)
         if (!parse_number(words[i], &numbers->at[i]))
-            return usage("not a number from 0 to 255: ", words[i]);
+            return usage("not a number from 0 to 255 without leading zeros");
     return DONE;
 }
 
@@ -93,17 +94,17 @@ static enum status run(int argc, char **argv)
     struct numbers numbers = {{0}, 0};
 
     if (argc < 2)
-        return usage("no command", "");
+        return usage("no command");
     const struct command *command = find_command(argv[1]);
     if (command == NULL)
-        return usage("unknown command: ", argv[1]);
+        return usage("unknown command");
     enum status status = parse_numbers(command, argc - 2, argv + 2, &numbers);
     if (status == DONE)
         status = read_job(block);
     if (status != DONE)
         return status;
     if (command->stocks && numbers.count != command->numbers + job_resources(block))
-        return usage("one stock is due for each resource of the job: ", command->name);
+        return usage("not one stock for each resource of the job");
     status = command->run(block, &numbers);
     return status == DONE ? finish() : status;
 }
