@@ -8,7 +8,7 @@
 enum status { DONE = 0, REFUSED = 1, FAILED = 2 };
 
 /* The most numbers that a command takes: row, state, two stocks and a move. */
-#define MAX_NUMBERS (4 + 1)
+#define MAX_NUMBERS 5
 
 /* The numbers that a command was given. */
 struct numbers {

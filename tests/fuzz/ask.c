@@ -47,6 +47,11 @@ unsigned lent_count(enum entry entry)
     return shapes[entry].buffers;
 }
 
+size_t lent_length(enum entry entry, unsigned which)
+{
+    return shapes[entry].lengths[which];
+}
+
 static int32_t call(const struct request *r, const struct lent *in, const struct lent *a,
                     const struct lent *b)
 {

@@ -46,8 +46,9 @@ struct view {
 /* The name of a call, without its prefix. */
 const char *entry_name(enum entry entry);
 
-/* How many buffers beside the input a call is lent. */
+/* How many buffers beside the input a call is lent, and their right lengths. */
 unsigned lent_count(enum entry entry);
+size_t lent_length(enum entry entry, unsigned which);
 
 /* Ends the run with a message unless the fact holds. */
 void expect(const struct run *run, bool fact, const char *call, const char *what);

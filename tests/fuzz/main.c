@@ -13,21 +13,27 @@
 /* Seconds between two lines of progress. */
 #define PROGRESS 10
 
+/* Not a local, since a sanitizer's last word needs it. */
 static struct run run;
 
 /* The case can be repeated by its seed and number. */
-static void say_case(void)
+static void say_case(const struct run *at)
 {
-    fprintf(stderr, "in case %" PRIu64 " of seed %" PRIu64 "\n", run.number, run.seed);
+    fprintf(stderr, "in case %" PRIu64 " of seed %" PRIu64 "\n", at->number, at->seed);
+}
+
+/* What a sanitizer ends the run with. */
+static void on_death(void)
+{
+    say_case(&run);
 }
 
 void expect(const struct run *at, bool fact, const char *call, const char *what)
 {
-    (void)at;
     if (fact)
         return;
     fprintf(stderr, "FOUND: rbatl_%s: %s\n", call, what);
-    say_case();
+    say_case(at);
     exit(1);
 }
 
@@ -63,7 +69,7 @@ int main(int argc, char **argv)
 
     run.seed = number_of(argc > 2 ? argv[2] : "1");
     open_slots();
-    __sanitizer_set_death_callback(say_case);
+    __sanitizer_set_death_callback(on_death);
     for (run.number = 0; run.number < cases; run.number++) {
         time_t now = time(NULL);
         if ((uint64_t)(now - start) >= seconds)

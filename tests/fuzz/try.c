@@ -6,6 +6,9 @@
 /* The longest text, one byte more, and what an edit puts in. */
 #define TEXT_ROOM (RBATL_TEXT_BYTES + 64)
 
+/* How many bytes too many a buffer has at most. */
+#define MAX_SKEW 4096
+
 static struct request request_of(enum entry entry, const uint8_t *block, unsigned row)
 {
     struct request request = {.entry = entry, .input = block, .input_length = RBATL_BLOCK_BYTES};
@@ -283,39 +286,64 @@ static long random_skew(struct random *random, size_t length)
         return -(long)length;
     default:
         return one_in(random, 2) ? -(long)within(random, 1, (unsigned)length)
-                                 : (long)within(random, 1, 4096);
+                                 : (long)within(random, 1, MAX_SKEW);
     }
 }
 
-/* Each call with a wrong length, of the input or of another buffer. */
+/* A request with one wrong length, of a block or of another buffer. A text may
+ * have any length up to the limit, which damage tries. */
+static struct request misfit(struct run *run, enum entry entry, const uint8_t *input,
+                             size_t length)
+{
+    struct request request = request_of(entry, input, draw_byte(&run->random));
+    unsigned buffers = lent_count(entry);
+    unsigned which = (unsigned)below(&run->random, buffers + (entry != READ));
+
+    request.input_length = length;
+    if (which < buffers)
+        request.skew[which] = random_skew(&run->random, lent_length(entry, which));
+    else
+        request.input_length += (size_t)random_skew(&run->random, length);
+    return request;
+}
+
+/* Each call with a wrong length; that it is refused with 1 is checked there. */
 static void try_lengths(struct run *run, const uint8_t *block, const uint8_t *text, size_t length)
 {
     static struct outcome outcome;
-    static uint8_t input[2 * RBATL_BLOCK_BYTES + 4096];
+    static uint8_t input[2 * RBATL_BLOCK_BYTES + MAX_SKEW];
 
     memcpy(input, block, RBATL_BLOCK_BYTES);
-    for (unsigned entry = 0; entry < ENTRIES; entry++) {
-        struct request request = request_of((enum entry)entry, input, draw_byte(&run->random));
-        unsigned buffers = lent_count(request.entry), which;
-
-        if (request.entry == READ) {
-            request.input = text;
-            request.input_length = length;
-        }
-        which = (unsigned)below(&run->random, buffers + (request.entry != READ));
-        if (which < buffers)
-            request.skew[which] = random_skew(&run->random, RBATL_STATES_BYTES);
-        else
-            request.input_length = (size_t)(RBATL_BLOCK_BYTES +
-                                            random_skew(&run->random, RBATL_BLOCK_BYTES));
+    for (unsigned i = 0; i < ENTRIES; i++) {
+        enum entry entry = (enum entry)i;
+        struct request request = entry == READ
+                                     ? misfit(run, entry, text, length)
+                                     : misfit(run, entry, input, RBATL_BLOCK_BYTES);
         ask(run, &request, &outcome);
     }
+}
+
+static void try_damage(struct run *run, const uint8_t *block, const uint8_t *text, size_t length)
+{
+    static struct outcome outcome;
+    static uint8_t damaged_text[2 * TEXT_ROOM];
+    uint8_t damaged[RBATL_BLOCK_BYTES];
+
+    memcpy(damaged_text, text, length);
+    try_damaged_text(run, damaged_text, length);
+    memcpy(damaged, block, sizeof damaged);
+    damage_block(&run->random, damaged);
+    int32_t answer = ask_block(run, CHECK, damaged, 0, &outcome);
+    if (answer < 0)
+        try_refused(run, damaged, answer);
+    else
+        try_rows(run, damaged);
 }
 
 void try_case(struct run *run)
 {
     static struct outcome outcome;
-    static uint8_t text[2 * TEXT_ROOM];
+    static uint8_t text[TEXT_ROOM];
     uint8_t block[RBATL_BLOCK_BYTES];
 
     random_job(&run->random, block);
@@ -323,19 +351,6 @@ void try_case(struct run *run)
     size_t length = try_text(run, block, text);
     try_rows(run, block);
     try_lengths(run, block, text, length);
-    for (unsigned i = 0; i < 4; i++) {
-        static uint8_t copy[2 * TEXT_ROOM];
-        memcpy(copy, text, length);
-        try_damaged_text(run, copy, length);
-    }
-    for (unsigned i = 0; i < 4; i++) {
-        uint8_t damaged[RBATL_BLOCK_BYTES];
-        memcpy(damaged, block, sizeof damaged);
-        damage_block(&run->random, damaged);
-        int32_t answer = ask_block(run, CHECK, damaged, 0, &outcome);
-        if (answer < 0)
-            try_refused(run, damaged, answer);
-        else
-            try_rows(run, damaged);
-    }
+    for (unsigned i = 0; i < 4; i++)
+        try_damage(run, block, text, length);
 }
