@@ -1,12 +1,35 @@
 /* rbatl.h: resource-bounded alternating-time temporal logic on small jobs.
  *
- * A job is a block of RBATL_BLOCK_BYTES bytes: agents, resources, states,
- * actions with their costs, next states, and formula rows. Each call answers
- * a value from 0, or minus the number of a refusal (enum rbatl_refusal).
+ * A job has agents, resources, states, actions with their costs, next states,
+ * and formula rows. It comes as a text, which rbatl_read turns into a block of
+ * RBATL_BLOCK_BYTES bytes; every other call starts from the block.
+ *
+ *     #include "rbatl.h"
+ *     #include <stdio.h>
+ *     int main(void) {
+ *         static const char text[] = "job,1,1,2,1,3\nstate,0,0\nacts,0,0,2,0,2\ngo,0,0,0\n"
+ *             "go,0,1,1\nstate,1,1\nacts,1,0,1,0\ngo,1,0,1\nprop,0\nnot,0\nuntil,1,2,1,0\n";
+ *         static uint8_t block[RBATL_BLOCK_BYTES], sets[RBATL_SETS_BYTES], room[RBATL_ROOM_BYTES];
+ *         int32_t n = rbatl_read((const uint8_t *)text, sizeof text - 1, block, sizeof block);
+ *         if (n == 0) n = rbatl_label(block, sizeof block, sets, sizeof sets, room, sizeof room);
+ *         if (n < 0) return printf("refused, %d\n", (int)-n), 1;
+ *         return printf("row 2 is %s in state 0\n", sets[4 * 2] & 1 ? "true" : "false") < 0;
+ *     }
+ *
+ * Each call answers a value from 0, or minus the number of a refusal (enum
+ * rbatl_refusal). A refused call leaves every buffer as it was, except working
+ * room. Of several refusals the first in this order is answered: RBATL_LENGTH;
+ * then those of the block, RBATL_SIZES to RBATL_UNUSED, each tried over the
+ * whole block; then RBATL_ROW_CHOICE, RBATL_POSITION, RBATL_WRONG_SIDE and
+ * RBATL_MOVE. A text has an order of its own (rbatl_read).
+ *
+ * Working room may hold anything before a call and holds zeros after it, refused
+ * or not, except that RBATL_LENGTH leaves it as it was. No call keeps anything
+ * from one call to the next, and none allocates.
  *
  * What the caller owes, since no call can test it:
  * - a pointer is not null, also where its length is 0, and is valid for as
- *   many bytes as the length beside it says;
+ *   many bytes as the length beside it says; it need not be aligned;
  * - a buffer that a call may write overlaps no other buffer of that call;
  * - nobody else writes a buffer while the call runs.
  */
@@ -25,8 +48,11 @@ extern "C" {
 #define RBATL_BLOCK_BYTES 2469
 #define RBATL_TEXT_BYTES 32768
 
-/* Lengths of the sets of all rows, of a row's ranks and moves, and of working
- * room. */
+/* The most positions of a row: 24 states with 16 stocks of each resource. */
+#define RBATL_MAX_POSITIONS 6144
+
+/* Lengths of the sets of all rows, four bytes each; of a row's ranks and moves,
+ * two bytes and one for each position; and of working room. */
 #define RBATL_SETS_BYTES 128
 #define RBATL_RANKS_BYTES 12288
 #define RBATL_MOVES_BYTES 6144
@@ -89,15 +115,27 @@ enum rbatl_refusal {
 
 /* Checks a block: 0 if it holds a job; -RBATL_LENGTH for any other length;
  * else minus the first of RBATL_SIZES, RBATL_STATE, RBATL_NEXT, RBATL_ROW and
- * RBATL_UNUSED whose condition holds anywhere in the block. */
+ * RBATL_UNUSED whose condition holds anywhere in the block. Its bytes are
+ * - 0 to 4: the numbers of agents, resources, states, propositions and rows;
+ * - 5 + s: the propositions true in state s, bit k for proposition k;
+ * - 29 + 3s + a: the number of actions of agent a in state s;
+ * - 101 + 24s + 8a + 2k + j: what action k of agent a there costs of resource j;
+ * - 677 + 64s + a0 + 4 * a1 + 16 * a2: the next state by the agents' actions;
+ * - 2213 + 8i on: row i as kind, left, right, coalition, bound of each of two
+ *   resources, 0, 0. The kinds are 0 prop, 1 not, 2 or, 3 next, 4 always,
+ *   5 until; left and right are lower rows, or left the proposition; the
+ *   coalition has bit a for agent a.
+ * Every place that the job does not use is 0. Action 0 is idle. */
 int32_t rbatl_check(const uint8_t *block, size_t block_len);
 
 /* Reads a text into a block of RBATL_BLOCK_BYTES: 0, and the block is the job
  * of the text; -RBATL_LENGTH for a block of any other length or a text above
  * RBATL_TEXT_BYTES; else minus the first refusal that the fields meet from
- * left to right and line by line, each tried for its form (RBATL_FORM) and
- * then for its value (RBATL_SIZES, RBATL_STATE, RBATL_NEXT, RBATL_ROW). An
- * empty bound is unlimited. A refused call leaves the block as it was. */
+ * left to right and line by line, each tried for its form (RBATL_FORM), the
+ * comma or line end after it included, and then for its value (RBATL_SIZES,
+ * RBATL_STATE, RBATL_NEXT, RBATL_ROW). A bound is a number, `inf`, or empty,
+ * which is unlimited. The text needs no byte 0 at its end, and has none. A
+ * refused call leaves the block as it was. */
 int32_t rbatl_read(const uint8_t *text, size_t text_len, uint8_t *block, size_t block_len);
 
 /* Writes the text of a block into a buffer of RBATL_TEXT_BYTES: the length of
@@ -107,10 +145,13 @@ int32_t rbatl_read(const uint8_t *text, size_t text_len, uint8_t *block, size_t 
 int32_t rbatl_write(const uint8_t *block, size_t block_len, uint8_t *text, size_t text_len);
 
 /* Labels the rows of a block: 0, and word i of the sets has bit s exactly where
- * row i is true in state s; words past the last row are 0. The sets are
- * RBATL_SETS_BYTES: 32 words of four bytes, lowest byte first. The room is
- * RBATL_ROOM_BYTES of working room, whatever they hold, and holds zeros
- * afterwards. -RBATL_LENGTH for a block, sets or a room of any other length,
+ * row i is true in state s; words past the last row are 0. A row of kind next,
+ * always or until is true where its coalition has a strategy, paid from the
+ * bounds along every play, that makes left true at the second state, left true
+ * at every state, or right true at some state with left true at all earlier
+ * ones. Only the coalition's costs count. The sets are RBATL_SETS_BYTES: 32
+ * words of four bytes, lowest byte first. The room is RBATL_ROOM_BYTES of
+ * working room. -RBATL_LENGTH for a block, sets or a room of any other length,
  * and then nothing changes; else what rbatl_check answers on the block, and the
  * sets stay as they were. */
 int32_t rbatl_label(const uint8_t *block, size_t block_len, uint8_t *sets, size_t sets_len,
@@ -122,13 +163,19 @@ int32_t rbatl_label(const uint8_t *block, size_t block_len, uint8_t *sets, size_
  * unlimited or absent) its number is (state * c0 + stock 0) * c1 + stock 1.
  * The ranks are RBATL_RANKS_BYTES: words of two bytes, lowest byte first; the
  * moves are RBATL_MOVES_BYTES. Past the last position both are 0. A rank is
- * - until: the fewest moves within which the coalition can enforce the row;
- * - always: the fewest within which its opponents can make left false;
+ * - until: the fewest moves within which the coalition can enforce the row, 0
+ *   where right holds;
+ * - always: the fewest within which its opponents, knowing its present move
+ *   each time, can make left false, 0 where it is false;
  * - next: 1 where the coalition can;
- * and RBATL_NEVER where there is none. The move is RBATL_NO_MOVE where the
- * coalition does not win. -RBATL_LENGTH for a block, ranks or moves of any
- * other length; else what rbatl_check answers on the block; else
- * -RBATL_ROW_CHOICE. A refused call leaves both buffers as they were. */
+ * and RBATL_NEVER where there is none; in always the coalition wins there. The
+ * move (its number: rbatl_move) is RBATL_NO_MOVE where the coalition does not
+ * win, and 0 at rank 0 of until. Else it is the smallest that the stock pays
+ * whose outcomes, whatever the reply, all have a lower rank (until), all have
+ * rank RBATL_NEVER (always), or all satisfy left (next). -RBATL_LENGTH for a
+ * block, ranks or moves of any other length; else what rbatl_check answers on
+ * the block; else -RBATL_ROW_CHOICE. A refused call leaves both buffers as they
+ * were. */
 int32_t rbatl_table(const uint8_t *block, size_t block_len, uint8_t row, uint8_t *ranks,
                     size_t ranks_len, uint8_t *moves, size_t moves_len);
 
@@ -136,27 +183,27 @@ int32_t rbatl_table(const uint8_t *block, size_t block_len, uint8_t row, uint8_t
  * move of the row's table. A move has the number a0 + 4 * a1 + 16 * a2 of its
  * agents' actions, with 0 for agents outside the coalition. A stock is 0 where
  * its resource is unlimited or absent. The room is RBATL_ROOM_BYTES of working
- * room, whatever they hold, and holds zeros afterwards. -RBATL_LENGTH for a
- * block or a room of any other length, and then nothing changes; else what
- * rbatl_check answers on the block; else the first of -RBATL_ROW_CHOICE,
- * -RBATL_POSITION and -RBATL_WRONG_SIDE that applies. */
+ * room. -RBATL_LENGTH for a block or a room of any other length, and then
+ * nothing changes; else what rbatl_check answers on the block; else the first
+ * of -RBATL_ROW_CHOICE, -RBATL_POSITION and -RBATL_WRONG_SIDE that applies. */
 int32_t rbatl_move(const uint8_t *block, size_t block_len, uint8_t row, uint8_t state,
                    uint8_t stock0, uint8_t stock1, uint8_t *room, size_t room_len);
 
 /* The reply of all other agents to the coalition's move at a position where the
  * coalition does not win: against these replies no strategy within the stock
- * makes the row true. A reply has 0 for the coalition's agents. Otherwise as
- * rbatl_move, with -RBATL_MOVE last of the refusals. */
+ * makes the row true. It is the smallest whose outcome the coalition does not
+ * win (until), has a lower rank (always), or fails left (next); and 0 where the
+ * state alone makes the row false. A reply has 0 for the coalition's agents.
+ * Otherwise as rbatl_move, with -RBATL_MOVE last of the refusals. */
 int32_t rbatl_reply(const uint8_t *block, size_t block_len, uint8_t row, uint8_t state,
                     uint8_t stock0, uint8_t stock1, uint8_t move, uint8_t *room, size_t room_len);
 
 /* Lists the states in which a row, of any kind, is true: their count, and the
  * list of RBATL_STATES_BYTES holds them in rising order and zeros after them.
- * The room is RBATL_ROOM_BYTES of working room, whatever they hold, and holds
- * zeros afterwards. -RBATL_LENGTH for a block, a list or a room of any other
- * length, and then nothing changes; else what rbatl_check answers on the block;
- * else -RBATL_ROW_CHOICE for a row that does not exist. A refused call leaves
- * the list as it was. */
+ * The room is RBATL_ROOM_BYTES of working room. -RBATL_LENGTH for a block, a
+ * list or a room of any other length, and then nothing changes; else what
+ * rbatl_check answers on the block; else -RBATL_ROW_CHOICE for a row that does
+ * not exist. A refused call leaves the list as it was. */
 int32_t rbatl_states(const uint8_t *block, size_t block_len, uint8_t row, uint8_t *list,
                      size_t list_len, uint8_t *room, size_t room_len);
 

@@ -11,6 +11,7 @@ pub mod full;
 pub mod games;
 pub mod jobs;
 pub mod layout;
+pub mod listing;
 pub mod lookup;
 pub mod play;
 pub mod random;

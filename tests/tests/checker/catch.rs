@@ -1,53 +1,13 @@
-//! Catch: its listing and its starred values, and the sensor network of
+//! Catch: its starred values, and the sensor network of
 //! document 003.
 
 use super::*;
 use rbatl_tests::checker::splits;
 use rbatl_tests::checker::NEVER;
 use rbatl_tests::{block, jobs};
-use std::fmt::Write;
-
-const LISTING: &str = "\
-list,6
-set,0,1,4
-set,1,2,3
-set,2,3,7
-set,3,2,6
-plan,3,1,1,1
-plan,3,2,0,0
-set,4,3,7
-plan,4,0,2,1
-plan,4,1,1,1
-plan,4,2,0,0
-set,5,2,6
-plan,5,1,1,1
-plan,5,2,0,0
-";
 
 fn catch() -> Solved {
     Solved::of(&jobs::load("catch.job"))
-}
-
-/// The listing that document 01 prints.
-fn listing(job: &Solved) -> String {
-    let mut text = format!("list,{}\n", job.sets.len());
-    for (row, set) in job.sets.iter().enumerate() {
-        writeln!(text, "set,{row},{},{set}", set.count_ones()).unwrap();
-        let Some(table) = job.table(row) else {
-            continue;
-        };
-        for state in (0..job.structure.states).filter(|state| set >> state & 1 == 1) {
-            let position = table.full_stock(state);
-            let (rank, mv) = (table.ranks[position], table.moves[position]);
-            writeln!(text, "plan,{row},{state},{rank},{mv}").unwrap();
-        }
-    }
-    text
-}
-
-#[test]
-fn catch_has_its_listing() {
-    assert_eq!(listing(&catch()), LISTING);
 }
 
 #[test]

@@ -2,6 +2,7 @@
 //! what document 01 says of Catch.
 
 mod catch;
+mod listing;
 mod outright;
 mod random;
 

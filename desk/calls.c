@@ -1,0 +1,50 @@
+/* The library's calls, with the buffers that they are lent. */
+#include "desk.h"
+
+#include <errno.h>
+#include <stdio.h>
+#include <string.h>
+
+enum status read_job(uint8_t *block)
+{
+    /* One byte more than a text may have shows that it is too long, also
+     * where it never ends. */
+    uint8_t text[RBATL_TEXT_BYTES + 1];
+
+    setvbuf(stdin, NULL, _IONBF, 0);
+    errno = 0;
+    size_t length = fread(text, 1, sizeof text, stdin);
+    if (ferror(stdin)) {
+        fprintf(stderr, "desk: cannot read the job: %s\n", strerror(errno));
+        return FAILED;
+    }
+    int32_t answer = rbatl_read(text, length, block, RBATL_BLOCK_BYTES);
+    return answer < 0 ? refuse(answer) : DONE;
+}
+
+enum status fill_table(const uint8_t *block, unsigned row, struct table *table)
+{
+    int32_t answer = rbatl_table(block, RBATL_BLOCK_BYTES, (uint8_t)row, table->ranks,
+                                 sizeof table->ranks, table->moves, sizeof table->moves);
+    return answer < 0 ? refuse(answer) : DONE;
+}
+
+unsigned rank_at(const struct table *table, size_t position)
+{
+    const uint8_t *rank = table->ranks + 2 * position;
+    return rank[0] | (unsigned)rank[1] << 8;
+}
+
+enum status find_states(const uint8_t *block, unsigned row, uint32_t *set)
+{
+    uint8_t states[RBATL_STATES_BYTES], room[RBATL_ROOM_BYTES];
+
+    int32_t answer = rbatl_states(block, RBATL_BLOCK_BYTES, (uint8_t)row, states, sizeof states,
+                                  room, sizeof room);
+    if (answer < 0)
+        return refuse(answer);
+    *set = 0;
+    for (int32_t i = 0; i < answer; i++)
+        *set |= UINT32_C(1) << states[i];
+    return DONE;
+}

@@ -1,0 +1,47 @@
+/* What the commands of the desk share. */
+#ifndef DESK_H
+#define DESK_H
+
+#include "job.h"
+
+/* The exit status of the program. */
+enum status { DONE = 0, REFUSED = 1, FAILED = 2 };
+
+/* The most numbers that a command takes: row, state, two stocks and a move. */
+#define MAX_NUMBERS 5
+
+/* The numbers that a command was given. */
+struct numbers {
+    uint8_t at[MAX_NUMBERS];
+    size_t count;
+};
+
+/* The table of a row, as rbatl_table fills it. */
+struct table {
+    uint8_t ranks[RBATL_RANKS_BYTES];
+    uint8_t moves[RBATL_MOVES_BYTES];
+};
+
+/* Reads the job on standard input into a block. */
+enum status read_job(uint8_t *block);
+
+/* Fills the table of a strategic row. */
+enum status fill_table(const uint8_t *block, unsigned row, struct table *table);
+
+unsigned rank_at(const struct table *table, size_t position);
+
+/* The states that satisfy a row as a set, bit s for state s. */
+enum status find_states(const uint8_t *block, unsigned row, uint32_t *set);
+
+/* Says on standard error why a call refused; the status for it. */
+enum status refuse(int32_t answer);
+
+/* The commands. Each prints on standard output. */
+enum status check(const uint8_t *block, const struct numbers *numbers);
+enum status list(const uint8_t *block, const struct numbers *numbers);
+enum status show_table(const uint8_t *block, const struct numbers *numbers);
+enum status show_move(const uint8_t *block, const struct numbers *numbers);
+enum status show_reply(const uint8_t *block, const struct numbers *numbers);
+enum status draw(const uint8_t *block, const struct numbers *numbers);
+
+#endif

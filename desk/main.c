@@ -1,0 +1,115 @@
+/* The desk: reads a job on standard input and answers about its rows.
+ *
+ * Exit status: 0 answered, 1 refused by the library, 2 wrong arguments, or
+ * input or output that failed. */
+#include "desk.h"
+
+#include <errno.h>
+#include <stdbool.h>
+#include <stdio.h>
+#include <string.h>
+
+/* A command takes some numbers and, between them, perhaps a stock for each
+ * resource of the job. */
+struct command {
+    const char *name;
+    size_t numbers;
+    bool stocks;
+    enum status (*run)(const uint8_t *block, const struct numbers *numbers);
+};
+
+static const struct command commands[] = {
+    {"check", 0, false, check},
+    {"list", 0, false, list},
+    {"table", 1, false, show_table},
+    {"move", 2, true, show_move},
+    {"reply", 3, true, show_reply},
+    {"dot", 1, false, draw},
+};
+
+/* The words given are not repeated, since they may hold any bytes. */
+static enum status usage(const char *reason)
+{
+    fprintf(stderr, "desk: %s\n", reason);
+    fprintf(stderr, "usage: desk check | list | table ROW | move ROW STATE STOCK.. | "
+                    "reply ROW STATE STOCK.. MOVE | dot ROW < job\n");
+    return FAILED;
+}
+
+static const struct command *find_command(const char *name)
+{
+    for (size_t i = 0; i < sizeof commands / sizeof commands[0]; i++)
+        if (strcmp(commands[i].name, name) == 0)
+            return &commands[i];
+    return NULL;
+}
+
+/* 0 to 255 without leading zeros, as in the text of a job. */
+static bool parse_number(const char *word, uint8_t *number)
+{
+    unsigned value = 0;
+    size_t length = strlen(word);
+
+    if (length < 1 || length > 3 || (length > 1 && word[0] == '0'))
+        return false;
+    for (size_t i = 0; i < length; i++) {
+        if (word[i] < '0' || word[i] > '9')
+            return false;
+        value = 10 * value + (unsigned)(word[i] - '0');
+    }
+    *number = (uint8_t)value;
+    return value <= UINT8_MAX;
+}
+
+static enum status parse_numbers(const struct command *command, int count, char **words,
+                                 struct numbers *numbers)
+{
+    size_t least = command->numbers + (command->stocks ? 1 : 0);
+    size_t most = command->numbers + (command->stocks ? RBATL_MAX_RESOURCES : 0);
+
+    if (count < 0 || (size_t)count < least || (size_t)count > most)
+        return usage("wrong count of numbers");
+    numbers->count = (size_t)count;
+    for (size_t i = 0; i < numbers->count; i++)
+        if (!parse_number(words[i], &numbers->at[i]))
+            return usage("not a number from 0 to 255 without leading zeros");
+    return DONE;
+}
+
+/* What was printed must have come out. */
+static enum status finish(void)
+{
+    errno = 0;
+    bool failed = ferror(stdout) != 0;
+    if (fclose(stdout) != 0 || failed) {
+        fprintf(stderr, "desk: cannot write: %s\n", errno ? strerror(errno) : "output failed");
+        return FAILED;
+    }
+    return DONE;
+}
+
+static enum status run(int argc, char **argv)
+{
+    uint8_t block[RBATL_BLOCK_BYTES];
+    struct numbers numbers = {{0}, 0};
+
+    if (argc < 2)
+        return usage("no command");
+    const struct command *command = find_command(argv[1]);
+    if (command == NULL)
+        return usage("unknown command");
+    enum status status = parse_numbers(command, argc - 2, argv + 2, &numbers);
+    if (status == DONE)
+        status = read_job(block);
+    if (status != DONE)
+        return status;
+    if (command->stocks && numbers.count != command->numbers + job_resources(block))
+        return usage("not one stock for each resource of the job");
+    status = command->run(block, &numbers);
+    return status == DONE ? finish() : status;
+}
+
+int main(int argc, char **argv)
+{
+    return (int)run(argc, argv);
+}

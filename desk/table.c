@@ -1,0 +1,54 @@
+/* The table of a row, one line for each position, and the row's states. */
+#include "desk.h"
+#include "words.h"
+
+#include <stdio.h>
+
+static void print_position(const uint8_t *block, unsigned row, size_t position)
+{
+    unsigned second = stock_places(block, row, 1);
+    unsigned first = stock_places(block, row, 0);
+    size_t rest = position / second;
+
+    printf("state %lu, stock %lu", (unsigned long)(rest / first), (unsigned long)(rest % first));
+    if (job_resources(block) > 1)
+        printf(", %lu", (unsigned long)(position % second));
+}
+
+static void print_entry(const uint8_t *block, unsigned row, unsigned rank, unsigned move)
+{
+    if (rank == RBATL_NEVER)
+        printf(": rank never, ");
+    else
+        printf(": rank %u, ", rank);
+    if (move == RBATL_NO_MOVE) {
+        printf("no move\n");
+        return;
+    }
+    printf("move %u: ", move);
+    print_actions(move, row_coalition(block, row));
+    putchar('\n');
+}
+
+enum status show_table(const uint8_t *block, const struct numbers *numbers)
+{
+    unsigned row = numbers->at[0];
+    struct table table;
+    uint32_t set;
+
+    enum status status = fill_table(block, row, &table);
+    if (status == DONE)
+        status = find_states(block, row, &set);
+    if (status != DONE)
+        return status;
+    printf("row %u: ", row);
+    print_row(block, row);
+    printf("\nstates: ");
+    print_states(set);
+    putchar('\n');
+    for (size_t position = 0; position < position_count(block, row); position++) {
+        print_position(block, row, position);
+        print_entry(block, row, rank_at(&table, position), table.moves[position]);
+    }
+    return DONE;
+}

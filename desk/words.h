@@ -1,0 +1,17 @@
+/* Rows, moves and replies in words, on standard output. */
+#ifndef DESK_WORDS_H
+#define DESK_WORDS_H
+
+#include "job.h"
+
+/* The formula of a row, as in `coalition 0, 1 within 5: row 2 until row 0`. */
+void print_row(const uint8_t *block, unsigned row);
+
+/* The actions of the agents of the mask in a joint action, as in `agent 0
+ * action 1, agent 1 idle`; `nobody` without agents. */
+void print_actions(unsigned joint, unsigned agents);
+
+/* The states of a set, with spaces between them; `none` for the empty one. */
+void print_states(uint32_t set);
+
+#endif

@@ -1,0 +1,85 @@
+/* A long random run over every call of the library. */
+#ifndef FUZZ_H
+#define FUZZ_H
+
+#include "../../desk/job.h"
+#include "random.h"
+
+/* The calls of the library. */
+enum entry { CHECK, READ, WRITE, LABEL, TABLE, MOVE, REPLY, STATES, ENTRIES };
+
+/* What a call is asked: the input is a text for READ and a block for the rest. */
+struct request {
+    enum entry entry;
+    const uint8_t *input;
+    size_t input_length;
+    uint8_t row, state, stock0, stock1, move;
+    /* The lengths of the other buffers differ by this from the right ones. */
+    long skew[2];
+};
+
+/* The answer, and the bytes of the buffers that are not working room. */
+struct outcome {
+    int32_t answer;
+    uint8_t bytes[2][RBATL_TEXT_BYTES];
+};
+
+/* The run so far. */
+struct run {
+    uint64_t seed;
+    uint64_t number;
+    struct random random;
+    uint64_t calls[ENTRIES];
+    uint64_t refusals[ENTRIES];
+};
+
+/* A row with its table and the sets of its operands. */
+struct view {
+    const uint8_t *block;
+    unsigned row;
+    const uint8_t *ranks;
+    const uint8_t *moves;
+    uint32_t left;
+    uint32_t right;
+};
+
+/* The name of a call, without its prefix. */
+const char *entry_name(enum entry entry);
+
+/* How many buffers beside the input a call is lent, and their right lengths. */
+unsigned lent_count(enum entry entry);
+size_t lent_length(enum entry entry, unsigned which);
+
+/* Ends the run with a message unless the fact holds. */
+void expect(const struct run *run, bool fact, const char *call, const char *what);
+
+/* Calls the library, and checks what holds of the call whatever the input is. */
+void ask(struct run *run, const struct request *request, struct outcome *outcome);
+
+/* Random jobs, and damage to them. */
+void random_job(struct random *random, uint8_t *block);
+void damage_block(struct random *random, uint8_t *block);
+size_t damage_text(struct random *random, uint8_t *text, size_t length);
+size_t empty_bounds(struct random *random, uint8_t *text, size_t length);
+
+/* The text with `inf` in each empty field; its length. */
+size_t fill_bounds(const uint8_t *text, size_t length, uint8_t *filled);
+
+/* What a table must show, from document 01. */
+unsigned rank_in(const struct view *view, size_t position);
+unsigned due_rank(const struct view *view, size_t position);
+unsigned due_move(const struct view *view, size_t position);
+bool is_won(const struct view *view, size_t position);
+/* Whether the coalition may make the move there. */
+bool is_allowed(const struct view *view, size_t position, unsigned move);
+/* The reply that is due to an allowed move where the coalition does not win. */
+unsigned due_reply(const struct view *view, size_t position, unsigned move);
+
+/* The state and a stock of a position. */
+unsigned state_of(const struct view *view, size_t position);
+unsigned stock_of(const struct view *view, size_t position, unsigned resource);
+
+/* One case of the run: a job, and damage to it. */
+void try_case(struct run *run);
+
+#endif

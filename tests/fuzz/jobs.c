@@ -1,0 +1,169 @@
+/* Random jobs that the check lets pass, and damage to their blocks. */
+#include "fuzz.h"
+
+#include <string.h>
+
+/* Values at both sides of every border of document 01. */
+static const uint8_t borders[] = {
+    0, 1, 2, 3, 4, 5, 6, 7, 8, 9, 14, 15, 16, 17, 23, 24, 25, 31, 32, 33, 127, 128, 253, 254, 255,
+};
+
+/* Mostly few states, since large tables take long. */
+static void random_sizes(struct random *random, uint8_t *block)
+{
+    size_t size = below(random, 64);
+    unsigned states = size == 0 ? RBATL_MAX_STATES : within(random, 1, size < 8 ? 24 : 6);
+    unsigned rows = size == 0 ? RBATL_MAX_ROWS : within(random, 1, size < 8 ? 32 : 9);
+
+    block[PLACE_AGENTS] = (uint8_t)within(random, 1, RBATL_MAX_AGENTS);
+    block[PLACE_RESOURCES] = (uint8_t)within(random, 1, RBATL_MAX_RESOURCES);
+    block[PLACE_STATES] = (uint8_t)states;
+    block[PLACE_PROPOSITIONS] = (uint8_t)within(random, 1, RBATL_MAX_PROPOSITIONS);
+    block[PLACE_ROWS] = (uint8_t)rows;
+}
+
+static void random_actions(struct random *random, uint8_t *block, unsigned state, unsigned agent)
+{
+    static const unsigned costs[] = {0, 1, 2, 4, RBATL_MAX_COST};
+    unsigned count = within(random, 1, within(random, 1, RBATL_MAX_ACTIONS));
+    unsigned most = costs[below(random, sizeof costs / sizeof costs[0])];
+
+    block[place_of_count(state, agent)] = (uint8_t)count;
+    for (unsigned action = 1; action < count; action++)
+        for (unsigned resource = 0; resource < job_resources(block); resource++)
+            block[place_of_cost(state, agent, action, resource)] =
+                (uint8_t)within(random, 0, most);
+}
+
+/* Mostly the next few states, so that plays are long. The first agent mostly
+ * decides, so that there is something to win. */
+static unsigned random_target(struct random *random, const uint8_t *block, unsigned state,
+                              unsigned joint)
+{
+    unsigned states = job_states(block);
+    if (joint > 3 && one_in(random, 2))
+        return next_state(block, state, joint & 3);
+    if (one_in(random, 4))
+        return (unsigned)below(random, states);
+    return (state + within(random, 0, 2)) % states;
+}
+
+/* Idle opponents of the first agent let it go to even states, which have all
+ * propositions, so that a reply has something to spoil. */
+static unsigned contested_target(struct random *random, const uint8_t *block, unsigned joint)
+{
+    unsigned target = (unsigned)below(random, job_states(block));
+    return joint > 3 ? target : target & ~1u;
+}
+
+static unsigned random_mask(struct random *random, unsigned state, bool contest)
+{
+    if (contest && one_in(random, 2))
+        return state % 2 == 0 ? UINT8_MAX : 0;
+    return draw_byte(random) & draw_byte(random);
+}
+
+static void random_state(struct random *random, uint8_t *block, unsigned state, bool contest)
+{
+    unsigned masks = 1u << job_propositions(block);
+    block[place_of_mask(state)] = (uint8_t)(random_mask(random, state, contest) & (masks - 1));
+    for (unsigned agent = 0; agent < job_agents(block); agent++)
+        random_actions(random, block, state, agent);
+    for (unsigned joint = 0; joint < JOINT_ACTIONS; joint++)
+        if (has_joint(block, state, joint))
+            block[place_of_next(state, joint)] =
+                (uint8_t)(contest ? contested_target(random, block, joint)
+                                  : random_target(random, block, state, joint));
+}
+
+static uint8_t random_bound(struct random *random, unsigned most)
+{
+    return one_in(random, 5) ? RBATL_UNLIMITED : (uint8_t)within(random, 0, most);
+}
+
+static void random_row(struct random *random, uint8_t *block, unsigned row, unsigned most)
+{
+    unsigned kind = row == 0 ? KIND_PROP : within(random, KIND_PROP, KIND_UNTIL);
+    unsigned operands = kind == KIND_PROP ? job_propositions(block) : row;
+
+    block[place_of_field(row, FIELD_KIND)] = (uint8_t)kind;
+    block[place_of_field(row, FIELD_LEFT)] = (uint8_t)below(random, operands);
+    if (kind == KIND_OR || kind == KIND_UNTIL)
+        block[place_of_field(row, FIELD_RIGHT)] = (uint8_t)below(random, row);
+    if (!row_is_strategic(block, row))
+        return;
+    block[place_of_field(row, FIELD_COALITION)] = (uint8_t)within(random, 1, all_agents(block));
+    for (unsigned resource = 0; resource < job_resources(block); resource++)
+        block[place_of_field(row, FIELD_BOUND + resource)] = random_bound(random, most);
+}
+
+void random_job(struct random *random, uint8_t *block)
+{
+    static const unsigned bounds[] = {0, 2, 3, 5, RBATL_MAX_BOUND};
+
+    memset(block, 0, RBATL_BLOCK_BYTES);
+    random_sizes(random, block);
+    unsigned most = bounds[below(random, sizeof bounds / sizeof bounds[0])];
+    bool contest = one_in(random, 2);
+    for (unsigned state = 0; state < job_states(block); state++)
+        random_state(random, block, state, contest);
+    for (unsigned row = 0; row < job_rows(block); row++)
+        random_row(random, block, row, most);
+}
+
+/* A place that the job may use, sort by sort, or any place. */
+static size_t random_place(struct random *random, const uint8_t *block)
+{
+    unsigned state = (unsigned)below(random, job_states(block));
+    unsigned agent = (unsigned)below(random, RBATL_MAX_AGENTS);
+    unsigned resource = (unsigned)below(random, RBATL_MAX_RESOURCES);
+
+    switch (below(random, 7)) {
+    case 0:
+        return below(random, PLACE_ROWS + 1);
+    case 1:
+        return place_of_mask(state);
+    case 2:
+        return place_of_count(state, agent);
+    case 3:
+        return place_of_cost(state, agent, (unsigned)below(random, RBATL_MAX_ACTIONS), resource);
+    case 4:
+        return place_of_next(state, (unsigned)below(random, JOINT_ACTIONS));
+    case 5:
+        return place_of_field((unsigned)below(random, job_rows(block)),
+                              (unsigned)below(random, ROW_FIELDS));
+    default:
+        return below(random, RBATL_BLOCK_BYTES);
+    }
+}
+
+static uint8_t random_value(struct random *random, uint8_t old)
+{
+    switch (below(random, 5)) {
+    case 0:
+        return draw_byte(random);
+    case 1:
+        return (uint8_t)(old + 1);
+    case 2:
+        return (uint8_t)(old - 1);
+    case 3:
+        return (uint8_t)(old ^ 1u << below(random, 8));
+    default:
+        return borders[below(random, sizeof borders)];
+    }
+}
+
+void damage_block(struct random *random, uint8_t *block)
+{
+    if (one_in(random, 32)) {
+        unsigned most = one_in(random, 2) ? 3 : 255;
+        for (size_t place = 0; place < RBATL_BLOCK_BYTES; place++)
+            block[place] = (uint8_t)within(random, 0, most);
+        return;
+    }
+    size_t places[4], count = one_in(random, 3) ? within(random, 2, 4) : 1;
+    for (size_t i = 0; i < count; i++)
+        places[i] = random_place(random, block);
+    for (size_t i = 0; i < count; i++)
+        block[places[i]] = random_value(random, block[places[i]]);
+}

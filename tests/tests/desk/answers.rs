@@ -1,0 +1,155 @@
+//! What each command prints for Catch, with the starred values of document 01,
+//! and for the sensor network.
+
+use super::desk;
+use rbatl_tests::{jobs, text};
+
+fn catch(line: &str) -> String {
+    desk(line, &jobs::text("catch.job")).answer()
+}
+
+fn sensor(line: &str) -> String {
+    desk(line, &jobs::text("sensor.job")).answer()
+}
+
+#[test]
+fn check_says_the_sizes() {
+    let sizes = "passes: 2 agents, 1 resource, 3 states, 1 proposition, 6 rows\n";
+    assert_eq!(catch("check"), sizes);
+    let sizes = "passes: 2 agents, 2 resources, 8 states, 1 proposition, 8 rows\n";
+    assert_eq!(sensor("check"), sizes);
+    let full = desk("check", &jobs::text("full.job")).answer();
+    let sizes = "passes: 3 agents, 2 resources, 24 states, 8 propositions, 32 rows\n";
+    assert_eq!(full, sizes);
+    let smallest = text::write(&jobs::smallest(1, 1, 1, 1, 1));
+    let sizes = "passes: 1 agent, 1 resource, 1 state, 1 proposition, 1 row\n";
+    assert_eq!(desk("check", &smallest).answer(), sizes);
+}
+
+#[test]
+fn list_is_the_listing_of_document_01() {
+    let listing = "\
+list,6
+set,0,1,4
+set,1,2,3
+set,2,3,7
+set,3,2,6
+plan,3,1,1,1
+plan,3,2,0,0
+set,4,3,7
+plan,4,0,2,1
+plan,4,1,1,1
+plan,4,2,0,0
+set,5,2,6
+plan,5,1,1,1
+plan,5,2,0,0
+";
+    assert_eq!(catch("list"), listing);
+}
+
+#[test]
+fn table_has_a_line_for_each_position() {
+    let table = catch("table 4");
+    let lines: Vec<&str> = table.lines().collect();
+    assert_eq!(lines.len(), 2 + 18);
+    assert_eq!(
+        lines[0],
+        "row 4: coalition 0, 1 within 5: row 2 until row 0"
+    );
+    assert_eq!(lines[1], "states: 0 1 2");
+    for line in [
+        "state 0, stock 5: rank 2, move 1: agent 0 action 1, agent 1 idle",
+        "state 0, stock 4: rank never, no move",
+        "state 1, stock 3: rank 1, move 1: agent 0 action 1, agent 1 idle",
+        "state 1, stock 2: rank never, no move",
+        "state 2, stock 0: rank 0, move 0: agent 0 idle, agent 1 idle",
+    ] {
+        assert!(lines.contains(&line), "{line} is not in\n{table}");
+    }
+}
+
+#[test]
+fn table_of_two_resources() {
+    let table = sensor("table 3");
+    let lines: Vec<&str> = table.lines().collect();
+    assert_eq!(lines.len(), 2 + 8 * 4 * 2);
+    assert_eq!(
+        lines[0],
+        "row 3: coalition 0, 1 within 3, 1: row 2 until row 0"
+    );
+    assert_eq!(lines[1], "states: 0 1 2 3 4 5 6 7");
+    let first = "state 0, stock 3, 1: rank 3, move 1: agent 0 action 1, agent 1 idle";
+    assert!(lines.contains(&first), "{table}");
+    assert!(
+        lines.contains(&"state 0, stock 3, 0: rank never, no move"),
+        "{table}"
+    );
+}
+
+/// An unlimited resource has one stock place, and its stock is 0.
+#[test]
+fn table_of_an_unlimited_resource() {
+    let table = sensor("table 4");
+    let lines: Vec<&str> = table.lines().collect();
+    assert_eq!(lines.len(), 2 + 8);
+    assert_eq!(
+        lines[0],
+        "row 4: coalition 0, 1 within inf, 0: row 2 until row 0"
+    );
+    assert_eq!(lines[2], "state 0, stock 0, 0: rank never, no move");
+}
+
+#[test]
+fn table_of_always_and_next() {
+    let job = text::write(&jobs::catch_with_always());
+    let table = desk("table 6", &job).answer();
+    let lines: Vec<&str> = table.lines().collect();
+    assert_eq!(lines[0], "row 6: coalition 1 within 0: always row 1");
+    assert_eq!(lines[1], "states: 0");
+    assert_eq!(
+        lines[2],
+        "state 0, stock 0: rank never, move 4: agent 1 action 1"
+    );
+    assert_eq!(lines[3], "state 1, stock 0: rank 1, no move");
+    assert_eq!(lines[4], "state 2, stock 0: rank 0, no move");
+
+    let job = String::from_utf8(jobs::text("catch.job")).unwrap();
+    let job = job.replace("until,3,4,2,0", "next,1,2,0");
+    let table = desk("table 5", job.as_bytes()).answer();
+    let head = "row 5: coalition 0 within 2: next row 0\nstates: 2\n";
+    assert!(table.starts_with(head), "{table}");
+}
+
+/// Catch where the proposition holds nowhere.
+#[test]
+fn a_row_without_states() {
+    let job = String::from_utf8(jobs::text("catch.job")).unwrap();
+    let job = job.replace("state,2,1", "state,2,0");
+    let table = desk("table 4", job.as_bytes()).answer();
+    assert!(table.contains("\nstates: none\n"), "{table}");
+}
+
+#[test]
+fn move_is_the_tables() {
+    assert_eq!(
+        catch("move 4 0 5"),
+        "move 1: agent 0 action 1, agent 1 idle\n"
+    );
+    assert_eq!(catch("move 3 1 3"), "move 1: agent 0 action 1\n");
+    assert_eq!(catch("move 3 2 0"), "move 0: agent 0 idle\n");
+    let seventh = text::write(&jobs::catch_with_always());
+    let first = desk("move 6 0 0", &seventh).answer();
+    assert_eq!(first, "move 4: agent 1 action 1\n");
+    assert_eq!(
+        sensor("move 3 0 3 1"),
+        "move 1: agent 0 action 1, agent 1 idle\n"
+    );
+}
+
+#[test]
+fn reply_is_the_opponents() {
+    assert_eq!(catch("reply 3 0 5 1"), "reply 4: agent 1 action 1\n");
+    assert_eq!(catch("reply 3 0 5 0"), "reply 0: agent 1 idle\n");
+    assert_eq!(catch("reply 4 0 4 1"), "reply 0: nobody\n");
+    assert_eq!(sensor("reply 6 0 0 0 0"), "reply 0: agent 1 idle\n");
+}

@@ -1,0 +1,188 @@
+//! Listings, tables, moves and replies of random jobs, beside the checker's.
+
+use super::desk;
+use rbatl_tests::layout::*;
+use rbatl_tests::listing::listing;
+use rbatl_tests::lookup::{At, Model};
+use rbatl_tests::random::{any_block, cases, Rng};
+use rbatl_tests::solver::ROOM_BYTES;
+use rbatl_tests::{games, jobs, text, text_damage};
+
+const SEED: u64 = 57;
+
+/// A job with something to play for, or any.
+fn job(rng: &mut Rng) -> Vec<u8> {
+    match rng.below(4) {
+        0 => any_block(rng),
+        1 => games::contest(rng),
+        _ => games::small(rng),
+    }
+}
+
+fn agree_on_listing(text: &[u8], what: &str) -> bool {
+    let ran = desk("list", text);
+    let expected = String::from_utf8(listing(text)).expect("plain text");
+    if let Some(number) = expected.strip_prefix("refused,") {
+        let number = number.trim_end().parse().expect("a number");
+        assert!(ran.refused(number), "{what}: {ran:?}");
+    } else {
+        assert_eq!(ran.answer(), expected, "{what}");
+    }
+    !expected.starts_with("refused,")
+}
+
+#[test]
+fn listings_of_the_job_files() {
+    for name in jobs::names() {
+        assert!(agree_on_listing(&jobs::text(&name), &name));
+    }
+}
+
+#[test]
+fn listings_of_random_jobs() {
+    for case in 0..cases(500) {
+        let mut rng = Rng::for_case(SEED, case);
+        let text = text::write(&job(&mut rng));
+        assert!(agree_on_listing(&text, &format!("case {case}")));
+    }
+}
+
+#[test]
+fn listings_of_damaged_texts() {
+    let mut refused = 0;
+    for case in 0..cases(500) {
+        let mut rng = Rng::for_case(SEED + 1, case);
+        let mut text = text::write(&games::small(&mut rng));
+        let how = text_damage::damage(&mut rng, &mut text);
+        refused += u64::from(!agree_on_listing(&text, &format!("case {case}, {how}")));
+    }
+    assert!(refused > 200, "{refused}");
+}
+
+/// The agents' actions in words.
+fn actions_of(joint: u8, agents: u8) -> String {
+    let word = |agent: usize| match actions(joint.into())[agent] {
+        0 => format!("agent {agent} idle"),
+        action => format!("agent {agent} action {action}"),
+    };
+    let named = (0..MAX_AGENTS).filter(|agent| agents >> agent & 1 == 1);
+    match agents {
+        0 => "nobody".to_string(),
+        _ => named.map(word).collect::<Vec<String>>().join(", "),
+    }
+}
+
+/// The lines of a table after its head.
+fn entries(block: &[u8], model: &Model, i: u8) -> Vec<String> {
+    let table = &model.row(i).expect("a strategic row").table;
+    let coalition = block[row(i.into(), COALITION)];
+    let stocks = Sizes::of(block).resources;
+    let line = |at: At| {
+        let position = model.row(i).expect("a strategic row").position(at);
+        let stock: Vec<String> = at.stock[..stocks].iter().map(u8::to_string).collect();
+        let rank = match table.ranks[position] {
+            u16::MAX => "never".to_string(),
+            rank => rank.to_string(),
+        };
+        let played = match table.moves[position] {
+            u8::MAX => "no move".to_string(),
+            number => format!("move {number}: {}", actions_of(number, coalition)),
+        };
+        let stock = stock.join(", ");
+        format!("state {}, stock {stock}: rank {rank}, {played}", at.state)
+    };
+    model.positions(i).into_iter().map(line).collect()
+}
+
+#[test]
+fn tables_of_random_jobs() {
+    let mut compared = 0;
+    for case in 0..cases(100) {
+        let mut rng = Rng::for_case(SEED + 2, case);
+        let block = games::small(&mut rng);
+        let (model, text) = (Model::of(&block), text::write(&block));
+        for row in model.rows() {
+            let printed = desk(&format!("table {row}"), &text).answer();
+            let found: Vec<&str> = printed.lines().skip(2).collect();
+            assert_eq!(
+                found,
+                entries(&block, &model, row),
+                "case {case}, row {row}"
+            );
+            compared += 1;
+        }
+    }
+    assert!(compared > 100, "{compared}");
+}
+
+/// A position of some row and a move, mostly one that it pays for; or something
+/// beside them.
+fn any_question(rng: &mut Rng, model: &Model) -> (At, u8) {
+    let rows = model.rows();
+    if rows.is_empty() {
+        let (row, state, stock) = (rng.byte(), 0, [0, 0]);
+        return (At { row, state, stock }, 0);
+    }
+    let number = rng.pick(&rows);
+    let row = model.row(number).expect("a strategic row");
+    let mut at = rng.pick(&model.positions(number));
+    let mut mv = rng.pick(&row.table.affordable(row.position(at)));
+    match rng.below(12) {
+        0 => at.row = rng.byte(),
+        1 => at.state += 1,
+        2 => at.stock[0] += 1,
+        3 => mv = rng.byte(),
+        _ => {}
+    }
+    (at, mv)
+}
+
+/// The desk says the move or the reply of these agents, or refuses with the
+/// number.
+fn agree_at(line: &str, text: &[u8], answer: i32, agents: u8) {
+    let ran = desk(line, text);
+    let Ok(number) = u8::try_from(answer) else {
+        assert!(ran.refused(-answer as u8), "{line}: {ran:?}");
+        return;
+    };
+    let noun = line.split(' ').next().expect("a command");
+    let due = format!("{noun} {number}: {}\n", actions_of(number, agents));
+    assert_eq!(ran.answer(), due, "{line}");
+}
+
+/// Whether the move and the reply at a position were answered.
+fn agree_on_both(block: &[u8], model: &Model, at: At, mv: u8) -> [bool; 2] {
+    let (text, sizes) = (text::write(block), Sizes::of(block));
+    let mut room = vec![0; ROOM_BYTES];
+    let stocks = at.stock[..sizes.resources].iter();
+    let stocks: Vec<String> = stocks.map(u8::to_string).collect();
+    let place = format!("{} {} {}", at.row, at.state, stocks.join(" "));
+    let coalition = match usize::from(at.row) < sizes.rows {
+        true => block[row(at.row.into(), COALITION)],
+        false => 0,
+    };
+    let answer = model.coalition_move(at, &mut room);
+    agree_at(&format!("move {place}"), &text, answer, coalition);
+    let opponents = (1 << sizes.agents) - 1 - coalition;
+    let reply = model.reply(at, mv, &mut room);
+    agree_at(&format!("reply {place} {mv}"), &text, reply, opponents);
+    [answer >= 0, reply >= 0]
+}
+
+#[test]
+fn moves_and_replies_of_random_jobs() {
+    let mut answered = [0, 0];
+    for case in 0..cases(150) {
+        let mut rng = Rng::for_case(SEED + 3, case);
+        let block = games::contest(&mut rng);
+        let model = Model::of(&block);
+        for _ in 0..3 {
+            let (at, mv) = any_question(&mut rng, &model);
+            let found = agree_on_both(&block, &model, at, mv);
+            for (count, found) in answered.iter_mut().zip(found) {
+                *count += u32::from(found);
+            }
+        }
+    }
+    assert!(answered.iter().all(|&count| count > 50), "{answered:?}");
+}

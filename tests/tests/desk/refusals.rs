@@ -1,0 +1,182 @@
+//! Every refusal that can be reached, and both sides of each border.
+
+use super::{desk, Ran};
+use rbatl_tests::layout::*;
+use rbatl_tests::{jobs, text};
+
+fn catch(line: &str) -> Ran {
+    desk(line, &jobs::text("catch.job"))
+}
+
+fn passes(text: &[u8]) -> bool {
+    let ran = desk("check", text);
+    ran.status == 0 && ran.out.starts_with("passes: ") && ran.err.is_empty()
+}
+
+/// Every command refuses the text with the number.
+fn all_refuse(text: &[u8], number: u8) {
+    for line in [
+        "check",
+        "list",
+        "table 4",
+        "move 4 0 5",
+        "reply 4 0 5 1",
+        "dot 4",
+    ] {
+        let ran = desk(line, text);
+        assert!(ran.refused(number), "{line}: {ran:?}");
+    }
+}
+
+/// Catch with one line changed.
+fn changed(from: &str, to: &str) -> Vec<u8> {
+    let catch = String::from_utf8(jobs::text("catch.job")).unwrap();
+    assert!(catch.contains(from), "{from}");
+    catch.replacen(from, to, 1).into_bytes()
+}
+
+#[test]
+fn texts_of_32768_and_32769_bytes() {
+    for name in jobs::names() {
+        let mut text = jobs::text(&name);
+        text.resize(text::TEXT_BYTES, b'\n');
+        all_refuse(&text, 7);
+        text.push(b'\n');
+        all_refuse(&text, 1);
+    }
+}
+
+#[test]
+fn sizes() {
+    let good = [[1, 1, 1, 1, 1], [3, 2, 24, 8, 32]];
+    for [agents, resources, states, propositions, rows] in good {
+        let job = jobs::smallest(agents, resources, states, propositions, rows);
+        assert!(passes(&text::write(&job)));
+    }
+    for line in [
+        "job,0,1,1,1,1",
+        "job,4,1,1,1,1",
+        "job,1,0,1,1,1",
+        "job,1,3,1,1,1",
+        "job,1,1,0,1,1",
+        "job,2,1,25,1,6",
+        "job,1,1,1,0,1",
+        "job,1,1,1,9,1",
+        "job,1,1,1,1,0",
+        "job,1,1,1,1,33",
+    ] {
+        all_refuse(&changed("job,2,1,3,1,6", line), 2);
+    }
+}
+
+#[test]
+fn states() {
+    assert!(passes(&changed("state,0,0", "state,0,1")));
+    all_refuse(&changed("state,0,0", "state,0,2"), 3);
+    all_refuse(&changed("acts,0,0,2,0,2", "acts,0,0,0"), 7);
+    all_refuse(&changed("acts,0,0,2,0,2", "acts,0,0,0,"), 3);
+    all_refuse(&changed("acts,0,0,2,0,2", "acts,0,0,5,0,2"), 3);
+    assert!(passes(&changed("acts,0,0,2,0,2", "acts,0,0,2,0,15")));
+    all_refuse(&changed("acts,0,0,2,0,2", "acts,0,0,2,0,16"), 3);
+    all_refuse(&changed("acts,1,0,2,0,3", "acts,1,0,2,1,3"), 3);
+    let mut four = jobs::smallest(1, 1, 1, 1, 1);
+    four[count(0, 0)] = 4;
+    assert!(passes(&text::write(&four)));
+}
+
+#[test]
+fn next_states() {
+    assert!(passes(&changed("go,2,0,0,2", "go,2,0,0,0")));
+    all_refuse(&changed("go,2,0,0,2", "go,2,0,0,3"), 4);
+}
+
+#[test]
+fn rows() {
+    all_refuse(&changed("not,0", "not,1"), 5);
+    all_refuse(&changed("prop,0", "prop,1"), 5);
+    assert!(passes(&changed("until,3,4,2,0", "until,3,4,2,4")));
+    all_refuse(&changed("until,3,4,2,0", "until,3,4,2,5"), 5);
+    all_refuse(&changed("until,3,4,2,0", "until,0,4,2,0"), 5);
+    all_refuse(&changed("until,3,4,2,0", "until,4,4,2,0"), 5);
+    assert!(passes(&changed("until,3,4,2,0", "until,3,15,2,0")));
+    all_refuse(&changed("until,3,4,2,0", "until,3,16,2,0"), 5);
+    all_refuse(&changed("until,3,4,2,0", "until,3,255,2,0"), 5);
+    assert!(passes(&changed("until,3,4,2,0", "until,3,inf,2,0")));
+    assert!(passes(&changed("until,3,4,2,0", "until,3,,2,0")));
+}
+
+#[test]
+fn forms() {
+    let catch = jobs::text("catch.job");
+    all_refuse(b"", 7);
+    all_refuse(&catch[..catch.len() - 1], 7);
+    all_refuse(&[&catch[..], b"\n"].concat(), 7);
+    all_refuse(&[&catch[..], b"\0"].concat(), 7);
+    all_refuse(&changed("state,0,0", "state,00,0"), 7);
+    all_refuse(&changed("go,0,1,0,1", "go,0,2,0,1"), 7);
+    all_refuse(&changed("until,3,4,2,0", "until,3,256,2,0"), 7);
+    all_refuse(&changed("job,2", "Job,2"), 7);
+    all_refuse(&changed("state,0,0\n", "state,0,0\r\n"), 7);
+}
+
+/// The row: absent, or without a table. Drawing wants its set alone.
+#[test]
+fn row_choices() {
+    for row in [0, 1, 2, 6, 255] {
+        for line in [
+            format!("table {row}"),
+            format!("move {row} 0 0"),
+            format!("reply {row} 0 0 0"),
+        ] {
+            assert!(catch(&line).refused(8), "{line}");
+        }
+    }
+    for row in [3, 4, 5] {
+        assert_eq!(catch(&format!("table {row}")).status, 0);
+    }
+    for row in [6, 31, 32, 255] {
+        assert!(catch(&format!("dot {row}")).refused(8), "{row}");
+    }
+    for row in 0..6 {
+        assert_eq!(catch(&format!("dot {row}")).status, 0);
+    }
+}
+
+#[test]
+fn positions() {
+    assert_eq!(catch("move 3 1 5").status, 0);
+    assert!(catch("move 3 1 6").refused(9));
+    assert!(catch("move 3 1 255").refused(9));
+    assert_eq!(catch("move 3 2 5").status, 0);
+    assert!(catch("move 3 3 5").refused(9));
+    assert!(catch("reply 3 0 6 1").refused(9));
+    assert!(catch("reply 3 3 5 1").refused(9));
+    let sensor = jobs::text("sensor.job");
+    assert_eq!(desk("move 3 0 3 1", &sensor).status, 0);
+    assert!(desk("move 3 0 4 1", &sensor).refused(9));
+    assert!(desk("move 3 0 3 2", &sensor).refused(9));
+    // An unlimited resource has no stock but 0.
+    assert_eq!(desk("reply 4 0 0 0 0", &sensor).status, 0);
+    assert!(desk("reply 4 0 1 0 0", &sensor).refused(9));
+}
+
+#[test]
+fn sides() {
+    assert!(catch("move 3 0 5").refused(10));
+    assert_eq!(catch("reply 3 0 5 1").status, 0);
+    assert!(catch("move 4 0 4").refused(10));
+    assert_eq!(catch("move 4 0 5").status, 0);
+    assert!(catch("reply 4 0 5 1").refused(10));
+    assert_eq!(catch("reply 4 0 4 1").status, 0);
+}
+
+#[test]
+fn moves() {
+    assert_eq!(catch("reply 3 0 2 1").status, 0);
+    assert!(catch("reply 3 0 1 1").refused(11));
+    assert!(catch("reply 3 0 5 2").refused(11));
+    assert!(catch("reply 3 0 5 4").refused(11));
+    assert_eq!(catch("reply 4 0 4 5").status, 0);
+    assert!(catch("reply 4 0 4 6").refused(11));
+    assert!(catch("reply 4 0 4 255").refused(11));
+}
