@@ -14,6 +14,7 @@ pub mod layout;
 pub mod listing;
 pub mod lookup;
 pub mod play;
+pub mod process;
 pub mod random;
 pub mod solver;
 pub mod text;

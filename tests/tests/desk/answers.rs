@@ -1,7 +1,7 @@
 //! What each command prints for Catch, with the starred values of document 01,
 //! and for the sensor network.
 
-use super::desk;
+use super::{desk, Says};
 use rbatl_tests::{jobs, text};
 
 fn catch(line: &str) -> String {

@@ -1,6 +1,6 @@
 //! Wrong arguments: a reason and a usage line on standard error, status 2.
 
-use super::{desk, run};
+use super::{desk, run, Says};
 use rbatl_tests::jobs;
 
 fn is_usage(line: &str) {

@@ -2,7 +2,7 @@
 //! filled if the row is true there, and that the patterns of an edge are the
 //! joint actions that lead along it.
 
-use super::desk;
+use super::{desk, Says};
 use rbatl_tests::checker::search;
 use rbatl_tests::checker::structure::{contains, Set, Structure};
 use rbatl_tests::checker::NO_MOVE;

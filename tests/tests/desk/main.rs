@@ -7,32 +7,21 @@ mod random;
 mod refusals;
 mod streams;
 
-use std::io::Write;
+use rbatl_tests::process::{self, built, Ran};
 use std::path::PathBuf;
-use std::process::{Command, Output, Stdio};
 
 const DONE: i32 = 0;
 const REFUSED: i32 = 1;
 const FAILED: i32 = 2;
 
-/// What a run of the program gave.
-#[derive(Debug, PartialEq, Eq)]
-struct Ran {
-    status: i32,
-    out: String,
-    err: String,
+/// What a run of the desk says.
+trait Says {
+    fn answer(self) -> String;
+    fn refused(&self, number: u8) -> bool;
+    fn usage(&self) -> bool;
 }
 
-impl Ran {
-    fn of(output: Output) -> Ran {
-        let text = |bytes| String::from_utf8(bytes).expect("the desk prints plain text");
-        Ran {
-            status: output.status.code().expect("the desk ends by itself"),
-            out: text(output.stdout),
-            err: text(output.stderr),
-        }
-    }
-
+impl Says for Ran {
     /// What an answer printed; there is nothing on standard error.
     fn answer(self) -> String {
         assert_eq!((self.status, self.err.as_str()), (DONE, ""), "{}", self.out);
@@ -56,9 +45,7 @@ impl Ran {
 }
 
 fn program() -> PathBuf {
-    let path = PathBuf::from(env!("CARGO_MANIFEST_DIR")).join("../target/desk/desk");
-    assert!(path.is_file(), "the desk is missing: run desk/build first");
-    path
+    built("target/desk/desk")
 }
 
 /// The words of a command line.
@@ -72,18 +59,5 @@ fn desk(line: &str, text: &[u8]) -> Ran {
 }
 
 fn run(arguments: &[&str], text: &[u8]) -> Ran {
-    let mut command = Command::new(program());
-    let piped = command
-        .args(arguments)
-        .stdin(Stdio::piped())
-        .stdout(Stdio::piped())
-        .stderr(Stdio::piped());
-    let mut child = piped.spawn().expect("the desk starts");
-    let mut input = child.stdin.take().expect("a pipe to the desk");
-    let text = text.to_vec();
-    // A desk that has seen enough closes the pipe, and the rest is not written.
-    let writer = std::thread::spawn(move || drop(input.write_all(&text)));
-    let output = child.wait_with_output().expect("the desk ends");
-    writer.join().expect("the text is written");
-    Ran::of(output)
+    process::run(&program(), arguments, text)
 }

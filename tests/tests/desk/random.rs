@@ -1,6 +1,6 @@
 //! Listings, tables, moves and replies of random jobs, beside the checker's.
 
-use super::desk;
+use super::{desk, Says};
 use rbatl_tests::layout::*;
 use rbatl_tests::listing::listing;
 use rbatl_tests::lookup::{At, Model};

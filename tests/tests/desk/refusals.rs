@@ -1,7 +1,8 @@
 //! Every refusal that can be reached, and both sides of each border.
 
-use super::{desk, Ran};
+use super::{desk, Says};
 use rbatl_tests::layout::*;
+use rbatl_tests::process::Ran;
 use rbatl_tests::{jobs, text};
 
 fn catch(line: &str) -> Ran {

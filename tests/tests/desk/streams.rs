@@ -1,7 +1,8 @@
 //! Input and output that fail, and input that never ends.
 
-use super::{program, Ran, DONE, FAILED};
+use super::{program, Says, DONE, FAILED};
 use rbatl_tests::jobs;
+use rbatl_tests::process::{shell, Ran};
 use std::fs::{File, OpenOptions};
 use std::process::{Command, Stdio};
 
@@ -16,14 +17,7 @@ const COMMANDS: [&str; 6] = [
 
 /// Runs the desk by a shell that redirects its streams.
 fn redirected(line: &str, redirections: &str) -> Ran {
-    let script = format!("\"$0\" {line} {redirections}");
-    let output = Command::new("sh")
-        .args(["-c", &script])
-        .arg(program())
-        .arg(jobs::folder())
-        .output()
-        .expect("sh runs");
-    Ran::of(output)
+    shell(&program(), &format!("\"$0\" {line} {redirections}"))
 }
 
 fn cannot(ran: &Ran, what: &str) -> bool {
@@ -120,12 +114,7 @@ fn endless_input() {
 #[test]
 fn the_rest_of_a_long_text_is_left() {
     let script = "yes | head -c 40000 | { \"$0\" check; wc -c; }";
-    let output = Command::new("sh")
-        .args(["-c", script])
-        .arg(program())
-        .output();
-    let output = output.expect("sh runs");
-    let left = String::from_utf8(output.stdout).expect("a count");
+    let left = shell(&program(), script).out;
     assert_eq!(left.trim(), (40_000 - 32_769).to_string());
 }
 
@@ -134,11 +123,6 @@ fn the_rest_of_a_long_text_is_left() {
 fn slow_input() {
     let script = "{ head -n 5 \"$1/catch.job\"; sleep 0.1; tail -n +6 \"$1/catch.job\"; } \
                   | \"$0\" check";
-    let output = Command::new("sh")
-        .args(["-c", script])
-        .arg(program())
-        .arg(jobs::folder())
-        .output();
-    let ran = Ran::of(output.expect("sh runs"));
+    let ran = shell(&program(), script);
     assert_eq!(ran.status, DONE, "{ran:?}");
 }
