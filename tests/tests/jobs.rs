@@ -21,7 +21,7 @@ const CATCH: [(usize, u8); 33] = [
 #[test]
 fn every_job_passes() {
     let names = jobs::names();
-    assert_eq!(names, ["catch.job", "full.job", "sensor.job"]);
+    assert_eq!(names, ["catch.job", "first.job", "full.job", "sensor.job"]);
     for name in names {
         let block = jobs::load(&name);
         assert_eq!(block::check(&block), 0, "{name}");
