@@ -19,10 +19,9 @@ use Rattle.block.specs.Layout as L
 use Rattle.block.specs.Layout.{Block}
 use Rattle.text.specs.Adding.{Adds}
 use Rattle.text.proofs.Decimals.{lt-or-ge}
-use Rattle.game.specs.Position.{full}
-use Rattle.game.specs.Table.{Table, rankAt, moveAt}
-use Rattle.game.specs.Model.{bit, arenaOf}
-use Rattle.report.specs.Listing.{parts, planLine, planOf, planLines}
+use Rattle.game.specs.Table.{Table}
+use Rattle.game.specs.Model.{bit}
+use Rattle.report.specs.Listing.{parts, planAt, planOf, planLines}
 
 parts-next : (part : ℕ → List ℕ) (n : ℕ) → parts part (n + 1) ≡ parts part n ++ part n
 unfolding parts
@@ -48,12 +47,16 @@ parts-skip part m (suc n) h none = ⊎-elim
 shifted : (w from k : ℕ) → w / 2 ^ from / 2 ^ k % 2 ≡ w / 2 ^ (from + k) % 2
 shifted w from k = ap (λ (n : ℕ). n % 2) (shr-shr w from k)
 
+-- and the bit x of the word, found there
+above : (w from x : ℕ) → from ≤ x → w / 2 ^ from / 2 ^ (x - from) % 2 ≡ w / 2 ^ x % 2
+above w from x l = let back : from + (x - from) ≡ x = omega arith in shifted w from (x - from) ∙ ap (λ (n : ℕ). w / 2 ^ n % 2) back
+
 module _ (b : Block) (i w : ℕ) (X : Table) where
-  there : (s : ℕ) → Bit w s → planOf b i w X s ≡ planLine i s (rankAt (arenaOf b i) X (full (arenaOf b i) s)) (moveAt (arenaOf b i) X (full (arenaOf b i) s))
-  there s one = ap (λ (t : Bool). cond t (planLine i s (rankAt (arenaOf b i) X (full (arenaOf b i) s)) (moveAt (arenaOf b i) X (full (arenaOf b i) s))) []) (eq-eqb (w / 2 ^ s % 2) 1 one)
+  there : (s : ℕ) → Bit w s → planOf b i w X s ≡ planAt b i X s
+  there s one = ap (λ (t : Bool). cond t (planAt b i X s) []) (eq-eqb (w / 2 ^ s % 2) 1 one)
 
   missing : (s : ℕ) → (Bit w s → ⊥) → planOf b i w X s ≡ []
-  missing s not = ap (λ (t : Bool). cond t (planLine i s (rankAt (arenaOf b i) X (full (arenaOf b i) s)) (moveAt (arenaOf b i) X (full (arenaOf b i) s))) []) (ne-eqb (w / 2 ^ s % 2) 1 not)
+  missing s not = ap (λ (t : Bool). cond t (planAt b i X s) []) (ne-eqb (w / 2 ^ s % 2) 1 not)
 
   -- the lines of the states below from have been written
   pub record Planned (t : List ℕ) (at : ℕ) (u : List ℕ) (next from : ℕ) : Type 0 where
@@ -76,31 +79,25 @@ module _ (b : Block) (i w : ℕ) (X : Table) where
       state-inside = states (from + k) found
 
       skipped : parts (planOf b i w X) (from + k) ≡ parts (planOf b i w X) from
-      skipped = parts-skip (planOf b i w X) from (from + k) (omega arith) (λ x l u. missing x (λ one. low .first (x - from) (omega arith) (shifted w from (x - from) ∙ ap (λ (n : ℕ). w / 2 ^ n % 2) (back x l) ∙ one)))
-        where
-          back : (x : ℕ) → from ≤ x → from + (x - from) ≡ x
-          back x l = omega arith
+      skipped = parts-skip (planOf b i w X) from (from + k) (omega arith) (λ x l u. missing x (λ one. low .first (x - from) (omega arith) (above w from x l ∙ one)))
 
-      pub planned-next : {v : List ℕ} {last : ℕ} → Adds (planLine i (from + k) (rankAt (arenaOf b i) X (full (arenaOf b i) (from + k))) (moveAt (arenaOf b i) X (full (arenaOf b i) (from + k)))) u next v last → last ≤ next + 41 → length v ≡ length u → Planned t at v last (from + k + 1)
+      pub planned-next : {v : List ℕ} {last : ℕ} → Adds (planAt b i X (from + k)) u next v last → last ≤ next + 41 → length v ≡ length u → Planned t at v last (from + k + 1)
       planned-next {v} {last} added short same = record {
         so = λ rest.
             added rest
-            ∙ p .so (planLine i (from + k) (rankAt (arenaOf b i) X (full (arenaOf b i) (from + k))) (moveAt (arenaOf b i) X (full (arenaOf b i) (from + k))) ++ rest)
-            ∙ ap (λ (l : List ℕ). take at t ++ l) (sym (append-assoc (parts (planOf b i w X) from) (planLine i (from + k) (rankAt (arenaOf b i) X (full (arenaOf b i) (from + k))) (moveAt (arenaOf b i) X (full (arenaOf b i) (from + k)))) rest))
-            ∙ ap (λ (l : List ℕ). take at t ++ (l ++ rest)) (sym (line ∙ ap (λ (l : List ℕ). l ++ planLine i (from + k) (rankAt (arenaOf b i) X (full (arenaOf b i) (from + k))) (moveAt (arenaOf b i) X (full (arenaOf b i) (from + k)))) skipped));
+            ∙ p .so (planAt b i X (from + k) ++ rest)
+            ∙ ap (λ (l : List ℕ). take at t ++ l) (sym (append-assoc (parts (planOf b i w X) from) (planAt b i X (from + k)) rest))
+            ∙ ap (λ (l : List ℕ). take at t ++ (l ++ rest)) (sym (line ∙ ap (λ (l : List ℕ). l ++ planAt b i X (from + k)) skipped));
         near = omega (arith, p .near);
         inside = omega (arith, state-inside);
         long = same ∙ p .long;
       }
         where
-          line : parts (planOf b i w X) (from + k + 1) ≡ parts (planOf b i w X) (from + k) ++ planLine i (from + k) (rankAt (arenaOf b i) X (full (arenaOf b i) (from + k))) (moveAt (arenaOf b i) X (full (arenaOf b i) (from + k)))
+          line : parts (planOf b i w X) (from + k + 1) ≡ parts (planOf b i w X) (from + k) ++ planAt b i X (from + k)
           line = parts-next (planOf b i w X) (from + k) ∙ ap (λ (l : List ℕ). parts (planOf b i w X) (from + k) ++ l) (there (from + k) found)
 
     pub planned-all : w / 2 ^ from ≡ 0 → Adds (planLines b i w X) t at u next
     planned-all none = λ rest. p .so rest ∙ ap (λ (l : List ℕ). take at t ++ (l ++ rest)) (sym (parts-skip (planOf b i w X) from (L.states b) (p .inside) (λ x l u. missing x (over x l))))
       where
-        back : (x : ℕ) → from ≤ x → from + (x - from) ≡ x
-        back x l = omega arith
-
         over : (x : ℕ) → from ≤ x → Bit w x → ⊥
-        over x l one = absurd (omega (arith, shifted w from (x - from) ∙ ap (λ (n : ℕ). w / 2 ^ n % 2) (back x l) ∙ one, ap (λ (n : ℕ). n / 2 ^ (x - from) % 2) none ∙ ap (λ (n : ℕ). n % 2) (zero-div (2 ^ (x - from)))))
+        over x l one = absurd (omega (arith, above w from x l ∙ one, ap (λ (n : ℕ). n / 2 ^ (x - from) % 2) none ∙ ap (λ (n : ℕ). n % 2) (zero-div (2 ^ (x - from)))))

@@ -36,9 +36,13 @@ unfoldable pub parts : (ℕ → List ℕ) → ℕ → List ℕ
 parts part zero = []
 parts part (suc n) = parts part n ++ part n
 
--- the plan line of state s of row i, where s is in the row's set w: rank and move at full stock by the table X
+-- the plan line of state s of row i: rank and move at full stock by the table X
+abbrev pub planAt : Block → ℕ → Table → ℕ → List ℕ
+planAt b i X s = planLine i s (rankAt (arenaOf b i) X (full (arenaOf b i) s)) (moveAt (arenaOf b i) X (full (arenaOf b i) s))
+
+-- the same where s is in the row's set w, and nothing elsewhere
 abbrev pub planOf : Block → ℕ → ℕ → Table → ℕ → List ℕ
-planOf b i w X s = cond (bit w s) (planLine i s (rankAt (arenaOf b i) X (full (arenaOf b i) s)) (moveAt (arenaOf b i) X (full (arenaOf b i) s))) []
+planOf b i w X s = cond (bit w s) (planAt b i X s) []
 
 -- one line per state in the set, rising
 abbrev pub planLines : Block → ℕ → ℕ → Table → List ℕ

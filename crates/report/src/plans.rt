@@ -10,11 +10,8 @@ ghost use Rattle.block.specs.Decide.{Bit};
 ghost use Rattle.block.specs.Layout as L;
 ghost use Rattle.block.specs.Valid.{Valid};
 ghost use Rattle.text.specs.Adding.{Adds};
-ghost use Rattle.game.specs.Position as P;
-ghost use Rattle.game.specs.Table.{rankAt, moveAt};
-ghost use Rattle.game.specs.Model.{arenaOf};
 ghost use Rattle.solver.specs.Tables.{tableIn};
-ghost use Rattle.report.specs.Listing.{planLine, planLines};
+ghost use Rattle.report.specs.Listing.{planAt, planLines};
 
 // The plan line of state s.
 fn plan_at(
@@ -29,13 +26,13 @@ fn plan_at(
     requires { ⌜ Valid (now block) ⌝ }
     requires { ⌜ (i < L.rows (now block)) × L.Strategic (L.kind (now block) i) × (s < L.states (now block)) ⌝ }
     requires { ⌜ (12288 ≤ length (now ranks)) × (6144 ≤ length (now moves)) × (at + 41 ≤ length (now out)) ⌝ }
-    ensures { λ r. ⌜ Adds (planLine i s (rankAt (arenaOf (now (block .entry)) i) (tableIn (now (ranks .entry)) (now (moves .entry))) (P.full (arenaOf (now (block .entry)) i) s)) (moveAt (arenaOf (now (block .entry)) i) (tableIn (now (ranks .entry)) (now (moves .entry))) (P.full (arenaOf (now (block .entry)) i) s))) (now (out .entry)) at (now (out .exit)) r × (r ≤ at + 41) ⌝ }
+    ensures { λ r. ⌜ Adds (planAt (now (block .entry)) i (tableIn (now (ranks .entry)) (now (moves .entry))) s) (now (out .entry)) at (now (out .exit)) r × (r ≤ at + 41) ⌝ }
 {
     let p = positions::full(block, i, s);
     plan_line(out, at, i, s, buffers::rank_at(ranks, p), moves[p])
 }
 
-// The plan lines of row i, whose set is given.
+// The plan lines of row i, whose set is given: at most 24 of them, 984 bytes.
 pub fn plan_lines(
     block: &[u8],
     i: usize,

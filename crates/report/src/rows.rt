@@ -30,7 +30,7 @@ fn row_table(block: &[u8], i: usize, sets: &[u8], ranks: &[u8], moves: &mut [u8]
     choose::fill_moves(block, i, left, ranks, moves);
 }
 
-// The lines of row i, where lower rows have their sets; its own is stored.
+// The lines of row i, at most 1,015 bytes, where lower rows have their sets; its own is stored.
 fn row_lines(
     block: &[u8],
     i: usize,
