@@ -1,7 +1,7 @@
 //! How long `rbatl_table` and `rbatl_label` take on jobs of full size (24
 //! states, three agents with four actions, bounds 15 and 15), as ratios to a
-//! Rust program that does the same sweeps and to section 4 of document 003,
-//! and how much stack they use.
+//! Rust program that does the same sweeps, to plain sweeps and to section 4 of
+//! document 003, and how much stack they use.
 
 mod cases;
 mod stack;
@@ -12,9 +12,10 @@ use cases::{Case, ROW};
 use rbatl_tests::checker::splits;
 use rbatl_tests::checker::structure::Structure;
 use rbatl_tests::ffi;
+use rbatl_tests::layout::{row, KIND, NEXT};
 use rbatl_tests::solver::{MOVES_BYTES, RANKS_BYTES, ROOM_BYTES, SETS_BYTES};
 use std::hint::black_box;
-use sweeps::Sweeper;
+use sweeps::{Order, Sweeper};
 
 /// The lent buffers.
 struct Buffers {
@@ -45,31 +46,54 @@ impl Buffers {
     }
 }
 
-/// Seconds, the best of several runs.
+/// Seconds, the best of several runs, of a call and of the other programs.
 struct Times {
-    table: f64,
-    label: f64,
-    sweeps_table: f64,
-    sweeps_label: f64,
+    call: f64,
+    sweeps: f64,
+    plain: f64,
     splits: f64,
 }
 
-fn measure(case: &Case) -> Times {
+/// The times of the table call and of the label call.
+fn measure(case: &Case) -> [Times; 2] {
     let job = &case.job;
     let (mut first, mut second) = (Buffers::new(), Buffers::new());
-    let [table, label, sweeps_table, sweeps_label, splits] = timing::best_of([
+    let [table, label, sweeps_table, sweeps_label, splits_table, splits_label] = timing::best_of([
         &mut || first.table(job),
         &mut || second.label(job),
-        &mut || consume(Sweeper::of(black_box(job)).table()),
-        &mut || consume(Sweeper::of(black_box(job)).set()),
+        &mut || consume(Sweeper::of(black_box(job)).table(Order::Places)),
+        &mut || consume(Sweeper::of(black_box(job)).set(Order::Places)),
+        &mut || splits_for_table(black_box(job)),
         &mut || consume(splits::label(&Structure::of(black_box(job)))),
     ]);
-    Times {
-        table,
-        label,
-        sweeps_table,
-        sweeps_label,
-        splits,
+    let [plain_table, plain_label] = timing::best_of([
+        &mut || consume(Sweeper::of(black_box(job)).table(Order::Plain)),
+        &mut || consume(Sweeper::of(black_box(job)).set(Order::Plain)),
+    ]);
+    let table = Times {
+        call: table,
+        sweeps: sweeps_table,
+        plain: plain_table,
+        splits: splits_table,
+    };
+    let label = Times {
+        call: label,
+        sweeps: sweeps_label,
+        plain: plain_label,
+        splits: splits_label,
+    };
+    [table, label]
+}
+
+/// A table says of every stock what is true with it as the bound. The splits of
+/// until and always go through all smaller bounds anyway; next is labelled for
+/// each.
+fn splits_for_table(job: &[u8]) {
+    let structure = Structure::of(job);
+    if job[row(ROW, KIND)] == NEXT {
+        consume(splits::next_by_bounds(&structure, ROW));
+    } else {
+        consume(splits::label(&structure));
     }
 }
 
@@ -83,7 +107,7 @@ fn longest_rank(case: &Case) -> u16 {
     let mut buffers = Buffers::new();
     buffers.table(&case.job);
     buffers.label(&case.job);
-    let (ranks, moves) = Sweeper::of(&case.job).table();
+    let (ranks, moves) = Sweeper::of(&case.job).table(Order::Places);
     let bytes: Vec<u8> = ranks.iter().flat_map(|rank| rank.to_le_bytes()).collect();
     assert!(
         buffers.ranks[..bytes.len()] == bytes,
@@ -95,7 +119,8 @@ fn longest_rank(case: &Case) -> u16 {
         "{}: moves",
         case.name
     );
-    let set = Sweeper::of(&case.job).set();
+    let set = Sweeper::of(&case.job).set(Order::Places);
+    assert_eq!(Sweeper::of(&case.job).set(Order::Plain), set);
     let stored = &buffers.sets[4 * ROW..4 * ROW + 4];
     assert_eq!(stored, set.to_le_bytes(), "{}: set", case.name);
     assert_eq!(splits::label(&Structure::of(&case.job))[ROW], set);
@@ -104,33 +129,55 @@ fn longest_rank(case: &Case) -> u16 {
 }
 
 fn main() {
-    println!("Times in milliseconds, and as ratios to a Rust program that does the same sweeps");
-    println!("with the moves worked out beforehand, and to section 4's splits of the bound,");
-    println!("which give the set alone. The rank is the largest that is finite.");
+    println!(
+        "Times in milliseconds, and as ratios to other programs that come to the same result:"
+    );
+    println!(
+        "sweeps: the same sweeps in Rust, one stock place after another, with the moves of each"
+    );
+    println!(
+        "        state worked out first; plain: sweeps over all positions until nothing changes;"
+    );
+    println!(
+        "splits: section 4 of document 003, which gives sets alone. For the table call of a next"
+    );
+    println!("        row it labels the row for every stock as bound, for the label call for one.");
+    println!("The rank is the largest that is finite.");
     println!();
     print!("{:30} {:>5}", "case", "rank");
     for call in ["table", "label"] {
-        print!(" {call:>9} {:>8} {:>8}", "/sweeps", "/splits");
+        print!(
+            " {call:>9} {:>8} {:>8} {:>8}",
+            "/sweeps", "/plain", "/splits"
+        );
     }
     println!();
-    let (mut table, mut label) = (0.0, 0.0);
+    let mut largest = [[0.0f64; 2]; 2];
     for case in cases::all() {
         print!("{:30} {:5}", case.name, longest_rank(&case));
-        let times = measure(&case);
-        table = print_times(times.table, times.sweeps_table, times.splits).max(table);
-        label = print_times(times.label, times.sweeps_label, times.splits).max(label);
+        for (times, largest) in measure(&case).iter().zip(&mut largest) {
+            let ratios = print_times(times);
+            *largest = std::array::from_fn(|k| largest[k].max(ratios[k]));
+        }
         println!();
     }
     println!();
-    println!("largest ratio to the sweeps: table {table:.2}, label {label:.2}");
+    for (k, program) in ["sweeps", "splits"].into_iter().enumerate() {
+        let [table, label] = largest.map(|ratios| ratios[k]);
+        println!("largest ratio to the {program}: table {table:.2}, label {label:.2}");
+    }
     print_stack();
 }
 
-/// Gives the ratio to the sweeps.
-fn print_times(time: f64, sweeps: f64, splits: f64) -> f64 {
-    let (milliseconds, to_sweeps, to_splits) = (1e3 * time, time / sweeps, time / splits);
-    print!(" {milliseconds:9.3} {to_sweeps:8.2} {to_splits:8.2}");
-    to_sweeps
+/// Gives the ratios to the sweeps and to the splits.
+fn print_times(times: &Times) -> [f64; 2] {
+    let ratios = [times.sweeps, times.plain, times.splits].map(|time| times.call / time);
+    let [sweeps, plain, splits] = ratios;
+    print!(
+        " {:9.3} {sweeps:8.2} {plain:8.2} {splits:8.2}",
+        1e3 * times.call
+    );
+    [sweeps, splits]
 }
 
 fn print_stack() {

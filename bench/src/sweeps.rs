@@ -1,6 +1,9 @@
-//! The same sweeps in plain Rust: in place, over states, the coalition's moves
-//! and the stock places that can pay them, until nothing changes; then one pass
-//! for the moves. The moves of each state are worked out once beforehand.
+//! The library's sweeps in plain Rust: one stock place after another, the
+//! least stock first, each by sweeps over the states to and fro until nothing
+//! changes; a position by the coalition's moves, as far as they matter to its
+//! rank. Then one pass for the moves. The moves of each state and their replies
+//! are worked out first. Beside them plain sweeps, which go over all positions
+//! in one order until nothing changes.
 
 use rbatl_tests::layout::*;
 
@@ -12,6 +15,14 @@ struct Move {
     number: u8,
     targets: Vec<usize>,
     cost: [usize; 2],
+}
+
+/// In which order positions are settled.
+#[derive(Clone, Copy)]
+pub enum Order {
+    /// As the library does.
+    Places,
+    Plain,
 }
 
 /// The strategic row of a job of full size, over two rows of propositions.
@@ -48,16 +59,16 @@ impl Sweeper {
     }
 
     /// The set of states that win at full stock.
-    pub fn set(&self) -> u32 {
-        let ranks = self.ranks();
+    pub fn set(&self, order: Order) -> u32 {
+        let ranks = self.ranks(order);
         let wins = |state| self.wins(ranks[state * self.stocks + self.stocks - 1]);
         (0..MAX_STATES)
             .map(|state| u32::from(wins(state)) << state)
             .sum()
     }
 
-    pub fn table(&self) -> (Vec<u16>, Vec<u8>) {
-        let ranks = self.ranks();
+    pub fn table(&self, order: Order) -> (Vec<u16>, Vec<u8>) {
+        let ranks = self.ranks(order);
         let mut moves = vec![NO_MOVE; ranks.len()];
         for state in 0..MAX_STATES {
             self.fill_moves(state, &ranks, &mut moves);
@@ -69,7 +80,7 @@ impl Sweeper {
         (rank == NEVER) == (self.kind == ALWAYS)
     }
 
-    fn ranks(&self) -> Vec<u16> {
+    fn ranks(&self, order: Order) -> Vec<u16> {
         let mut ranks = vec![NEVER; MAX_STATES * self.stocks];
         for state in 0..MAX_STATES {
             let settled = match self.kind {
@@ -81,8 +92,114 @@ impl Sweeper {
                 ranks[state * self.stocks..][..self.stocks].fill(0);
             }
         }
+        match (self.kind, order) {
+            (NEXT, _) => (0..MAX_STATES).for_each(|state| self.mark(state, &mut ranks)),
+            (_, Order::Places) => self.settle_places(&mut ranks),
+            (_, Order::Plain) => self.settle_plainly(&mut ranks),
+        }
+        ranks
+    }
+
+    fn settle_places(&self, ranks: &mut [u16]) {
+        for place in 0..self.stocks {
+            let stocks = [place / self.sizes[1], place % self.sizes[1]];
+            let (mut back, mut changed) = (false, true);
+            while changed {
+                changed = false;
+                for k in 0..MAX_STATES {
+                    let state = if back { MAX_STATES - 1 - k } else { k };
+                    changed |= self.settle_at(state, place, stocks, ranks);
+                }
+                back = !back;
+            }
+        }
+    }
+
+    fn settle_at(&self, state: usize, place: usize, stocks: [usize; 2], ranks: &mut [u16]) -> bool {
+        let rank = ranks[state * self.stocks + place];
+        let safe = self.kind == ALWAYS || self.left[state];
+        if !safe || rank <= 1 {
+            return false;
+        }
+        let value = match self.kind {
+            ALWAYS => self.always_value(state, place, stocks, ranks, rank),
+            _ => self.until_value(state, place, stocks, ranks, rank),
+        };
+        let falls = value < rank - 1;
+        if falls {
+            ranks[state * self.stocks + place] = value + 1;
+        }
+        falls
+    }
+
+    /// The moves that the stocks can pay, each with the place left.
+    fn affordable(
+        &self,
+        state: usize,
+        place: usize,
+        stocks: [usize; 2],
+    ) -> impl Iterator<Item = (&Move, usize)> {
+        let moves = self.moves[state].iter();
+        let paid = moves.filter(move |mv| mv.cost[0] <= stocks[0] && mv.cost[1] <= stocks[1]);
+        paid.map(move |mv| (mv, place - (mv.cost[0] * self.sizes[1] + mv.cost[1])))
+    }
+
+    /// The smallest over the moves of the largest rank over the replies, or one
+    /// less than the rank that stands.
+    fn until_value(
+        &self,
+        state: usize,
+        place: usize,
+        stocks: [usize; 2],
+        ranks: &[u16],
+        rank: u16,
+    ) -> u16 {
+        let mut value = rank - 1;
+        for (mv, rest) in self.affordable(state, place, stocks) {
+            let mut worst = 0;
+            for &target in &mv.targets {
+                worst = worst.max(ranks[target * self.stocks + rest]);
+                if worst >= value {
+                    break;
+                }
+            }
+            value = value.min(worst);
+            if value == 0 {
+                break;
+            }
+        }
+        value
+    }
+
+    /// The largest over the moves of the smallest rank over the replies, as soon
+    /// as the rank that stands cannot fall.
+    fn always_value(
+        &self,
+        state: usize,
+        place: usize,
+        stocks: [usize; 2],
+        ranks: &[u16],
+        rank: u16,
+    ) -> u16 {
+        let mut value = 0;
+        for (mv, rest) in self.affordable(state, place, stocks) {
+            let mut worst = NEVER;
+            for &target in &mv.targets {
+                worst = worst.min(ranks[target * self.stocks + rest]);
+                if worst <= value {
+                    break;
+                }
+            }
+            value = value.max(worst);
+            if value >= rank - 1 {
+                break;
+            }
+        }
+        value
+    }
+
+    fn settle_plainly(&self, ranks: &mut [u16]) {
         let step = match self.kind {
-            NEXT => Sweeper::next_step,
             ALWAYS => Sweeper::always_step,
             _ => Sweeper::until_step,
         };
@@ -90,11 +207,9 @@ impl Sweeper {
         while changed {
             changed = false;
             for state in 0..MAX_STATES {
-                changed |= step(self, state, &mut ranks);
+                changed |= step(self, state, ranks);
             }
-            changed &= self.kind != NEXT;
         }
-        ranks
     }
 
     /// The stock places that can pay the cost, each with the place left.
@@ -148,7 +263,7 @@ impl Sweeper {
         changed
     }
 
-    fn next_step(&self, state: usize, ranks: &mut [u16]) -> bool {
+    fn mark(&self, state: usize, ranks: &mut [u16]) {
         for mv in &self.moves[state] {
             if mv.targets.iter().all(|&target| self.left[target]) {
                 for (place, _) in self.payable(mv.cost) {
@@ -156,7 +271,6 @@ impl Sweeper {
                 }
             }
         }
-        true
     }
 
     fn fill_moves(&self, state: usize, ranks: &[u16], moves: &mut [u8]) {

@@ -5,4 +5,3 @@ pub mod Sweeping
 pub mod Solver
 pub mod Determined
 pub mod Moving
-pub mod Steps

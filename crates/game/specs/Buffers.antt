@@ -1,5 +1,5 @@
 -- Words that stand as bytes in a lent buffer, lowest byte first (document 01, "When a row is true"): ranks of two bytes, sets of four.
-use mathlib.Core.Bool.{Bool, true, false, cond}
+use mathlib.Core.Bool.{Bool, true, false}
 use mathlib.Core.List.{List}
 use mathlib.Core.Path.{_≡_}
 use Prim.Native.Nat.{ℕ, _+_, _*_, _≤_, _<_}
@@ -23,8 +23,3 @@ pub record Stored (wordOf : List ℕ → ℕ → ℕ) (before after : List ℕ) 
 abbrev pub Lowered : Bool → List ℕ → List ℕ → ℕ → ℕ → Type 0
 Lowered true before after p v = Stored rankIn before after p v × (v < rankIn before p)
 Lowered false before after p v = (after ≡ before) × (rankIn before p ≤ v)
-
--- the first n steps one after another, and whether any did something
-pub data Steps (step : ℕ → Bool → List ℕ → List ℕ → Type 0) : ℕ → Bool → List ℕ → List ℕ → Type 0 where
-  none : {l : List ℕ} → Steps step 0 false l l
-  next : {k : ℕ} {did did′ : Bool} {l l′ l″ : List ℕ} → Steps step k did l l′ → step k did′ l′ l″ → Steps step (k + 1) (cond did′ true did) l l″

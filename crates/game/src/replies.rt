@@ -30,7 +30,7 @@ pub fn further(most: bool, a: usize, b: usize) -> usize
 }
 
 // Whether v is at least x, or at most x.
-fn beyond(most: bool, x: usize, v: usize) -> bool
+pub fn beyond(most: bool, x: usize, v: usize) -> bool
     ensures { λ r. ⌜ Decides (Beyond most x v) r ⌝ }
 {
     if most {

@@ -1,9 +1,9 @@
--- Trying moves one after another: what is tried at one place after another, and in rising order, leaves the smallest that hits.
+-- Trying moves one after another: what is tried at one place after another, in rising order and state by state, leaves the smallest that hits.
 -- Assumes nothing.
 use mathlib.Core.List.{List}
 use mathlib.Core.Logic.{_⊎_, inl, inr, ⊎-elim}
 use mathlib.Core.Path.{_≡_, refl, sym, _∙_, ap, subst}
-use Prim.Native.Nat.{ℕ, _+_, _<_}
+use Prim.Native.Nat.{ℕ, _+_, _≤_, _<_}
 use native.Mathlib.Omega.{arith}
 use lib.ListN.{getD, length, set, length-set}
 use lib.Seq.{getD-set-same, getD-set-other}
@@ -82,3 +82,39 @@ module _ (Hits : ℕ → ℕ → Type 0) where
       tried n (inl (empty, none)) (inr (_, is, hit)) = inr (omega (arith, is), subst (Smallest (Hits n)) (sym is) (hit, none))
       tried n (inr (below, least)) (inl (same, _)) = inr (omega (arith, same), subst (Smallest (Hits n)) (sym same) least)
       tried n (inr (below, _)) (inr (empty, _, _)) = absurd (omega (arith, empty))
+
+-- what one state after another chose, where no entry is hit in two states
+module _ (hits : ℕ → ℕ → ℕ → Type 0) where
+  -- in the first k states
+  abbrev pub HitsFirst : ℕ → ℕ → ℕ → Type 0
+  HitsFirst k n m = OneHits k (hits m) n
+
+  pub chosen-nowhere : (l : List ℕ) (m : ℕ) → Chosen (HitsFirst 0) m l l
+  chosen-nowhere l m = record { kept = λ n _. refl; tried = λ n empty. inl (empty, λ v small (j, below, _). omega arith); long = refl }
+
+  pub chosen-state : (k top : ℕ) {l l′ l″ : List ℕ} → top ≤ noMove → ((n j v w : ℕ) → j < k → hits v j n → hits w k n → ⊥)
+      → Chosen (HitsFirst k) top l l′ → Chosen (λ n m. hits m k n) top l′ l″ → Chosen (HitsFirst (k + 1)) top l l″
+  chosen-state k top {l} {l′} {l″} small apart before one = record {
+    kept = λ n full. one .kept n (λ e. full (sym (before .kept n full) ∙ e)) ∙ before .kept n full;
+    tried = λ n empty. tried n (before .tried n empty);
+    long = one .long ∙ before .long;
+  }
+    where
+      either : (n m : ℕ) → HitsFirst (k + 1) n m → HitsFirst k n m ⊎ hits m k n
+      either n m (j, below, hit) = at (eq? j k)
+        where
+          at : Dec (j ≡ k) → HitsFirst k n m ⊎ hits m k n
+          at (yes e) = inr (subst (λ (x : ℕ). hits m x n) e hit)
+          at (no ne) = inl (j, omega arith, hit)
+
+      more : (n m : ℕ) → HitsFirst k n m → HitsFirst (k + 1) n m
+      more n m (j, below, hit) = (j, omega arith, hit)
+
+      tried : (n : ℕ) → Choice (HitsFirst k) top n (getD l′ n 0) → Choice (HitsFirst (k + 1)) top n (getD l″ n 0)
+      tried n (inl (empty, none)) = ⊎-elim
+          (λ (still, none′). inl (still, λ v below hit. ⊎-elim (none v below) (none′ v below) (either n v hit)))
+          (λ (low, (hit, least)). inr (low, ((k, omega arith, hit), λ v below hit′. ⊎-elim (none v (omega arith)) (least v below) (either n v hit′))))
+          (one .tried n empty)
+      tried n (inr (low, ((j, below, hit), least))) =
+          let same : getD l″ n 0 ≡ getD l′ n 0 = one .kept n (λ e. omega arith) in
+          inr (omega (arith, same), subst (Smallest (HitsFirst (k + 1) n)) (sym same) ((j, omega arith, hit), λ v less hit′. ⊎-elim (least v less) (apart n j (getD l′ n 0) v below hit) (either n v hit′)))

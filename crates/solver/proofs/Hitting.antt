@@ -79,6 +79,10 @@ met-claimed true u rank h = absurd h
 met-claimed false true rank h = absurd h
 met-claimed false false rank h = omega arith
 
+-- a number is that of one state's position only
+pub hits-apart : (b : Block) (i : ℕ) (t u : Bool) (left : ℕ) (ranks : List ℕ) (k n j v w : ℕ) → j < k → HitsIn b i t u left ranks v j n → HitsIn b i t u left ranks w k n → ⊥
+hits-apart b i t u left ranks k n j v w below (p, fits, state, e, _, _) (q, fits′, state′, e′, _, _) = omega (arith, same-by-number (arenaOf b i) p q fits fits′ (e ∙ sym e′) .0)
+
 module _ (b : Block) (valid : Valid b) (i s m : ℕ) (row : i < L.rows b) (strategic : L.Strategic (L.kind b i)) (state : s < L.states b) (move : MoveOf (structureOf b) (coalitionOf b i) s m)
     (targets : List ℕ) (n : ℕ) (replies : Lists (ReplyTo b i s) (λ r. L.next b s (m + r) * stockPlaces (arenaOf b i)) targets n)
     (stocks : List ℕ) (count : ℕ) (pays : Lists (PaysAt (arenaOf b i) s m) (λ x. x) stocks count)

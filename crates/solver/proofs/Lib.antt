@@ -3,10 +3,12 @@ pub mod Spreading
 pub mod Paying
 pub mod Gathering
 pub mod Placing
+pub mod Widening
 pub mod Valuing
+pub mod Worsts
+pub mod Entries
 pub mod Lowering
 pub mod Sweeping
-pub mod Sparing
 pub mod Starting
 pub mod Marking
 pub mod Words

@@ -1,15 +1,12 @@
 -- Values gathered over all moves of a state are the values of its positions: the attack comes so far, and the defence holds it there.
 -- Assumes nothing.
 use mathlib.Core.Bool.{Bool, true, false, not}
-use mathlib.Core.List.{List}
 use mathlib.Core.Logic.{_⊎_, inl, inr, ⊎-elim}
 use mathlib.Core.Path.{_≡_, refl, sym, _∙_, ap, subst}
 use Prim.Native.Nat.{ℕ, zero, suc, _+_, _*_, _^_, _≤_, _<_}
 use native.Mathlib.Nat.{pow-le-pow-right}
 use native.Mathlib.Omega.{arith}
-use lib.ListN.{getD}
 use Rattle.game.specs.Position.{Arena, Position, IsPosition, number, Reply, Allowed, outcome}
-use Rattle.game.specs.Table.{never}
 use Rattle.game.specs.Facts.{CanForce, CanAnswer}
 use Rattle.game.specs.Extremes.{Beyond, Further}
 use Rattle.game.specs.Sweep.{Worst}
@@ -23,7 +20,7 @@ use Rattle.game.proofs.Local.Same.{Same}
 use Rattle.game.proofs.Solving.Sweeping.{same-by-number}
 use Rattle.game.proofs.Whole.Choices.{idle-allowed, idle-reply}
 use Rattle.solver.specs.Places.{PlacedAt}
-use Rattle.solver.specs.Values.{Gathered, MoveOffers, OneOf, Valued, startValue}
+use Rattle.solver.specs.Values.{MoveOffers, OneOf, Final, Valued}
 use Rattle.solver.proofs.Placing.{placed-number}
 
 -- a move has a worst rank
@@ -79,51 +76,55 @@ module _ (G : Arena) (proper : Proper (G .structure)) (rank : ℕ → ℕ) (s x 
       (sym (placed-number G s x y at′) ∙ placed-number G s x p at)
 
   module _ (p : Position) (placed : PlacedAt G s x p) (v : ℕ) where
-    move-small : (m : ℕ) → G .structure .agents ≤ 3 → Allowed G p m → m < 64
+    pub move-small : (m : ℕ) → G .structure .agents ≤ 3 → Allowed G p m → m < 64
     move-small m few a = omega (arith, a .0 .0, pow-le-pow-right {n = 4} (omega arith) few)
 
+    abbrev Offers : Bool → ℕ → Type 0
+    Offers most = OneOf 64 (MoveOffers G most rank s x)
+
     -- until: the smallest over the moves of the largest over the replies
-    pub until-valued : ((w : ℕ) → OneOf 64 (MoveOffers G true rank s) x w → v ≤ w) → (v ≡ never) ⊎ OneOf 64 (MoveOffers G true rank s) x v → Valued G true rank p v
-    until-valued best some = record {
-      attack = λ finite. ⊎-elim (λ e. absurd (omega arith)) attack some;
+    until-valued : (first : ℕ) → rank (number G p) ≤ first + 1 → ((w : ℕ) → Offers true w → v ≤ w) → (v ≡ first) ⊎ Offers true v → Valued G true rank p v
+    until-valued first start best some = record {
+      attack = λ less. ⊎-elim (λ e. absurd (omega arith)) attack some;
       defend = λ m a.
           let (w, worst) = worst-exists G proper true rank p (placed .fits) m in
           let (r, reply, e) = worst .some in
           (r, reply, omega (arith, best w (m, move-small m (proper .few-agents) a, (p, placed, a, worst))));
-      met = λ finite. ⊎-elim (λ e. absurd (omega arith)) met some;
+      met = λ less. ⊎-elim (λ e. absurd (omega arith)) met some;
     }
       where
-        attack : OneOf 64 (MoveOffers G true rank s) x v → CanForce G p (λ y. rank (number G y) ≤ v)
+        attack : Offers true v → CanForce G p (λ y. rank (number G y) ≤ v)
         attack (m, l, (y, placed′, a, worst)) = force-transfers G (λ n _. rank n ≤ v) y p (placed-same p y placed placed′) (m, a, worst .each)
 
-        met : OneOf 64 (MoveOffers G true rank s) x v → (y : Position) × IsPosition G y × (rank (number G y) ≡ v)
+        met : Offers true v → (y : Position) × IsPosition G y × (rank (number G y) ≡ v)
         met (m, l, (y, placed′, a, worst)) = let (r, reply, e) = worst .some in (outcome G y m r, outcome-fits G proper y m r (placed′ .fits) (a .0) reply, e)
 
     -- always: the largest over the moves of the smallest over the replies
-    pub always-valued : ((w : ℕ) → OneOf 64 (MoveOffers G false rank s) x w → w ≤ v) → (v ≡ 0) ⊎ OneOf 64 (MoveOffers G false rank s) x v → Valued G false rank p v
+    always-valued : (v + 1 < rank (number G p) → (w : ℕ) → Offers false w → w ≤ v) → (v ≡ 0) ⊎ Offers false v → Valued G false rank p v
     always-valued best some = record {
-      attack = λ finite m a.
+      attack = λ less m a.
           let (w, worst) = worst-exists G proper false rank p (placed .fits) m in
           let (r, reply, e) = worst .some in
-          (r, reply, omega (arith, best w (m, move-small m (proper .few-agents) a, (p, placed, a, worst))));
+          (r, reply, omega (arith, best less w (m, move-small m (proper .few-agents) a, (p, placed, a, worst))));
       defend = ⊎-elim (λ e. (0, idle-allowed G proper p (placed .fits), λ r reply. omega arith)) defend some;
-      met = λ finite. ⊎-elim idle met some;
+      met = λ less. ⊎-elim (idle less) met some;
     }
       where
-        defend : OneOf 64 (MoveOffers G false rank s) x v → CanForce G p (λ y. v ≤ rank (number G y))
+        defend : Offers false v → CanForce G p (λ y. v ≤ rank (number G y))
         defend (m, l, (y, placed′, a, worst)) = force-transfers G (λ n _. v ≤ rank n) y p (placed-same p y placed placed′) (m, a, worst .each)
 
-        met : OneOf 64 (MoveOffers G false rank s) x v → (y : Position) × IsPosition G y × (rank (number G y) ≡ v)
+        met : Offers false v → (y : Position) × IsPosition G y × (rank (number G y) ≡ v)
         met (m, l, (y, placed′, a, worst)) = let (r, reply, e) = worst .some in (outcome G y m r, outcome-fits G proper y m r (placed′ .fits) (a .0) reply, e)
 
-        idle : v ≡ 0 → (y : Position) × IsPosition G y × (rank (number G y) ≡ v)
-        idle e =
+        idle : v + 1 < rank (number G p) → v ≡ 0 → (y : Position) × IsPosition G y × (rank (number G y) ≡ v)
+        idle less e =
             let a = idle-allowed G proper p (placed .fits) in
             let (w, worst) = worst-exists G proper false rank p (placed .fits) 0 in
             let (r, reply, e′) = worst .some in
-            (outcome G p 0 r, outcome-fits G proper p 0 r (placed .fits) (a .0) reply, omega (arith, e′, best w (0, omega arith, (p, placed, a, worst))))
+            (outcome G p 0 r, outcome-fits G proper p 0 r (placed .fits) (a .0) reply, omega (arith, e′, best less w (0, omega arith, (p, placed, a, worst))))
 
-  -- what is gathered over all moves, from nothing
-  pub gathered-valued : (most : Bool) (before after : List ℕ) → getD before x 0 ≡ startValue most → Gathered (not most) (OneOf 64 (MoveOffers G most rank s)) before after → (p : Position) → PlacedAt G s x p → Valued G most rank p (getD after x 0)
-  gathered-valued true before after start g p placed = until-valued p placed (getD after x 0) (λ w. g .best x w) (⊎-elim (λ e. inl (e ∙ start)) inr (g .some x))
-  gathered-valued false before after start g p placed = always-valued p placed (getD after x 0) (λ w. g .best x w) (⊎-elim (λ e. inl (e ∙ start)) inr (g .some x))
+    -- what is gathered over all moves, or over so many that no other changes anything
+    pub gathered-valued : (most : Bool) (first : ℕ) → (most ≡ true → first + 1 ≡ rank (number G p)) → (most ≡ false → first ≡ 0) → (v ≡ first) ⊎ Offers most v
+        → Final most (rank (number G p)) v ⊎ ((w : ℕ) → Offers most w → Beyond (not most) w v) → Valued G most rank p v
+    gathered-valued true first start _ some done = until-valued first (omega (arith, start refl)) (λ w offer. ⊎-elim (λ (e : v ≡ 0). omega arith) (λ best. best w offer) done) some
+    gathered-valued false first _ start some done = always-valued (λ less w offer. ⊎-elim (λ (h : rank (number G p) ≤ v + 1). absurd (omega arith)) (λ best. best w offer) done) (⊎-elim (λ e. inl (e ∙ start refl)) inr some)

@@ -1,4 +1,4 @@
--- The choice of a row's moves: a move is tried everywhere before the next, so that what is chosen first at a position is its smallest.
+-- The choice of a row's moves: those of a state are tried in rising order, so that what is chosen first at a position is its smallest.
 -- The kind of the row is told by two tests: next, and where that fails, always; until is left.
 use mathlib.Core.Bool.{Bool, true, false, cond}
 use mathlib.Core.List.{List}

@@ -1,8 +1,9 @@
 -- What the parts of the solver do.
 pub mod Places
+pub mod Wides
+pub mod Ways
 pub mod Values
 pub mod Sweeps
-pub mod Marks
 pub mod Solving
 pub mod Tables
 pub mod Next

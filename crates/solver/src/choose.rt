@@ -1,4 +1,4 @@
-// The moves of a row's table. Each move is tried at every position before the next, so that the first that is good is the smallest.
+// The moves of a row's table. In each state the moves are tried in rising order, so that the first that is good at a position is the smallest.
 use crate::next;
 use crate::payable;
 use block::layout;
@@ -150,7 +150,7 @@ fn leads(
     false
 }
 
-// Tries the move m in state s, at each stock place that pays it; c is how many stock places there are.
+// Tries the move m in state s, at each stock place that pays it; c is how many stock places there are. The n replies are listed.
 fn choose_move(
     block: &[u8],
     i: usize,
@@ -160,23 +160,24 @@ fn choose_move(
     soon: bool,
     ever: bool,
     left: usize,
+    answers: &[usize],
+    n: usize,
     ranks: &[u8],
     moves: &mut [u8],
 )
     requires { ⌜ Valid (now block) ⌝ }
     requires { ⌜ (i < L.rows (now block)) × L.Strategic (L.kind (now block) i) × (s < L.states (now block)) ⌝ }
     requires { ⌜ MoveOf (structureOf (now block)) (coalitionOf (now block) i) s m × (m < 64) ⌝ }
+    requires { ⌜ Lists (ReplyTo (now block) i s) (λ (r : ℕ). r) (now answers) n × (n ≤ 64) × (n ≤ length (now answers)) ⌝ }
     requires { ⌜ (c ≡ stockPlaces (arenaOf (now block) i)) × (12288 ≤ length (now ranks)) × (6144 ≤ length (now moves)) ⌝ }
     ensures { λ _. ⌜ Tried (HitsIn (now (block .entry)) i soon ever left (now (ranks .entry)) m s) m (now (moves .entry)) (now (moves .exit)) ⌝ }
 {
-    let mut answers = [0; 64];
     let mut targets = [0; 64];
     let mut places = [0; 256];
-    let n = replies::replies(block, i, s, &mut answers);
-    replies::targets(block, i, s, m, c, &answers, n, &mut targets);
+    replies::targets(block, i, s, m, c, answers, n, &mut targets);
     let count = payable::payable(block, i, s, m, &mut places);
     let taken = positions::offset(block, i, s, m);
-    let into = leads(block, i, s, m, left, soon, &answers, n);
+    let into = leads(block, i, s, m, left, soon, answers, n);
     choose(
         ranks,
         &targets,
@@ -193,11 +194,11 @@ fn choose_move(
     );
 }
 
-// Tries the move m in every state where the team has it.
-fn choose_states(
+// Tries every move of state s, from the smallest up.
+fn choose_state(
     block: &[u8],
     i: usize,
-    m: usize,
+    s: usize,
     c: usize,
     soon: bool,
     ever: bool,
@@ -206,22 +207,36 @@ fn choose_states(
     moves: &mut [u8],
 )
     requires { ⌜ Valid (now block) ⌝ }
-    requires { ⌜ (i < L.rows (now block)) × L.Strategic (L.kind (now block) i) × (m < 64) ⌝ }
+    requires { ⌜ (i < L.rows (now block)) × L.Strategic (L.kind (now block) i) × (s < L.states (now block)) ⌝ }
     requires { ⌜ (c ≡ stockPlaces (arenaOf (now block) i)) × (12288 ≤ length (now ranks)) × (6144 ≤ length (now moves)) ⌝ }
-    ensures { λ _. ⌜ Tried (λ (n : ℕ). HitsAny (now (block .entry)) i soon ever left (now (ranks .entry)) n m) m (now (moves .entry)) (now (moves .exit)) ⌝ }
+    ensures { λ _. ⌜ Chosen (λ (n m : ℕ). HitsIn (now (block .entry)) i soon ever left (now (ranks .entry)) m s n) 64 (now (moves .entry)) (now (moves .exit)) ⌝ }
 {
-    let states = layout::states(block);
+    let mut answers = [0; 64];
+    let n = replies::replies(block, i, s, &mut answers);
     let team = layout::team(block, i);
-    let mut s = 0;
-    while s < states {
+    let mut m = 0;
+    while m < 64 {
         if moves::is_move(block, s, team, m) {
-            choose_move(block, i, s, m, c, soon, ever, left, ranks, moves);
+            choose_move(
+                block,
+                i,
+                s,
+                m,
+                c,
+                soon,
+                ever,
+                left,
+                &answers,
+                n,
+                ranks,
+                moves,
+            );
         }
-        s += 1;
+        m += 1;
     }
 }
 
-// Tries every move, from the smallest up.
+// Tries the moves of every state.
 fn choose_all(
     block: &[u8],
     i: usize,
@@ -237,10 +252,11 @@ fn choose_all(
     requires { ⌜ (c ≡ stockPlaces (arenaOf (now block) i)) × (12288 ≤ length (now ranks)) × (6144 ≤ length (now moves)) ⌝ }
     ensures { λ _. ⌜ Chosen (HitsAny (now (block .entry)) i soon ever left (now (ranks .entry))) 64 (now (moves .entry)) (now (moves .exit)) ⌝ }
 {
-    let mut m = 0;
-    while m < 64 {
-        choose_states(block, i, m, c, soon, ever, left, ranks, moves);
-        m += 1;
+    let n = layout::states(block);
+    let mut s = 0;
+    while s < n {
+        choose_state(block, i, s, c, soon, ever, left, ranks, moves);
+        s += 1;
     }
 }
 

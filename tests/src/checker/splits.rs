@@ -37,6 +37,18 @@ pub fn label(structure: &Structure) -> Vec<Set> {
     sets
 }
 
+/// [⟪A^d⟫ ○ φ] of a next row for each bound d that is nowhere above its own.
+pub fn next_by_bounds(structure: &Structure, row: usize) -> Vec<Set> {
+    let Formula::Next(ability, left) = structure.formulas[row] else {
+        panic!("row {row} is no next row");
+    };
+    let set = label(structure)[left];
+    let game = Game::of(structure, ability.coalition);
+    let grid = Grid { top: ability.bound };
+    let bounds = (0..grid.places()).map(|place| grid.bound(place));
+    bounds.map(|bound| game.pre(set, bound)).collect()
+}
+
 /// The moves of a coalition in each state: cost(q, σ) and out(q, σ).
 struct Game {
     moves: Vec<Vec<(Amounts, Set)>>,

@@ -7,7 +7,7 @@ use native.Mathlib.Omega.{arith}
 use Rattle.game.specs.Rbatl.{Bound, limit, unlimited, Fits}
 use Rattle.game.specs.Position.{Arena, Position, places, stockBound, taken, remaining, IsPosition, numberUpTo, number, stocksOf, stockPlacesUpTo, stockPlaces, cost, offset, Affordable, outcome}
 
-taken-back : (b : Bound) (s c : ℕ) → s < places b → Fits c (stockBound b s) → remaining b s c + taken b c ≡ s
+pub taken-back : (b : Bound) (s c : ℕ) → s < places b → Fits c (stockBound b s) → remaining b s c + taken b c ≡ s
 taken-back (limit n) s c l fits = omega arith
 taken-back unlimited s c l fits = omega arith
 

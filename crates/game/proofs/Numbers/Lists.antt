@@ -1,12 +1,11 @@
--- A list of the values of those numbers that have a property, made by going through the numbers; and the extreme of it. Assumes nothing.
-use mathlib.Core.Bool.{Bool}
+-- A list of the values of those numbers that have a property, made by going through the numbers. Assumes nothing.
 use mathlib.Core.List.{List}
 use mathlib.Core.Path.{_≡_, sym, _∙_, ap, subst}
 use Prim.Native.Nat.{ℕ, _+_, _<_}
 use native.Mathlib.Omega.{arith}
 use lib.ListN.{getD, length, set}
 use lib.Seq.{getD-set-same, getD-set-other}
-use Rattle.game.specs.Extremes.{Beyond, Extreme, Lists}
+use Rattle.game.specs.Extremes.{Lists}
 use Rattle.game.proofs.Numbers.Decide.{eq?}
 
 -- the first k places of a list hold the values of those of another
@@ -67,14 +66,3 @@ module _ (P : ℕ → Type 0) (f : ℕ → ℕ) where
     each = λ r h. let (k, small, e) = lists .each r h in (k, small, values k small ∙ ap f e);
     only = λ k small. let (r, h, e) = lists .only k small in (r, h, values k small ∙ ap f e);
   }
-
-  -- the extreme of a list is that of the numbers listed
-  module _ (most : Bool) (g : ℕ → ℕ) (n v : ℕ) (l : List ℕ) (lists : Lists P f l n) (extreme : Extreme most n (λ k. g (getD l k 0)) v) where
-    pub extreme-each : (r : ℕ) → P r → Beyond most (g (f r)) v
-    extreme-each r h = let (k, small, e) = lists .each r h in subst (λ (x : ℕ). Beyond most (g x) v) e (extreme .beyond k small)
-
-    pub extreme-some : (r : ℕ) × P r × (g (f r) ≡ v)
-    extreme-some =
-        let (k, small, e) = extreme .taken in
-        let (r, h, e′) = lists .only k small in
-        (r, h, ap g (sym e′) ∙ e)

@@ -1,74 +1,89 @@
--- `settle` sweeps until a sweep does nothing; the sum of the ranks falls till then. Assumes nothing.
-use mathlib.Core.Bool.{Bool}
-use mathlib.Core.List.{List}
-use mathlib.Core.Path.{_≡_, sym, _∙_, subst}
-use Prim.Native.Nat.{ℕ, _<_, _≤_}
+-- `settle` lists the moves and replies of the row and settles all places. Assumes nothing.
+use mathlib.Core.Path.{_≡_, refl}
+use Prim.Native.Nat.{ℕ, _<_}
 use native.Mathlib.Omega.{arith}
-use lib.ListN.{length, length-replicate, getD-replicate}
+use lib.ListN.{getD, length, replicate, length-replicate, getD-replicate, List·getD-eq-default}
 use borrow.Author.Needs.{needs}
-use Rattle.game.specs.Model.{arenaOf}
-use Rattle.game.proofs.Blocks.Passing.{valid-proper, few-positions}
-use Rattle.solver.specs.Marks.{Unmarked}
-use Rattle.solver.proofs.Sweeping.{Sweeping, sweeping-first, sweeping-next, left-to-do, sweep-less, settled}
+use Rattle.game.proofs.Numbers.Decide.{lt?}
 use Rattle.solver.proofs.sweep.settle.Statement.{statement}
 use Rattle.solver.proofs.sweep.settle.Tie as tie
 
-abbrev Inv-loop : tie.InvT-loop
-Inv-loop block i c safe most ranks₀ marks₀ back₀ more₀ ranks marks back more = Sweeping (arenaOf block i) most safe more ranks₀ ranks × Unmarked (arenaOf block i) most safe marks ranks × (length marks ≡ 24)
+slice-aggregate-list-row : tie.Need-slice-aggregate-list-row
+slice-aggregate-list-row c = search needs
 
-abbrev μ-loop : tie.MeasureT-loop
-μ-loop block i c safe most ranks₀ marks₀ back₀ more₀ ranks marks back more = left-to-do (arenaOf block i) most safe more ranks
+slice-aggregate-list-row-2 : tie.Need-slice-aggregate-list-row-2
+slice-aggregate-list-row-2 c = search needs
 
-loop-holds : tie.Need-loop-holds Inv-loop μ-loop
-loop-holds c =
-    let start = c .before .before in
-    let args = start .args in (
-      sweeping-first (arenaOf (args .block .now) (args .i)) (args .most) (args .safe) (args .ranks .now),
-      λ t small e. absurd (omega (arith, getD-replicate {A = ℕ} 24 t 1 0 (omega (arith, small, start .pre .0 .sized .states-fit)))),
-      length-replicate {A = ℕ} 24 1,
-    )
+slice-aggregate-list-row-3 : tie.Need-slice-aggregate-list-row-3
+slice-aggregate-list-row-3 c = search needs
 
-slice-aggregate-sweep : tie.Need-slice-aggregate-sweep Inv-loop μ-loop
-slice-aggregate-sweep c = search needs
+slice-aggregate-list-row-4 : tie.Need-slice-aggregate-list-row-4
+slice-aggregate-list-row-4 c = search needs
 
-sweep-requires : tie.Need-sweep-requires Inv-loop μ-loop
-sweep-requires c κs =
-    let pre = c .before .before .before .before .before .before .pre in
-    let at = c .before .before .before .loop in
-    (pre .0, (pre .1 .0, ((pre .1 .1 .0, omega (arith, pre .1 .1 .1, at .inv .0 .long), omega (arith, at .inv .2)), at .inv .1)))
+slice-aggregate-list-row-5 : tie.Need-slice-aggregate-list-row-5
+slice-aggregate-list-row-5 c = search needs
 
-loop-less : tie.Need-loop-less Inv-loop μ-loop
-loop-less c =
-    let args = c .before .before .before .before .before .before .before .before .before .before .args in
-    let G = arenaOf (args .block .now) (args .i) in
-    let at = c .before .before .before .before .before .before .before .loop in
-    let step = c .before .before .before .sweep in
-    let last = step .last .1 .1 .1 .1 .1 .1 .1 .0 in
-    subst (λ (more : Bool). left-to-do G (args .most) (args .safe) (step .result) last < left-to-do G (args .most) (args .safe) more (at .ranks)) (sym (c .before .before .before .before .before .before .loop-test .taken))
-    (sweep-less G (args .most) (args .safe) (step .result) (at .ranks) last (step .ensures .0))
+slice-aggregate-list-row-6 : tie.Need-slice-aggregate-list-row-6
+slice-aggregate-list-row-6 c = search needs
 
-loop-again : tie.Need-loop-again Inv-loop μ-loop
-loop-again c =
-    let args = c .before .before .before .before .before .before .before .before .before .before .args in
-    let at = c .before .before .before .before .before .before .before .loop in
-    let step = c .before .before .before .sweep in (
-      sweeping-next (arenaOf (args .block .now) (args .i)) (args .most) (args .safe) (at .more) (step .result) (args .ranks .now) (at .ranks) (step .last .1 .1 .1 .1 .1 .1 .1 .0) (at .inv .0) (step .ensures .0),
-      step .ensures .1 .0,
-      step .ensures .1 .1 ∙ at .inv .2,
-    )
+-- zeros are small
+small-zeros : (n x : ℕ) → getD (replicate {A = ℕ} n 0) x 0 < 1024
+small-zeros n x = go (lt? x n)
+  where
+    go : Dec (x < n) → getD (replicate {A = ℕ} n 0) x 0 < 1024
+    go (yes h) = omega (arith, getD-replicate {A = ℕ} n x 0 0 h)
+    go (no h) = omega (arith, List·getD-eq-default (replicate {A = ℕ} n 0) 0 {n = x} (omega (arith, length-replicate {A = ℕ} n 0)))
 
-same-length : tie.Need-same-length Inv-loop μ-loop
-same-length c = c .before .loop .inv .0 .long
+list-row-requires : tie.Need-list-row-requires
+list-row-requires c κs =
+    let pre = c .before .before .before .before .before .before .before .before .pre in
+    let zeros : (n : ℕ) → length (replicate {A = ℕ} n 0) ≡ n = λ n. length-replicate {A = ℕ} n 0 in
+    (pre .0, ((pre .1 .0 .0, pre .1 .0 .1, pre .1 .1 .0), ((zeros 24, zeros 24), ((zeros 1536, zeros 1536, zeros 1536), (zeros 256, small-zeros 256)))))
 
-returns : tie.Need-returns Inv-loop μ-loop
-returns c =
-    let start = c .before .before .before .before in
-    let args = start .args in
-    let b = args .block .now in
-    let G = arenaOf b (args .i) in
-    let at = c .before .loop in
-    settled G (args .most) (args .safe) (valid-proper b (start .pre .0)) (omega (arith, few-positions b (start .pre .0) (args .i) (start .pre .1 .0 .0) (start .pre .1 .0 .1))) (args .ranks .now) (at .ranks)
-    (subst (λ (more : Bool). Sweeping G (args .most) (args .safe) more (args .ranks .now) (at .ranks)) (c .loop-test .left) (at .inv .0))
+slice-aggregate-settle-places : tie.Need-slice-aggregate-settle-places
+slice-aggregate-settle-places c = search needs
+
+slice-aggregate-settle-places-2 : tie.Need-slice-aggregate-settle-places-2
+slice-aggregate-settle-places-2 c = search needs
+
+slice-aggregate-settle-places-3 : tie.Need-slice-aggregate-settle-places-3
+slice-aggregate-settle-places-3 c = search needs
+
+slice-aggregate-settle-places-4 : tie.Need-slice-aggregate-settle-places-4
+slice-aggregate-settle-places-4 c = search needs
+
+slice-aggregate-settle-places-5 : tie.Need-slice-aggregate-settle-places-5
+slice-aggregate-settle-places-5 c = search needs
+
+slice-aggregate-settle-places-6 : tie.Need-slice-aggregate-settle-places-6
+slice-aggregate-settle-places-6 c = search needs
+
+settle-places-requires : tie.Need-settle-places-requires
+settle-places-requires c κs = let pre = c .before .before .before .before .before .before .before .before .before .before .before .before .before .before .before .before .before .before .before .before .before .before .pre in (pre .0, (pre .1 .0, (c .before .before .before .before .before .before .before .before .before .before .before .before .before .list-row .ensures, pre .1 .1)))
+
+same-length : tie.Need-same-length
+same-length c = search needs
+
+returns : tie.Need-returns
+returns c = c .before .before .settle-places .ensures
 
 pub settle-spec : {M : Type 1} → statement M
-settle-spec = tie.close (tie.spec Inv-loop μ-loop loop-holds slice-aggregate-sweep sweep-requires loop-less loop-again same-length returns)
+settle-spec =
+    tie.close
+    (tie.spec
+    slice-aggregate-list-row
+    slice-aggregate-list-row-2
+    slice-aggregate-list-row-3
+    slice-aggregate-list-row-4
+    slice-aggregate-list-row-5
+    slice-aggregate-list-row-6
+    list-row-requires
+    slice-aggregate-settle-places
+    slice-aggregate-settle-places-2
+    slice-aggregate-settle-places-3
+    slice-aggregate-settle-places-4
+    slice-aggregate-settle-places-5
+    slice-aggregate-settle-places-6
+    settle-places-requires
+    same-length
+    returns)

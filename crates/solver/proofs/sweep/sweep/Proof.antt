@@ -1,91 +1,82 @@
 -- `sweep` goes over the states one after another, in either order. Assumes nothing.
 use mathlib.Core.Bool.{Bool, true, cond}
 use mathlib.Core.Logic.{⊎-elim}
-use mathlib.Core.Path.{_≡_, refl, sym, _∙_, ap, subst}
+use mathlib.Core.Path.{_≡_, sym, _∙_, ap, subst}
 use Prim.Native.Nat.{ℕ, _+_, _-_, _≤_, _<_}
 use native.Mathlib.Omega.{arith}
-use lib.ListN.{length}
 use Rattle.block.specs.Layout as L
 use Rattle.game.specs.Model.{arenaOf}
 use Rattle.solver.specs.Sweeps.{RestsAt, RestsBelow, visit, Swept}
-use Rattle.solver.specs.Marks.{Unmarked}
 use Rattle.solver.proofs.Sweeping.{RestsFirst, visits, swept-nothing, swept-next, swept-all}
 use Rattle.solver.proofs.sweep.sweep.Statement.{statement}
 use Rattle.solver.proofs.sweep.sweep.Tie as tie
 
 abbrev Inv-loop : tie.InvT-loop
-Inv-loop block i c safe most back marks₀ ranks₀ n did₀ k₀ marks ranks did k = (k ≤ n) × Swept (arenaOf block i) most safe (RestsFirst (arenaOf block i) most safe (visit back n) k) did ranks₀ ranks × Unmarked (arenaOf block i) most safe marks ranks × (length marks ≡ length marks₀)
+Inv-loop block i x c safe most back counts moves takes others answers wides ranks₀ n did₀ k₀ ranks did k = (k ≤ n) × Swept (arenaOf block i) most safe x (RestsFirst (arenaOf block i) most safe x (visit back n) k) did ranks₀ ranks
 
 abbrev μ-loop : tie.MeasureT-loop
-μ-loop block i c safe most back marks₀ ranks₀ n did₀ k₀ marks ranks did k = n - k
+μ-loop block i x c safe most back counts moves takes others answers wides ranks₀ n did₀ k₀ ranks did k = n - k
 
 states-requires : tie.Need-states-requires Inv-loop μ-loop
-states-requires c κs = omega (arith, c .before .before .before .pre .0 .sized .bytes)
+states-requires c κs = omega (arith, c .before .before .before .before .before .before .before .before .pre .0 .sized .bytes)
 
 loop-holds : tie.Need-loop-holds Inv-loop μ-loop
 loop-holds c =
-    let args = c .before .before .before .before .args in
+    let args = c .before .before .before .before .before .before .before .before .before .args in
     let G = arenaOf (args .block .now) (args .i) in
-    (omega arith, swept-nothing G (args .most) (args .safe) (RestsFirst G (args .most) (args .safe) (visit (args .back) (c .states .result)) 0) (args .ranks .now) (λ j l. absurd (omega arith)), c .before .before .before .before .pre .1 .1 .1, refl)
+    (omega arith, swept-nothing G (args .most) (args .safe) (args .x) (RestsFirst G (args .most) (args .safe) (args .x) (visit (args .back) (c .states .result)) 0) (args .ranks .now) (λ j l. absurd (omega arith)))
 
 visited-requires : tie.Need-visited-requires Inv-loop μ-loop
 visited-requires c κs = c .loop-test .taken
 
-settle-marked-requires : tie.Need-settle-marked-requires Inv-loop μ-loop
-settle-marked-requires c κs =
-    let start = c .before .before .before .before .before .before .before .before .before in
+settle-at-requires : tie.Need-settle-at-requires Inv-loop μ-loop
+settle-at-requires c κs =
+    let start = c .before .before .before .before .before .before .before .before .before .before .before .before .before in
     let pre = start .pre in
-    let states = c .before .before .before .before .before .states in
-    let at = c .before .before .before .before .loop in
-    let inside = visits (start .args .back) (states .result) (c .before .before .before .before .loop .k) (c .before .before .before .loop-test .taken) .0 in
-    (pre .0, ((pre .1 .0 .0, pre .1 .0 .1, omega (arith, inside, c .before .before .visited .ensures, states .ensures)), ((pre .1 .1 .0 .0, omega (arith, pre .1 .1 .0 .1, at .inv .1 .long), omega (arith, pre .1 .1 .0 .2, at .inv .3)), at .inv .2)))
+    let states = c .before .before .before .before .states in
+    let at = c .before .before .before .loop in
+    let inside = visits (start .args .back) (states .result) (at .k) (c .before .before .loop-test .taken) .0 in
+    (pre .0, ((pre .1 .0 .0, pre .1 .0 .1, omega (arith, inside, c .before .visited .ensures, states .ensures)), (pre .1 .1 .0, (pre .1 .1 .1 .0, pre .1 .1 .1 .1, omega (arith, pre .1 .1 .1 .2, at .inv .1 .changed .long)))))
 
 add-k : tie.Need-add-k Inv-loop μ-loop
 add-k c = omega arith
 
 loop-less : tie.Need-loop-less Inv-loop μ-loop
-loop-less c = omega arith
+loop-less c = omega (arith, c .before .before .before .before .before .before .loop-test .taken)
 
 loop-again : tie.Need-loop-again Inv-loop μ-loop
 loop-again c =
-    let args = c .before .before .before .before .before .before .before .before .before .before .before .before .before .before .before .args in
+    let args = c .before .before .before .before .before .before .before .before .before .before .before .before .before .before .before .before .before .args in
     let G = arenaOf (args .block .now) (args .i) in
-    let at = c .before .before .before .before .before .before .before .before .before .before .loop in
-    let step = c .before .before .before .before .before .settle-marked in
-    let order = visit (args .back) (c .before .before .before .before .before .before .before .before .before .before .before .states .result) in
-    let last = step .last .1 .1 .1 .1 .1 .1 .1 .0 in
+    let at = c .before .before .before .before .before .before .before .loop in
+    let step = c .before .before .before .settle-at in
+    let order = visit (args .back) (c .before .before .before .before .before .before .before .before .states .result) in
+    let last = step .last .1 .1 .1 .1 .1 .1 .1 .1 .1 .1 .1 .1 .1 .0 in
     let any : c .if1 .did ≡ cond (step .result) true (at .did) =
     ⊎-elim
     (λ w. w .1 ∙ sym (ap (λ (t : Bool). cond t true (at .did)) (w .0 .taken)))
     (λ w. w .1 ∙ sym (ap (λ (t : Bool). cond t true (at .did)) (w .0 .left)))
     (c .if1 .came) in
-    let one = subst (λ (s : ℕ). Swept G (args .most) (args .safe) (RestsAt G (args .most) (args .safe) s) (step .result) (at .ranks) last) (c .before .before .before .before .before .before .before .before .visited .ensures) (step .ensures .0) in (
-      omega (arith, at .inv .0, c .before .before .before .before .before .before .before .before .before .loop-test .taken),
-      subst (λ (t : Bool). Swept G (args .most) (args .safe) (RestsFirst G (args .most) (args .safe) order (at .k + 1)) t (args .ranks .now) last) (sym any)
-          (swept-next G (args .most) (args .safe) order (at .k) (at .inv .1) one),
-      step .ensures .1 .0,
-      step .ensures .1 .1 ∙ at .inv .3,
+    let one = subst (λ (s : ℕ). Swept G (args .most) (args .safe) (args .x) (RestsAt G (args .most) (args .safe) (args .x) s) (step .result) (at .ranks) last) (c .before .before .before .before .before .visited .ensures) (step .ensures) in (
+      omega (arith, at .inv .0, c .before .before .before .before .before .before .loop-test .taken),
+      subst (λ (t : Bool). Swept G (args .most) (args .safe) (args .x) (RestsFirst G (args .most) (args .safe) (args .x) order (at .k + 1)) t (args .ranks .now) last) (sym any)
+          (swept-next G (args .most) (args .safe) (args .x) order (at .k) (at .inv .1) one),
     )
 
 same-length : tie.Need-same-length Inv-loop μ-loop
-same-length c = c .before .loop .inv .3
-
-same-length-2 : tie.Need-same-length-2 Inv-loop μ-loop
-same-length-2 c = c .before .loop .inv .1 .long
+same-length c = c .before .loop .inv .1 .changed .long
 
 returns : tie.Need-returns Inv-loop μ-loop
 returns c =
-    let args = c .before .before .before .before .before .before .args in
+    let args = c .before .before .before .before .before .before .before .before .before .before .before .args in
     let G = arenaOf (args .block .now) (args .i) in
     let at = c .before .loop in
     let states = c .before .before .states in
     let order = visit (args .back) (states .result) in
-    let all : at .k ≡ states .result = omega (arith, at .inv .0, c .loop-test .left) in (
-      subst (λ (n : ℕ). Swept G (args .most) (args .safe) (RestsBelow G (args .most) (args .safe) n) (at .did) (args .ranks .now) (at .ranks)) (states .ensures)
-          (swept-all G (args .most) (args .safe) order order (states .result) (visits (args .back) (states .result))
-          (subst (λ (k : ℕ). Swept G (args .most) (args .safe) (RestsFirst G (args .most) (args .safe) order k) (at .did) (args .ranks .now) (at .ranks)) all (at .inv .1))),
-      (at .inv .2, at .inv .3),
-    )
+    let all : at .k ≡ states .result = omega (arith, at .inv .0, c .loop-test .left) in
+    subst (λ (n : ℕ). Swept G (args .most) (args .safe) (args .x) (RestsBelow G (args .most) (args .safe) (args .x) n) (at .did) (args .ranks .now) (at .ranks)) (states .ensures)
+    (swept-all G (args .most) (args .safe) (args .x) order order (states .result) (visits (args .back) (states .result))
+    (subst (λ (k : ℕ). Swept G (args .most) (args .safe) (args .x) (RestsFirst G (args .most) (args .safe) (args .x) order k) (at .did) (args .ranks .now) (at .ranks)) all (at .inv .1)))
 
 pub sweep-spec : {M : Type 1} → statement M
-sweep-spec = tie.close (tie.spec Inv-loop μ-loop states-requires loop-holds visited-requires settle-marked-requires add-k loop-less loop-again same-length same-length-2 returns)
+sweep-spec = tie.close (tie.spec Inv-loop μ-loop states-requires loop-holds visited-requires settle-at-requires add-k loop-less loop-again same-length returns)
