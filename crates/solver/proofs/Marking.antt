@@ -2,25 +2,24 @@
 use mathlib.Core.List.{List}
 use mathlib.Core.Logic.{_⊎_, inl, inr, ⊎-elim}
 use mathlib.Core.Path.{_≡_, refl, sym, _∙_, ap, subst}
-use Prim.Native.Nat.{ℕ, zero, suc, _+_, _*_, _/_, _%_, _^_, _≤_, _<_}
-use native.Mathlib.Nat.{zero-div, zero-mod, pow-le-pow-right, le-mul-of-pos-right}
+use Prim.Native.Nat.{ℕ, zero, suc, _+_, _*_, _%_, _^_, _≤_, _<_}
+use native.Mathlib.Nat.{zero-div, pow-le-pow-right, le-mul-of-pos-right}
 use native.Mathlib.Omega.{arith}
-use lib.ListN.{getD, length}
+use lib.ListN.{getD}
 use Rattle.block.specs.Decide.{Bit}
 use Rattle.block.specs.Layout as L
 use Rattle.block.specs.Layout.{Block}
 use Rattle.block.specs.Valid.{Valid}
 use Rattle.game.specs.Rbatl.{Fits}
-use Rattle.game.specs.Position.{Arena, Position, IsPosition, places, stockBound, taken, number, numberUpTo, stocksOf, stockPlaces, positions, full, cost, offset, MoveOf, Allowed, outcome}
+use Rattle.game.specs.Position.{Arena, Position, IsPosition, places, stockBound, taken, number, numberUpTo, stocksOf, stockPlaces, positions, full, cost, offset, MoveOf}
 use Rattle.game.specs.Play.{next}
 use Rattle.game.specs.Table.{never}
-use Rattle.game.specs.Facts.{CanForce, CanAnswer, RankFacts}
+use Rattle.game.specs.Facts.{CanForce}
 use Rattle.game.specs.Extremes.{Lists}
 use Rattle.game.specs.Buffers.{rankIn, Stored}
 use Rattle.game.specs.Model.{structureOf, coalitionOf, arenaOf}
 use Rattle.game.proofs.Numbers.Decide.{eq?}
 use Rattle.game.proofs.Numbers.Stocks.{taken-fits}
-use Rattle.game.proofs.Bridge.Plays.{outcome-fits}
 use Rattle.game.proofs.Local.Same.{places-positive, number-below}
 use Rattle.game.proofs.Local.ByNumber.{force-transfers}
 use Rattle.game.proofs.Solving.Sweeping.{same-by-number}
@@ -30,7 +29,7 @@ use Rattle.game.proofs.Blocks.Reading.{outcome-state}
 use Rattle.solver.specs.Places.{PlacedAt, PaysAt}
 use Rattle.solver.specs.Solving.{FirstRank}
 use Rattle.solver.specs.Next.{LeadsInto, Marked, AnyOf, PlaceMarks, MoveMarks, StateMarks, NextRanks}
-use Rattle.solver.proofs.Placing.{stocks-below, placed-number}
+use Rattle.solver.proofs.Placing.{placed-number}
 use Rattle.solver.proofs.Starting.{bit?}
 
 pub marked-nothing : (Marks : ℕ → Type 0) → ((n : ℕ) → Marks n → ⊥) → (l : List ℕ) → Marked Marks l l

@@ -1,7 +1,7 @@
 -- `any_open` looks for a position. Assumes nothing.
 use Prim.Native.Nat.{ℕ, _+_, _-_, _≤_, _<_}
 use native.Mathlib.Omega.{arith}
-use borrow.Author.Count.{below-none, below-more}
+use borrow.Author.Count.{below-more}
 use Rattle.block.specs.Decide.{holds, fails}
 use Rattle.block.proofs.Decide as D
 use Rattle.solver.specs.Choices.{OpenAt}

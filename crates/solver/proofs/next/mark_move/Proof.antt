@@ -1,13 +1,12 @@
 -- `mark_move` marks the places that pay, where the move leads into the set. Assumes nothing.
 use mathlib.Core.Path.{_≡_, sym, _∙_, ap}
-use Prim.Native.Nat.{ℕ, _*_, _≤_, _<_}
+use Prim.Native.Nat.{ℕ, _*_, _≤_}
 use native.Mathlib.Nat.{mul-le-mul}
 use native.Mathlib.Omega.{arith}
 use borrow.Author.Needs.{needs}
 use borrow.Author.Tests.{not-true, not-false, eqb-true}
 use Rattle.block.specs.Layout as L
 use Rattle.block.proofs.Decide as D
-use Rattle.game.specs.Model.{arenaOf}
 use Rattle.game.proofs.Blocks.Passing.{few-stocks, few-positions}
 use Rattle.solver.specs.Next.{LeadsInto, MoveMarks}
 use Rattle.solver.proofs.Marking.{marked-nothing, place-inside, move-marked, free-marks}
