@@ -1,8 +1,8 @@
 //! The library's sweeps in plain Rust: one stock place after another, the
 //! least stock first, each by sweeps over the states to and fro until nothing
 //! changes; a position by the coalition's moves, as far as they matter to its
-//! rank. Then one pass for the moves. The moves of each state and their replies
-//! are worked out first. Beside them plain sweeps, which go over all positions
+//! rank. Then one pass for the moves, which leaves a state where every position
+//! has its own. The moves of each state and their replies are worked out first. Beside them plain sweeps, which go over all positions
 //! in one order until nothing changes.
 
 use rbatl_tests::layout::*;
@@ -265,10 +265,14 @@ impl Sweeper {
 
     fn mark(&self, state: usize, ranks: &mut [u16]) {
         for mv in &self.moves[state] {
-            if mv.targets.iter().all(|&target| self.left[target]) {
-                for (place, _) in self.payable(mv.cost) {
-                    ranks[state * self.stocks + place] = 1;
-                }
+            if !mv.targets.iter().all(|&target| self.left[target]) {
+                continue;
+            }
+            for (place, _) in self.payable(mv.cost) {
+                ranks[state * self.stocks + place] = 1;
+            }
+            if mv.cost == [0, 0] {
+                return;
             }
         }
     }
@@ -283,13 +287,22 @@ impl Sweeper {
                     ALWAYS => ranks[target * self.stocks + rest] == NEVER,
                     _ => self.left[target],
                 };
-                let open = self.wins(rank) && moves[first + place] == NO_MOVE;
+                let open = self.is_open(first + place, ranks, moves);
                 let settled = self.kind == UNTIL && rank == 0;
                 if open && (settled || mv.targets.iter().all(good)) {
                     moves[first + place] = mv.number;
                 }
             }
+            let mut places = first..first + self.stocks;
+            if mv.cost == [0, 0] && !places.any(|place| self.is_open(place, ranks, moves)) {
+                return;
+            }
         }
+    }
+
+    /// The coalition wins there and has no move yet.
+    fn is_open(&self, position: usize, ranks: &[u16], moves: &[u8]) -> bool {
+        moves[position] == NO_MOVE && self.wins(ranks[position])
     }
 }
 

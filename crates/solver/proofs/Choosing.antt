@@ -83,6 +83,14 @@ module _ (Hits : ℕ → ℕ → Type 0) where
       tried n (inr (below, least)) (inl (same, _)) = inr (omega (arith, same), subst (Smallest (Hits n)) (sym same) least)
       tried n (inr (below, _)) (inr (empty, _, _)) = absurd (omega (arith, empty))
 
+  -- the moves that are left hit nothing that is open
+  pub chosen-rest : (m top : ℕ) {l l′ : List ℕ} → m ≤ top → Chosen Hits m l l′ → ((n k : ℕ) → getD l′ n 0 ≡ noMove → Hits n k → ⊥) → Chosen Hits top l l′
+  chosen-rest m top {l} {l′} less chosen none = record {
+    kept = chosen .kept;
+    tried = λ n empty. ⊎-elim (λ (still, _). inl (still, λ k _ hit. none n k still hit)) (λ (below, least). inr (omega arith, least)) (chosen .tried n empty);
+    long = chosen .long;
+  }
+
 -- what one state after another chose, where no entry is hit in two states
 module _ (hits : ℕ → ℕ → ℕ → Type 0) where
   -- in the first k states

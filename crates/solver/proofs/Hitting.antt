@@ -31,8 +31,8 @@ use Rattle.game.proofs.Solving.Exist.{good-exists}
 use Rattle.solver.specs.Places.{PlacedAt, PaysAt}
 use Rattle.solver.specs.Next.{LeadsInto}
 use Rattle.solver.specs.Tables.{RanksOf, MovesOf}
-use Rattle.solver.specs.Choices.{asks, ClaimedBy, MetBy, AimedBy, FirstMove, Tried, OneHits, Chosen, HitAt, HitsIn, HitsAny, ranksOnly}
-use Rattle.solver.proofs.Placing.{placed-number, allowed-here, left-over, replies-here}
+use Rattle.solver.specs.Choices.{asks, ClaimedBy, MetBy, AimedBy, FirstMove, Tried, OneHits, Chosen, HitAt, HitsIn, HitsAny, OpenAt, ranksOnly}
+use Rattle.solver.proofs.Placing.{stocks-below, placed-number, allowed-here, left-over, replies-here}
 use Rattle.solver.proofs.Choosing.{tried-same}
 
 told : {P : Type 0} {t : Bool} → Decides P t → P → t ≡ true
@@ -82,6 +82,18 @@ met-claimed false false rank h = omega arith
 -- a number is that of one state's position only
 pub hits-apart : (b : Block) (i : ℕ) (t u : Bool) (left : ℕ) (ranks : List ℕ) (k n j v w : ℕ) → j < k → HitsIn b i t u left ranks v j n → HitsIn b i t u left ranks w k n → ⊥
 hits-apart b i t u left ranks k n j v w below (p, fits, state, e, _, _) (q, fits′, state′, e′, _, _) = omega (arith, same-by-number (arenaOf b i) p q fits fits′ (e ∙ sym e′) .0)
+
+-- where no position of a state is open, none is hit there
+pub hits-open : (b : Block) (i : ℕ) (t u : Bool) (left : ℕ) (ranks moves : List ℕ) (s c : ℕ) → c ≡ stockPlaces (arenaOf b i) → ((x : ℕ) → x < c → OpenAt t u ranks moves (s * c + x) → ⊥)
+    → (n k : ℕ) → getD moves n 0 ≡ noMove → HitsIn b i t u left ranks k s n → ⊥
+hits-open b i t u left ranks moves s c whole none n k empty (p, fits, state, e, claim, good) =
+    let G = arenaOf b i in
+    let x = number G (stocksOf G p) in
+    let here : s * c + x ≡ number G p = ap (λ (y : ℕ). s * y + x) whole ∙ placed-number G s x p (record { fits = fits; state = state; place = refl }) in
+    none x (omega (arith, stocks-below G p fits)) (
+      ap (λ (y : ℕ). getD moves y 0) (here ∙ e) ∙ empty,
+      subst (λ (y : ℕ). ClaimedBy t u (rankIn ranks y)) (sym here) (claims-claimed G ranks left 0 t u (λ y. 0) p claim),
+    )
 
 module _ (b : Block) (valid : Valid b) (i s m : ℕ) (row : i < L.rows b) (strategic : L.Strategic (L.kind b i)) (state : s < L.states b) (move : MoveOf (structureOf b) (coalitionOf b i) s m)
     (targets : List ℕ) (n : ℕ) (replies : Lists (ReplyTo b i s) (λ r. L.next b s (m + r) * stockPlaces (arenaOf b i)) targets n)

@@ -2,24 +2,25 @@
 use mathlib.Core.List.{List}
 use mathlib.Core.Logic.{_⊎_, inl, inr, ⊎-elim}
 use mathlib.Core.Path.{_≡_, refl, sym, _∙_, ap, subst}
-use Prim.Native.Nat.{ℕ, _+_, _*_, _/_, _%_, _^_, _≤_, _<_}
-use native.Mathlib.Nat.{zero-div, zero-mod, pow-le-pow-right}
+use Prim.Native.Nat.{ℕ, zero, suc, _+_, _*_, _%_, _^_, _≤_, _<_}
+use native.Mathlib.Nat.{zero-div, pow-le-pow-right, le-mul-of-pos-right}
 use native.Mathlib.Omega.{arith}
-use lib.ListN.{getD, length}
+use lib.ListN.{getD}
 use Rattle.block.specs.Decide.{Bit}
 use Rattle.block.specs.Layout as L
 use Rattle.block.specs.Layout.{Block}
 use Rattle.block.specs.Valid.{Valid}
-use Rattle.game.specs.Position.{Position, IsPosition, number, stocksOf, stockPlaces, positions, MoveOf, Allowed, outcome}
+use Rattle.game.specs.Rbatl.{Fits}
+use Rattle.game.specs.Position.{Arena, Position, IsPosition, places, stockBound, taken, number, numberUpTo, stocksOf, stockPlaces, positions, full, cost, offset, MoveOf}
 use Rattle.game.specs.Play.{next}
 use Rattle.game.specs.Table.{never}
-use Rattle.game.specs.Facts.{CanForce, CanAnswer, RankFacts}
+use Rattle.game.specs.Facts.{CanForce}
 use Rattle.game.specs.Extremes.{Lists}
 use Rattle.game.specs.Buffers.{rankIn, Stored}
 use Rattle.game.specs.Model.{structureOf, coalitionOf, arenaOf}
 use Rattle.game.proofs.Numbers.Decide.{eq?}
-use Rattle.game.proofs.Bridge.Plays.{outcome-fits}
-use Rattle.game.proofs.Local.Same.{number-below}
+use Rattle.game.proofs.Numbers.Stocks.{taken-fits}
+use Rattle.game.proofs.Local.Same.{places-positive, number-below}
 use Rattle.game.proofs.Local.ByNumber.{force-transfers}
 use Rattle.game.proofs.Solving.Sweeping.{same-by-number}
 use Rattle.game.proofs.Solving.Sides.{unforced}
@@ -28,7 +29,7 @@ use Rattle.game.proofs.Blocks.Reading.{outcome-state}
 use Rattle.solver.specs.Places.{PlacedAt, PaysAt}
 use Rattle.solver.specs.Solving.{FirstRank}
 use Rattle.solver.specs.Next.{LeadsInto, Marked, AnyOf, PlaceMarks, MoveMarks, StateMarks, NextRanks}
-use Rattle.solver.proofs.Placing.{stocks-below, placed-number}
+use Rattle.solver.proofs.Placing.{placed-number}
 use Rattle.solver.proofs.Starting.{bit?}
 
 pub marked-nothing : (Marks : ℕ → Type 0) → ((n : ℕ) → Marks n → ⊥) → (l : List ℕ) → Marked Marks l l
@@ -60,6 +61,37 @@ marked-one x {l} {l′} stored = record { each = λ n. go n (eq? n x); long = st
 marked-same : (Marks Marks′ : ℕ → Type 0) → ((n : ℕ) → Marks n → Marks′ n) → ((n : ℕ) → Marks′ n → Marks n) → {l l′ : List ℕ} → Marked Marks l l′ → Marked Marks′ l l′
 marked-same Marks Marks′ to from marked =
     record { each = λ n. ⊎-elim (λ (mark, e). inl (to n mark, e)) (λ (none, e). inr ((λ mark. none (from n mark)), e)) (marked .each n); long = marked .long }
+
+-- what is left marks nothing more
+pub marked-rest : (marks : ℕ → ℕ → Type 0) (k top : ℕ) {l l′ : List ℕ} → k < top → ((j n : ℕ) → marks j n → marks k n) → Marked (AnyOf (k + 1) marks) l l′ → Marked (AnyOf top marks) l l′
+marked-rest marks k top less all = marked-same (AnyOf (k + 1) marks) (AnyOf top marks) (λ n (j, small, mark). (j, omega arith, mark)) (λ n (j, _, mark). (k, omega arith, all j n mark))
+
+-- stocks with number 0 are none
+no-stocks : (G : Arena) (n : ℕ) (p : Position) → numberUpTo G n p ≡ 0 → (r : ℕ) → r < n → p .stock r ≡ 0
+no-stocks G zero p e r small = absurd (omega arith)
+no-stocks G (suc n) p e r small = go (eq? r n) (λ below. no-stocks G n p (omega (arith, le-mul-of-pos-right {m = places (G .bounds n)} (numberUpTo G n p) (places-positive (G .bounds n)))) r below)
+  where
+    go : Dec (r ≡ n) → (r < n → p .stock r ≡ 0) → p .stock r ≡ 0
+    go (yes is) _ = omega (arith, ap (p .stock) is)
+    go (no ne) lower = lower (omega arith)
+
+-- a move that takes nothing is paid everywhere
+pub free-marks : (b : Block) (i set s m : ℕ) → MoveOf (structureOf b) (coalitionOf b i) s m → LeadsInto b i s m set → offset (arenaOf b i) (full (arenaOf b i) s) m ≡ 0 → (k n : ℕ) → MoveMarks b i set s k n → MoveMarks b i set s m n
+free-marks b i set s m move leads free k n (_, (p, fits, at, e, _)) =
+    let G = arenaOf b i in (
+      leads,
+      (
+        p,
+        fits,
+        at,
+        e,
+        (
+          subst (λ (q : ℕ). MoveOf (structureOf b) (coalitionOf b i) q m) (sym at) move,
+          λ r l. subst (λ (q : ℕ). Fits (cost G (full G q) m r) (stockBound (G .bounds r) (p .stock r))) (sym at)
+              (taken-fits (G .bounds r) (p .stock r) (cost G (full G s) m r) .0 (omega (arith, no-stocks G (L.resources b) (record { state = 0; stock = λ j. taken (G .bounds j) (cost G (full G s) m j) }) free r l))),
+        ),
+      ),
+    )
 
 module _ (b : Block) (valid : Valid b) (i set : ℕ) (row : i < L.rows b) (strategic : L.Strategic (L.kind b i)) where
   -- the places that pay a move are those of the positions that it marks

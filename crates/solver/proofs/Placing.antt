@@ -1,11 +1,11 @@
 -- What a move offers at the stock places, from the lists that the code makes: where its replies lead, and which places pay it.
 -- Assumes nothing.
 use mathlib.Core.List.{List}
-use mathlib.Core.Path.{_≡_, refl, sym, _∙_, ap, subst}
+use mathlib.Core.Path.{_≡_, sym, _∙_, ap, subst}
 use Prim.Native.Nat.{ℕ, zero, suc, _+_, _*_, _-_, _/_, _%_, _≤_, _<_}
 use native.Mathlib.Nat.{mul-assoc, suc-mul, mul-le-mul-right, mul-add-div-right, mul-add-mod-self-right, mod-eq-of-lt, div-eq-of-lt}
 use native.Mathlib.Omega.{arith}
-use lib.ListN.{getD, length}
+use lib.ListN.{getD}
 use Rattle.block.specs.Layout as L
 use Rattle.block.specs.Layout.{Block}
 use Rattle.block.specs.Valid.{Valid}
@@ -16,7 +16,7 @@ use Rattle.game.proofs.Bridge.Plays.{outcome-fits}
 use Rattle.game.proofs.Bridge.Moves.{idle-move}
 use Rattle.game.proofs.Local.Same.{number-below, positionOf, position-fits, position-number}
 use Rattle.game.proofs.Local.Offsets.{state-and-stocks, remains-number}
-use Rattle.game.proofs.Blocks.Passing.{valid-proper, few-positions}
+use Rattle.game.proofs.Blocks.Passing.{valid-proper}
 use Rattle.game.proofs.Solving.Moving.{outcome-at}
 use Rattle.solver.specs.Places.{PlacedAt, PaysAt}
 

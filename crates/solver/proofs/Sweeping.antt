@@ -8,7 +8,6 @@ use lib.ListN.{length}
 use Rattle.block.specs.Decide.{Bit}
 use Rattle.game.specs.Position.{Arena, Position, number, stocksOf, stockPlaces, positions, Allowed, Reply, outcome}
 use Rattle.game.specs.Table.{never}
-use Rattle.game.specs.Facts.{Ranked}
 use Rattle.game.specs.Buffers.{rankIn}
 use Rattle.game.specs.Sweep.{total}
 use Rattle.game.proofs.Numbers.Decide.{eq?}
@@ -18,7 +17,6 @@ use Rattle.game.proofs.Local.Offsets.{remains-number}
 use Rattle.game.proofs.Solving.Sweeping.{at-rest}
 use Rattle.solver.specs.Values.{Attacks, Defends}
 use Rattle.solver.specs.Sweeps.{KeptFor, RestsAt, RestsBelow, visit, ChangedAt, Swept, PlaceSettled, Settled}
-use Rattle.solver.specs.Places.{PlacedAt}
 use Rattle.solver.proofs.Placing.{stocks-below}
 use Rattle.solver.proofs.Lowering.{unchanged, defends-weaken}
 

@@ -3,11 +3,11 @@
 use mathlib.Core.Bool.{Bool, true, false, not}
 use mathlib.Core.Logic.{_⊎_, inl, inr, ⊎-elim}
 use mathlib.Core.Path.{_≡_, refl, sym, _∙_, ap, subst}
-use Prim.Native.Nat.{ℕ, zero, suc, _+_, _*_, _^_, _≤_, _<_}
+use Prim.Native.Nat.{ℕ, zero, suc, _+_, _^_, _≤_, _<_}
 use native.Mathlib.Nat.{pow-le-pow-right}
 use native.Mathlib.Omega.{arith}
 use Rattle.game.specs.Position.{Arena, Position, IsPosition, number, Reply, Allowed, outcome}
-use Rattle.game.specs.Facts.{CanForce, CanAnswer}
+use Rattle.game.specs.Facts.{CanForce}
 use Rattle.game.specs.Extremes.{Beyond, Further}
 use Rattle.game.specs.Sweep.{Worst}
 use Rattle.game.proofs.Numbers.Decide.{eq?}

@@ -10,7 +10,7 @@ use Rattle.block.specs.Layout as L
 use Rattle.block.specs.Layout.{Block}
 use Rattle.block.specs.Valid.{Valid}
 use Rattle.game.specs.Rbatl.{Bound, limit, unlimited, Fits}
-use Rattle.game.specs.Position.{Arena, Position, IsPosition, places, fullStock, stockBound, remaining, taken, number, numberUpTo, stocksOf, stockPlaces, full, cost, Affordable, offset, outcome}
+use Rattle.game.specs.Position.{Arena, Position, IsPosition, places, fullStock, stockBound, remaining, taken, number, numberUpTo, stocksOf, full, cost, Affordable, offset}
 use Rattle.game.specs.Model.{boundsOf, arenaOf}
 use Rattle.game.proofs.Numbers.Decide.{eq?}
 use Rattle.game.proofs.Numbers.Stocks.{remaining-fits, taken-fits}

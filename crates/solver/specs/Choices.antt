@@ -76,3 +76,7 @@ HitsIn b i t u left ranks m s n =
 -- the same in any state
 abbrev pub HitsAny : Block → ℕ → Bool → Bool → ℕ → List ℕ → ℕ → ℕ → Type 0
 HitsAny b i t u left ranks n m = OneHits (L.states b) (HitsIn b i t u left ranks m) n
+
+-- position p is claimed, and its entry is open
+abbrev pub OpenAt : Bool → Bool → List ℕ → List ℕ → ℕ → Type 0
+OpenAt t u ranks moves p = (getD moves p 0 ≡ noMove) × ClaimedBy t u (rankIn ranks p)

@@ -6,11 +6,11 @@ use game::buffers;
 use game::moves;
 use game::positions;
 use game::replies;
-ghost use mathlib.Core.Bool.{true};
+ghost use mathlib.Core.Bool.{true, false};
 ghost use mathlib.Core.Path.{_≡_};
 ghost use Prim.Native.Nat.{ℕ, _+_, _*_, _-_, _≤_, _<_};
 ghost use lib.ListN.{length, getD};
-ghost use Rattle.block.specs.Decide.{Decides};
+ghost use Rattle.block.specs.Decide.{Decides, Some};
 ghost use Rattle.block.specs.Layout as L;
 ghost use Rattle.block.specs.Valid.{Valid};
 ghost use Rattle.game.specs.Extremes.{Lists};
@@ -19,7 +19,7 @@ ghost use Rattle.game.specs.Buffers.{rankIn};
 ghost use Rattle.game.specs.Model.{structureOf, coalitionOf, arenaOf, ReplyTo};
 ghost use Rattle.solver.specs.Next.{LeadsInto};
 ghost use Rattle.solver.specs.Tables.{RanksOf, MovesOf};
-ghost use Rattle.solver.specs.Choices.{ClaimedBy, AimedBy, FirstMove, Tried, OneHits, Chosen, HitAt, HitsIn, HitsAny};
+ghost use Rattle.solver.specs.Choices.{ClaimedBy, AimedBy, FirstMove, Tried, OneHits, Chosen, HitAt, HitsIn, HitsAny, OpenAt};
 
 // Whether a rank says that the coalition wins: in a next row where soon, else in an always row where ever, else in an until row.
 fn claimed(soon: bool, ever: bool, rank: usize) -> bool
@@ -194,7 +194,57 @@ fn choose_move(
     );
 }
 
-// Tries every move of state s, from the smallest up.
+// Whether the coalition wins at position p and has no move there yet.
+fn is_open(ranks: &[u8], moves: &[u8], p: usize, soon: bool, ever: bool) -> bool
+    requires { ⌜ (p < length (now moves)) × (2 * p + 1 < length (now ranks)) ⌝ }
+    ensures { λ r. ⌜ Decides (OpenAt soon ever (now (ranks .entry)) (now (moves .entry)) p) r ⌝ }
+{
+    if moves[p] != 255 {
+        return false;
+    }
+    claimed(soon, ever, buffers::rank_at(ranks, p))
+}
+
+// Whether one of the first c positions past base is so.
+fn any_open(ranks: &[u8], moves: &[u8], base: usize, c: usize, soon: bool, ever: bool) -> bool
+    requires { ⌜ (base + c ≤ 6144) × (12288 ≤ length (now ranks)) × (6144 ≤ length (now moves)) ⌝ }
+    ensures { λ r. ⌜ Decides (Some c (λ (x : ℕ). OpenAt soon ever (now (ranks .entry)) (now (moves .entry)) (base + x))) r ⌝ }
+{
+    let mut x = 0;
+    while x < c {
+        if is_open(ranks, moves, base + x, soon, ever) {
+            return true;
+        }
+        x += 1;
+    }
+    false
+}
+
+// Whether the moves past m are to be tried in state s. Only a move that takes nothing can be the last one that every position needs.
+fn goes_on(
+    block: &[u8],
+    i: usize,
+    s: usize,
+    m: usize,
+    c: usize,
+    soon: bool,
+    ever: bool,
+    ranks: &[u8],
+    moves: &[u8],
+) -> bool
+    requires { ⌜ Valid (now block) ⌝ }
+    requires { ⌜ (i < L.rows (now block)) × L.Strategic (L.kind (now block) i) × (s < L.states (now block)) ⌝ }
+    requires { ⌜ MoveOf (structureOf (now block)) (coalitionOf (now block) i) s m ⌝ }
+    requires { ⌜ (c ≡ stockPlaces (arenaOf (now block) i)) × (12288 ≤ length (now ranks)) × (6144 ≤ length (now moves)) ⌝ }
+    ensures { λ r. ⌜ (r ≡ false → (x : ℕ) → x < c → OpenAt soon ever (now (ranks .entry)) (now (moves .entry)) (s * c + x) → ⊥) ⌝ }
+{
+    if 0 < positions::offset(block, i, s, m) {
+        return true;
+    }
+    any_open(ranks, moves, s * c, c, soon, ever)
+}
+
+// Tries every move of state s, from the smallest up, until every position has what it needs.
 fn choose_state(
     block: &[u8],
     i: usize,
@@ -231,6 +281,9 @@ fn choose_state(
                 ranks,
                 moves,
             );
+            if !goes_on(block, i, s, m, c, soon, ever, ranks, moves) {
+                return;
+            }
         }
         m += 1;
     }

@@ -6,6 +6,7 @@ use game::buffers;
 use game::moves;
 use game::positions;
 use game::replies;
+ghost use mathlib.Core.Bool.{true};
 ghost use mathlib.Core.Path.{_≡_};
 ghost use Prim.Native.Nat.{ℕ, _+_, _*_, _≤_, _<_};
 ghost use lib.ListN.{length, getD};
@@ -56,7 +57,7 @@ fn mark(ranks: &mut [u8], base: usize, places: &[usize], count: usize)
     }
 }
 
-// Marks the positions of state s that can pay the move m, if it leads into the set.
+// Marks the positions of state s that can pay the move m, if it leads into the set. Tells whether no other move marks more there.
 fn mark_move(
     block: &[u8],
     i: usize,
@@ -67,20 +68,22 @@ fn mark_move(
     answers: &[usize],
     n: usize,
     ranks: &mut [u8],
-)
+) -> bool
     requires { ⌜ Valid (now block) ⌝ }
     requires { ⌜ (i < L.rows (now block)) × L.Strategic (L.kind (now block) i) × (s < L.states (now block)) ⌝ }
     requires { ⌜ MoveOf (structureOf (now block)) (coalitionOf (now block) i) s m ⌝ }
     requires { ⌜ Lists (ReplyTo (now block) i s) (λ (r : ℕ). r) (now answers) n × (n ≤ length (now answers)) ⌝ }
     requires { ⌜ (c ≡ stockPlaces (arenaOf (now block) i)) × (12288 ≤ length (now ranks)) ⌝ }
     ensures { λ _. ⌜ Marked (MoveMarks (now (block .entry)) i set s m) (now (ranks .entry)) (now (ranks .exit)) ⌝ }
+    ensures { λ r. ⌜ (r ≡ true → (k n : ℕ) → MoveMarks (now (block .entry)) i set s k n → MoveMarks (now (block .entry)) i set s m n) ⌝ }
 {
     if !leads_into(block, i, s, m, set, answers, n) {
-        return;
+        return false;
     }
     let mut places = [0; 256];
     let count = payable::payable(block, i, s, m, &mut places);
     mark(ranks, s * c, &places, count);
+    positions::offset(block, i, s, m) == 0
 }
 
 // Marks the positions of state s that have a move into the set.
@@ -96,7 +99,9 @@ fn mark_state(block: &[u8], i: usize, s: usize, c: usize, set: usize, ranks: &mu
     let mut m = 0;
     while m < 64 {
         if moves::is_move(block, s, team, m) {
-            mark_move(block, i, s, m, c, set, &answers, n, ranks);
+            if mark_move(block, i, s, m, c, set, &answers, n, ranks) {
+                return;
+            }
         }
         m += 1;
     }

@@ -1,7 +1,7 @@
 -- `settle_place` sweeps until a sweep does nothing; the sum of the ranks falls till then. Assumes nothing.
 use mathlib.Core.Bool.{Bool}
-use mathlib.Core.Path.{_≡_, sym, subst}
-use Prim.Native.Nat.{ℕ, _<_, _≤_}
+use mathlib.Core.Path.{sym, subst}
+use Prim.Native.Nat.{_<_}
 use native.Mathlib.Omega.{arith}
 use Rattle.game.specs.Model.{arenaOf}
 use Rattle.solver.proofs.Sweeping.{Sweeping, sweeping-first, sweeping-next, sweeping-done, left-to-do, sweep-less}

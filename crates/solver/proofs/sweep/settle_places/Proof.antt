@@ -1,6 +1,6 @@
 -- `settle_places` settles one stock place after another; those below stay settled. Assumes nothing.
 use mathlib.Core.Path.{_≡_, _∙_, subst}
-use Prim.Native.Nat.{ℕ, _-_, _≤_, _<_}
+use Prim.Native.Nat.{ℕ, _-_, _≤_}
 use native.Mathlib.Omega.{arith}
 use Rattle.game.specs.Model.{structureOf, arenaOf}
 use Rattle.game.proofs.Bridge.Proper.{Proper}

@@ -2,9 +2,8 @@
 use mathlib.Core.Bool.{Bool, true, cond}
 use mathlib.Core.Logic.{⊎-elim}
 use mathlib.Core.Path.{_≡_, sym, _∙_, ap, subst}
-use Prim.Native.Nat.{ℕ, _+_, _-_, _≤_, _<_}
+use Prim.Native.Nat.{ℕ, _+_, _-_, _≤_}
 use native.Mathlib.Omega.{arith}
-use Rattle.block.specs.Layout as L
 use Rattle.game.specs.Model.{arenaOf}
 use Rattle.solver.specs.Sweeps.{RestsAt, RestsBelow, visit, Swept}
 use Rattle.solver.proofs.Sweeping.{RestsFirst, visits, swept-nothing, swept-next, swept-all}

@@ -4,12 +4,11 @@ use mathlib.Core.Logic.{_⊎_, inl, inr, ⊎-elim}
 use mathlib.Core.Path.{_≡_, refl, sym, _∙_, ap, subst}
 use Prim.Native.Nat.{ℕ, _+_, _*_, _-_, _≤_, _<_}
 use native.Mathlib.Omega.{arith}
-use lib.ListN.{getD, length}
+use lib.ListN.{getD}
 use Rattle.block.specs.Layout as L
 use Rattle.block.proofs.Decide as D
 use Rattle.game.specs.Position.{Position, number, stockPlaces}
 use Rattle.game.specs.Buffers.{rankIn}
-use Rattle.game.specs.Extremes.{Beyond}
 use Rattle.game.specs.Model.{arenaOf}
 use Rattle.game.proofs.Blocks.Passing.{valid-proper, few-stocks, few-positions}
 use Rattle.solver.specs.Places.{PlacedAt}

@@ -1,13 +1,10 @@
 -- `list_row` lists one state after another. Assumes nothing.
 use mathlib.Core.List.{List}
-use mathlib.Core.Path.{_≡_, refl, sym, _∙_, ap, subst}
-use Prim.Native.Nat.{ℕ, _+_, _*_, _-_, _≤_, _<_}
+use mathlib.Core.Path.{_≡_, sym, _∙_}
+use Prim.Native.Nat.{ℕ, _-_, _≤_, _<_}
 use native.Mathlib.Omega.{arith}
 use lib.ListN.{getD, length, length-set}
-use borrow.Author.Needs.{needs}
 use Rattle.block.specs.Layout as L
-use Rattle.game.specs.Model.{arenaOf}
-use Rattle.solver.specs.Wides.{Wides}
 use Rattle.solver.specs.Ways.{Ways, Answers}
 use Rattle.solver.proofs.Entries.{ways-next, answers-next}
 use Rattle.solver.proofs.ways.list_row.Statement.{statement}

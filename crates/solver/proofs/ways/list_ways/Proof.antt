@@ -1,14 +1,14 @@
 -- `list_ways` tries every number of a move. Assumes nothing.
 use mathlib.Core.List.{List}
 use mathlib.Core.Logic.{⊎-elim}
-use mathlib.Core.Path.{_≡_, refl, sym, _∙_, ap, subst, subst₂}
-use Prim.Native.Nat.{ℕ, _+_, _*_, _-_, _^_, _≤_, _<_}
+use mathlib.Core.Path.{_≡_, refl, sym, _∙_, subst, subst₂}
+use Prim.Native.Nat.{ℕ, _+_, _*_, _-_, _≤_, _<_}
 use native.Mathlib.Nat.{pow-le-pow-right}
 use native.Mathlib.Omega.{arith}
-use lib.ListN.{getD, length, set, length-set}
+use lib.ListN.{getD, length, length-set}
 use Rattle.block.specs.Layout as L
 use Rattle.block.proofs.Decide as D
-use Rattle.game.specs.Position.{number, stocksOf, stockPlaces, full, offset, Allowed}
+use Rattle.game.specs.Position.{number, full, offset, Allowed}
 use Rattle.game.specs.Model.{arenaOf}
 use Rattle.game.proofs.Local.Offsets.{remains-number}
 use Rattle.game.proofs.Bridge.Truth.{full-fits}

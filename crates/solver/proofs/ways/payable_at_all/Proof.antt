@@ -1,7 +1,7 @@
 -- `payable_at_all` looks for a resource whose full stock does not pay. Assumes nothing.
 use Prim.Native.Nat.{ℕ, _-_, _≤_, _<_}
 use native.Mathlib.Omega.{arith}
-use borrow.Author.Count.{below-none, below-more}
+use borrow.Author.Count.{below-more}
 use Rattle.block.specs.Decide.{holds, fails}
 use Rattle.block.specs.Layout as L
 use Rattle.game.specs.Rbatl.{Fits}
