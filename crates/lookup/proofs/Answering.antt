@@ -1,20 +1,20 @@
 -- From a row made ready to the team's move: what is found by ranks is what plays give. Assumes nothing.
 use mathlib.Core.Bool.{Bool, true, false, cond}
 use mathlib.Core.List.{List}
-use mathlib.Core.Logic.{_⊎_, inl, inr, ⊎-elim}
+use mathlib.Core.Logic.{⊎-elim}
 use mathlib.Core.Path.{_≡_, refl, sym, _∙_, ap, subst, transport}
-use Prim.Native.Nat.{ℕ, _^_, _≤_, _<_}
+use Prim.Native.Nat.{ℕ, _<_}
 use native.Mathlib.Nat.{pow-le-pow-right}
 use native.Mathlib.Omega.{arith}
 use lib.Dec.{eqb}
 use lib.ListN.{getD}
-use borrow.Author.Tests.{eqb-true, eqb-false}
+use borrow.Author.Tests.{eqb-false}
 use Rattle.block.specs.Decide.{Decides, Bit}
 use Rattle.block.specs.Layout as L
 use Rattle.block.specs.Layout.{Block, Strategic}
 use Rattle.block.specs.Valid.{Valid}
 use Rattle.block.proofs.Decide as D
-use Rattle.game.specs.Position.{Position, IsPosition, number, Reply, Allowed, outcome}
+use Rattle.game.specs.Position.{Position, IsPosition, number, outcome}
 use Rattle.game.specs.Play.{Objective, next, always, until, CoalitionWins}
 use Rattle.game.specs.Table.{Table, never, rankAt, moveAt, Aim, Good, Met}
 use Rattle.game.specs.Facts.{Claims, Facts}

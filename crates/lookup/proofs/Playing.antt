@@ -17,7 +17,7 @@ use Rattle.game.specs.Model.{arenaOf, objectiveOf}
 use Rattle.game.proofs.Bridge.Proper.{Proper}
 use Rattle.game.proofs.Bridge.Plays.{at-fits}
 use Rattle.game.proofs.Bridge.Strategies.{asStrategy, keeps}
-use Rattle.game.proofs.Local.Certificate.{met?}
+use Rattle.game.proofs.Local.Aims.{met?}
 use Rattle.game.proofs.Blocks.Passing.{valid-proper}
 use Rattle.game.proofs.Blocks.Rowwise.{row-replies}
 use Rattle.game.proofs.Whole.Choices.{idle-allowed, idle-reply}

@@ -1,9 +1,9 @@
 -- From a row made ready to the reply: what is found by ranks is what plays give. Assumes nothing.
 use mathlib.Core.Bool.{Bool, true, false, cond}
 use mathlib.Core.List.{List}
-use mathlib.Core.Logic.{_⊎_, inl, inr, ⊎-elim}
-use mathlib.Core.Path.{_≡_, refl, sym, _∙_, ap, subst, transport}
-use Prim.Native.Nat.{ℕ, _^_, _≤_, _<_}
+use mathlib.Core.Logic.{⊎-elim}
+use mathlib.Core.Path.{_≡_, refl, sym, _∙_, ap, transport}
+use Prim.Native.Nat.{ℕ, _<_}
 use native.Mathlib.Nat.{pow-le-pow-right}
 use native.Mathlib.Omega.{arith}
 use lib.Dec.{eqb}
@@ -11,23 +11,20 @@ use Rattle.block.specs.Decide.{Bit}
 use Rattle.block.specs.Layout as L
 use Rattle.block.specs.Layout.{Block, Strategic}
 use Rattle.block.specs.Valid.{Valid}
-use Rattle.game.specs.Position.{Arena, Position, IsPosition, number, Reply, Allowed, outcome}
+use Rattle.game.specs.Position.{Arena, Position, IsPosition, Reply, Allowed, outcome}
 use Rattle.game.specs.Play.{Objective, next, always, until, CoalitionWins, OpponentsWin}
-use Rattle.game.specs.Table.{Table, never, rankAt, Smallest, Failed, CounterAim, ReplyIs}
+use Rattle.game.specs.Table.{Table, never, rankAt, Failed, CounterAim, ReplyIs}
 use Rattle.game.specs.Facts.{Claims, Facts}
-use Rattle.game.specs.Buffers.{rankIn}
 use Rattle.game.specs.Model.{arenaOf, objectiveOf, objectiveBy}
 use Rattle.game.proofs.Bridge.Proper.{Proper}
 use Rattle.game.proofs.Bridge.Plays.{outcome-fits}
-use Rattle.game.proofs.Local.Lower.{Tells, Retold, same-next, same-always, same-until}
+use Rattle.game.proofs.Local.Lower.{Retold, same-next, same-always, same-until}
 use Rattle.game.proofs.Blocks.Passing.{valid-proper}
 use Rattle.game.proofs.Blocks.Rowwise.{row-determined}
 use Rattle.game.proofs.Solving.Exist.{counter-exists}
-use Rattle.game.proofs.Whole.Decided.{claims-win, unclaimed-opponents, reply-by-plays}
-use Rattle.solver.specs.Rows.{ClaimsBy}
+use Rattle.game.proofs.Whole.Decided.{unclaimed-opponents, reply-by-plays}
 use Rattle.solver.proofs.Labelling.{claims-by, retold-claims, row-retold}
 use Rattle.lookup.specs.Aims.{Stands, CounterBy, FailedBy, Aimed, CountersBy, FoundBelow}
-use Rattle.solver.specs.Labels.{Prepared}
 use Rattle.lookup.specs.Calls.{OthersReply}
 use Rattle.lookup.proofs.Answering.{ready-table, ready-facts, row-facts, ready-decided, claimed-wins, team-loses}
 

@@ -1,6 +1,6 @@
 -- What is known at a position, and the outcomes at which a move or a reply is aimed, by the kind of the row; left is the set of its left row.
 use mathlib.Core.Bool.{Bool, true, false, cond}
-use mathlib.Core.List.{List, []}
+use mathlib.Core.List.{List}
 use mathlib.Core.Logic.{_⊎_}
 use mathlib.Core.Path.{_≡_}
 use Prim.Native.Nat.{ℕ, _≤_, _<_}
@@ -9,7 +9,7 @@ use lib.ListN.{getD}
 use Rattle.block.specs.Decide.{Decides, Bit, Some}
 use Rattle.block.specs.Layout as L
 use Rattle.block.specs.Layout.{Block}
-use Rattle.game.specs.Position.{Position, places, position, Reply, Allowed, outcome, number}
+use Rattle.game.specs.Position.{Position, places, Reply, Allowed, outcome, number}
 use Rattle.game.specs.Play.{CoalitionWins}
 use Rattle.game.specs.Table.{never, Smallest}
 use Rattle.game.specs.Buffers.{rankIn}

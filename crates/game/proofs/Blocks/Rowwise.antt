@@ -16,7 +16,7 @@ use Rattle.game.specs.Model.{bit, structureOf, formulaOf, RowTrue, arena
 use Rattle.game.proofs.Numbers.Decide.{by-test, either?, eq?, not?}
 use Rattle.game.proofs.Blocks.Passing.{valid-proper, few-positions}
 use Rattle.game.proofs.Local.Decidable.{claims?}
-use Rattle.game.proofs.Local.Certificate.{RowsDecided}
+use Rattle.game.proofs.Local.Aims.{RowsDecided}
 use Rattle.game.proofs.Blocks.Formulas.{prop-formula, not-formula, or-formula, next-objective, always-objective, until-objective}
 use Rattle.game.proofs.Blocks.Tables.{table-decided, table-set}
 use Rattle.game.proofs.Solving.Determined.{solvedTable, solved-facts}
