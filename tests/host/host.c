@@ -92,6 +92,14 @@ void fill_catch(uint8_t *block)
         block[catch_bytes[i].place] = catch_bytes[i].value;
 }
 
+/* Catch with the i-th damage, and whether that is one that is refused. */
+int fill_damaged(uint8_t *block, size_t i)
+{
+    fill_catch(block);
+    block[damages[i].change.place] = damages[i].change.value;
+    return damages[i].answer != 0;
+}
+
 void count(int good, const char *name, const char *what)
 {
     if (good) {
@@ -102,16 +110,38 @@ void count(int good, const char *name, const char *what)
     }
 }
 
+int all(const uint8_t *bytes, size_t length, uint8_t value)
+{
+    for (size_t i = 0; i < length; i++)
+        if (bytes[i] != value)
+            return 0;
+    return 1;
+}
+
+void count_answer(const char *name, const char *call, int32_t answer, int32_t expected)
+{
+    char what[96];
+
+    snprintf(what, sizeof what, "%s answers %ld, not %ld", call, (long)answer, (long)expected);
+    count(answer == expected, name, what);
+}
+
+/* The room, one byte longer than lent, must hold zeros, or, after a wrong length, be as it was. */
+void count_room(const char *name, const uint8_t *room, int32_t expected)
+{
+    if (expected == -RBATL_LENGTH)
+        count(all(room, RBATL_ROOM_BYTES + 1, FILL), name, "a wrong length, but the room has changed");
+    else
+        count(all(room, RBATL_ROOM_BYTES, 0) && room[RBATL_ROOM_BYTES] == FILL, name, "no zeros in the room");
+}
+
 /* The answer must be the expected one, and the block must keep its bytes. */
 static void expect(const char *name, const uint8_t *block, size_t length, int32_t expected)
 {
     static uint8_t before[2 * RBATL_BLOCK_BYTES];
-    char what[64];
 
     memcpy(before, block, length);
-    int32_t answer = rbatl_check(block, length);
-    snprintf(what, sizeof what, "answer %ld, not %ld", (long)answer, (long)expected);
-    count(answer == expected, name, what);
+    count_answer(name, "check", rbatl_check(block, length), expected);
     count(memcmp(before, block, length) == 0, name, "the block has changed");
 }
 
@@ -132,18 +162,9 @@ static void check_damages(void)
     static uint8_t block[RBATL_BLOCK_BYTES];
 
     for (size_t i = 0; i < damage_count; i++) {
-        fill_catch(block);
-        block[damages[i].change.place] = damages[i].change.value;
+        fill_damaged(block, i);
         expect(damages[i].name, block, sizeof block, damages[i].answer);
     }
-}
-
-int all(const uint8_t *bytes, size_t length, uint8_t value)
-{
-    for (size_t i = 0; i < length; i++)
-        if (bytes[i] != value)
-            return 0;
-    return 1;
 }
 
 /* The text must be read as the block, or, without one, be refused and leave
@@ -153,13 +174,10 @@ static void expect_read(const char *name, const char *text, size_t length, size_
 {
     static uint8_t block[2 * RBATL_BLOCK_BYTES];
     static uint8_t lent[RBATL_TEXT_BYTES + 1];
-    char what[64];
 
     memset(block, FILL, sizeof block);
     memcpy(lent, text, length);
-    int32_t answer = rbatl_read(lent, length, block, block_length);
-    snprintf(what, sizeof what, "read answers %ld, not %ld", (long)answer, (long)expected);
-    count(answer == expected, name, what);
+    count_answer(name, "read", rbatl_read(lent, length, block, block_length), expected);
     count(memcmp(lent, text, length) == 0, name, "the text has changed");
     if (job != NULL) {
         count(memcmp(block, job, block_length) == 0, name, "another block");
@@ -202,13 +220,10 @@ static void expect_write(const char *name, const uint8_t *block, size_t length, 
 {
     static uint8_t text[2 * RBATL_TEXT_BYTES];
     static uint8_t before[2 * RBATL_BLOCK_BYTES];
-    char what[64];
 
     memset(text, FILL, sizeof text);
     memcpy(before, block, length);
-    int32_t answer = rbatl_write(block, length, text, text_length);
-    snprintf(what, sizeof what, "write answers %ld, not %ld", (long)answer, (long)expected);
-    count(answer == expected, name, what);
+    count_answer(name, "write", rbatl_write(block, length, text, text_length), expected);
     count(memcmp(before, block, length) == 0, name, "the block has changed");
     if (job != NULL) {
         size_t end = strlen(job);
@@ -238,13 +253,9 @@ static void check_write(void)
         expect_write("another length", bytes, size, lengths[i], -RBATL_LENGTH, NULL);
     bytes[2257] = RBATL_UNLIMITED;
     expect_write("inf", bytes, size, RBATL_TEXT_BYTES, sizeof inf - 1, inf);
-    for (size_t i = 0; i < damage_count; i++) {
-        if (damages[i].answer == 0)
-            continue;
-        fill_catch(bytes);
-        bytes[damages[i].change.place] = damages[i].change.value;
-        expect_write(damages[i].name, bytes, size, RBATL_TEXT_BYTES, damages[i].answer, NULL);
-    }
+    for (size_t i = 0; i < damage_count; i++)
+        if (fill_damaged(bytes, i))
+            expect_write(damages[i].name, bytes, size, RBATL_TEXT_BYTES, damages[i].answer, NULL);
 }
 
 int main(void)

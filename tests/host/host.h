@@ -24,7 +24,10 @@ extern const struct damage damages[];
 extern const size_t damage_count;
 
 void fill_catch(uint8_t *block);
+int fill_damaged(uint8_t *block, size_t i);
 void count(int good, const char *name, const char *what);
+void count_answer(const char *name, const char *call, int32_t answer, int32_t expected);
+void count_room(const char *name, const uint8_t *room, int32_t expected);
 int all(const uint8_t *bytes, size_t length, uint8_t value);
 
 void check_label(void);

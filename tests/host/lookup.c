@@ -70,21 +70,16 @@ static void expect_at(const char *name, enum call call, struct asked at, const u
                       size_t length, size_t room_length, int32_t expected)
 {
     static uint8_t room[RBATL_ROOM_BYTES + 1], before[RBATL_BLOCK_BYTES + 1];
-    char what[96];
+    char what[64];
 
     memset(room, FILL, sizeof room);
     memcpy(before, block, length);
     int32_t answer = ask(call, at, block, length, room, room_length);
-    snprintf(what, sizeof what, "%s of row %d at %d, %d and %d answers %ld, not %ld",
-             call == MOVE ? "move" : "reply", at.row, at.state, at.stock0, at.stock1, (long)answer,
-             (long)expected);
-    count(answer == expected, name, what);
+    snprintf(what, sizeof what, "%s of row %d at %d, %d and %d", call == MOVE ? "move" : "reply", at.row,
+             at.state, at.stock0, at.stock1);
+    count_answer(name, what, answer, expected);
     count(memcmp(before, block, length) == 0, name, "the block has changed");
-    if (expected == -RBATL_LENGTH)
-        count(all(room, sizeof room, FILL), name, "a wrong length, but the room has changed");
-    else
-        count(all(room, RBATL_ROOM_BYTES, 0) && room[RBATL_ROOM_BYTES] == FILL, name,
-              "no zeros in the room");
+    count_room(name, room, expected);
 }
 
 /* The refusals that come before the row's. */
@@ -100,10 +95,8 @@ static void check_block(enum call call, struct asked at)
     expect_at("a long room", call, at, bytes, size, room + 1, -RBATL_LENGTH);
     expect_at("no room", call, at, bytes, size, 0, -RBATL_LENGTH);
     for (size_t i = 0; i < damage_count; i++) {
-        if (damages[i].answer == 0)
+        if (!fill_damaged(bytes, i))
             continue;
-        fill_catch(bytes);
-        bytes[damages[i].change.place] = damages[i].change.value;
         expect_at(damages[i].name, call, at, bytes, size, room, damages[i].answer);
         expect_at(damages[i].name, call, at, bytes, size, room + 1, -RBATL_LENGTH);
     }

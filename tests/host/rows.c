@@ -31,13 +31,11 @@ static void expect_label(const char *name, const uint8_t *block, size_t length, 
     static uint8_t sets[RBATL_SETS_BYTES + 1], room[RBATL_ROOM_BYTES + 1];
     const size_t words = sizeof catch_sets / sizeof catch_sets[0];
     int same = 1;
-    char what[64];
 
     memset(sets, FILL, sizeof sets);
     memset(room, FILL, sizeof room);
     int32_t answer = rbatl_label(block, length, sets, sets_length, room, room_length);
-    snprintf(what, sizeof what, "label answers %ld, not %ld", (long)answer, (long)expected);
-    count(answer == expected, name, what);
+    count_answer(name, "label", answer, expected);
     if (expected == 0) {
         for (size_t i = 0; i < words; i++)
             same &= holds(sets + 4 * i, catch_sets[i], 4);
@@ -46,10 +44,7 @@ static void expect_label(const char *name, const uint8_t *block, size_t length, 
     } else {
         count(all(sets, sizeof sets, FILL), name, "refused, but the sets have changed");
     }
-    if (expected == -RBATL_LENGTH)
-        count(all(room, sizeof room, FILL), name, "a wrong length, but the room has changed");
-    else
-        count(all(room, RBATL_ROOM_BYTES, 0) && room[RBATL_ROOM_BYTES] == FILL, name, "no zeros in the room");
+    count_room(name, room, expected);
 }
 
 void check_label(void)
@@ -65,13 +60,9 @@ void check_label(void)
     expect_label("long sets", bytes, size, RBATL_SETS_BYTES + 1, RBATL_ROOM_BYTES, -RBATL_LENGTH);
     expect_label("a short room", bytes, size, RBATL_SETS_BYTES, RBATL_ROOM_BYTES - 1, -RBATL_LENGTH);
     expect_label("a long room", bytes, size, RBATL_SETS_BYTES, RBATL_ROOM_BYTES + 1, -RBATL_LENGTH);
-    for (size_t i = 0; i < damage_count; i++) {
-        if (damages[i].answer == 0)
-            continue;
-        fill_catch(bytes);
-        bytes[damages[i].change.place] = damages[i].change.value;
-        expect_label(damages[i].name, bytes, size, RBATL_SETS_BYTES, RBATL_ROOM_BYTES, damages[i].answer);
-    }
+    for (size_t i = 0; i < damage_count; i++)
+        if (fill_damaged(bytes, i))
+            expect_label(damages[i].name, bytes, size, RBATL_SETS_BYTES, RBATL_ROOM_BYTES, damages[i].answer);
 }
 
 /* The table must be that of Catch's row 4, or, refused, leave both buffers as
@@ -82,14 +73,12 @@ static void expect_table(const char *name, const uint8_t *block, size_t length, 
     static uint8_t ranks[RBATL_RANKS_BYTES + 1], moves[RBATL_MOVES_BYTES + 1];
     const size_t positions = sizeof catch_moves;
     int same = 1;
-    char what[64];
 
     memset(ranks, FILL, sizeof ranks);
     memset(moves, FILL, sizeof moves);
     int32_t answer =
         rbatl_table(block, length, row, ranks, ranks_length, moves, moves_length);
-    snprintf(what, sizeof what, "table answers %ld, not %ld", (long)answer, (long)expected);
-    count(answer == expected, name, what);
+    count_answer(name, "table", answer, expected);
     if (expected != 0) {
         count(all(ranks, sizeof ranks, FILL), name, "refused, but the ranks have changed");
         count(all(moves, sizeof moves, FILL), name, "refused, but the moves have changed");
@@ -121,10 +110,8 @@ void check_table(void)
         expect_table("a row without a table", bytes, size, tableless[i], RBATL_RANKS_BYTES, RBATL_MOVES_BYTES,
                      -RBATL_ROW_CHOICE);
     for (size_t i = 0; i < damage_count; i++) {
-        if (damages[i].answer == 0)
+        if (!fill_damaged(bytes, i))
             continue;
-        fill_catch(bytes);
-        bytes[damages[i].change.place] = damages[i].change.value;
         expect_table(damages[i].name, bytes, size, 4, RBATL_RANKS_BYTES, RBATL_MOVES_BYTES, damages[i].answer);
         expect_table(damages[i].name, bytes, size, 255, RBATL_RANKS_BYTES, RBATL_MOVES_BYTES, damages[i].answer);
     }
@@ -138,13 +125,11 @@ static void expect_states(const char *name, const uint8_t *block, size_t length,
     static uint8_t list[RBATL_STATES_BYTES + 1], room[RBATL_ROOM_BYTES + 1];
     size_t end = 0;
     int same = 1;
-    char what[64];
 
     memset(list, FILL, sizeof list);
     memset(room, FILL, sizeof room);
     int32_t answer = rbatl_states(block, length, row, list, list_length, room, room_length);
-    snprintf(what, sizeof what, "states answers %ld, not %ld", (long)answer, (long)expected);
-    count(answer == expected, name, what);
+    count_answer(name, "states", answer, expected);
     if (expected < 0) {
         count(all(list, sizeof list, FILL), name, "refused, but the list has changed");
     } else {
@@ -155,10 +140,7 @@ static void expect_states(const char *name, const uint8_t *block, size_t length,
         count(all(list + end, RBATL_STATES_BYTES - end, 0), name, "no zeros after the states");
         count(list[RBATL_STATES_BYTES] == FILL, name, "list written too far");
     }
-    if (expected == -RBATL_LENGTH)
-        count(all(room, sizeof room, FILL), name, "a wrong length, but the room has changed");
-    else
-        count(all(room, RBATL_ROOM_BYTES, 0) && room[RBATL_ROOM_BYTES] == FILL, name, "no zeros in the room");
+    count_room(name, room, expected);
 }
 
 void check_states(void)
@@ -180,10 +162,8 @@ void check_states(void)
     for (size_t i = 0; i < sizeof absent; i++)
         expect_states("an absent row", bytes, size, absent[i], list, room, -RBATL_ROW_CHOICE);
     for (size_t i = 0; i < damage_count; i++) {
-        if (damages[i].answer == 0)
+        if (!fill_damaged(bytes, i))
             continue;
-        fill_catch(bytes);
-        bytes[damages[i].change.place] = damages[i].change.value;
         expect_states(damages[i].name, bytes, size, 0, list, room, damages[i].answer);
         expect_states(damages[i].name, bytes, size, 255, list, room, damages[i].answer);
     }

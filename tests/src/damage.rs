@@ -1,6 +1,7 @@
 //! Blocks that differ from a job in some bytes, or in their length.
 
 use crate::block::used_places;
+use crate::jobs;
 use crate::layout::*;
 use crate::random::Rng;
 
@@ -11,6 +12,15 @@ pub const BORDERS: [u8; 25] = [
 
 /// Lengths near the only right one, and far from it.
 const LENGTHS: [usize; 8] = [0, 1, 5, 2213, 2468, 2470, 4938, 32768];
+
+/// Damage for each number of the block, in Catch.
+const DAMAGES: [(u8, usize, u8); 5] = [
+    (2, STATES, 25),
+    (3, 29, 5),
+    (4, 677, 3),
+    (5, 2253, 6),
+    (6, 28, 1),
+];
 
 /// Chooses a place of one sort in a job.
 type Target = fn(&mut Rng, &[u8]) -> usize;
@@ -26,6 +36,17 @@ const TARGETS: [(&str, Target); 9] = [
     ("row kind, operand, coalition or bound", used_row_place),
     ("unused place", unused_place),
 ];
+
+/// Catch, and Catch with each number of the block.
+pub fn whole_and_damaged() -> Vec<(Vec<u8>, u8)> {
+    let mut blocks = vec![(jobs::catch(), 0)];
+    for (number, place, value) in DAMAGES {
+        let mut block = jobs::catch();
+        block[place] = value;
+        blocks.push((block, number));
+    }
+    blocks
+}
 
 /// Damages a job, or leaves it whole, and says how.
 pub fn damage(rng: &mut Rng, block: &mut Vec<u8>) -> &'static str {

@@ -4,6 +4,24 @@ use crate::layout::*;
 use crate::text;
 use std::path::{Path, PathBuf};
 
+/// The listing of Catch (document 01).
+pub const CATCH_LISTING: &str = "\
+list,6
+set,0,1,4
+set,1,2,3
+set,2,3,7
+set,3,2,6
+plan,3,1,1,1
+plan,3,2,0,0
+set,4,3,7
+plan,4,0,2,1
+plan,4,1,1,1
+plan,4,2,0,0
+set,5,2,6
+plan,5,1,1,1
+plan,5,2,0,0
+";
+
 pub fn folder() -> PathBuf {
     Path::new(env!("CARGO_MANIFEST_DIR")).join("../jobs")
 }
@@ -26,6 +44,10 @@ pub fn text(name: &str) -> Vec<u8> {
 /// The block of a job file.
 pub fn load(name: &str) -> Vec<u8> {
     text::read(&text(name)).unwrap_or_else(|number| panic!("{name} is refused: {number}"))
+}
+
+pub fn catch() -> Vec<u8> {
+    load("catch.job")
 }
 
 /// The smallest job of these sizes: everyone idles, every next state is 0, and

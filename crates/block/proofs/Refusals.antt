@@ -1,6 +1,6 @@
 -- The first refusal of a list whose condition holds: of equal conditions, and of a longer list. Assumes nothing.
 use mathlib.Core.List.{List, [], _∷_, _++_}
-use mathlib.Core.Path.{_≡_, sym, _∙_}
+use mathlib.Core.Path.{_≡_}
 use Prim.Native.Nat.{ℕ, _<_}
 use native.Mathlib.Omega.{arith}
 use Rattle.block.specs.Refusal.{numberOf, First, none, here, later}

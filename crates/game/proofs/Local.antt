@@ -4,4 +4,4 @@ pub mod Same
 pub mod Offsets
 pub mod ByNumber
 pub mod Lower
-pub mod Certificate
+pub mod Aims

@@ -17,7 +17,7 @@ use Rattle.game.proofs.Numbers.Decide.{from-yes, isYes}
 use Rattle.game.proofs.Bridge.Proper.{Proper}
 use Rattle.game.proofs.Whole.Decided.{decided, rank-by-plays, reply-by-plays}
 use Rattle.game.proofs.Local.Decidable.{position?, allowed?}
-use Rattle.game.proofs.Local.Certificate.{RowsDecided, reply-is?}
+use Rattle.game.proofs.Local.Aims.{RowsDecided, reply-is?}
 use Rattle.game.proofs.Solving.Solver.{lowering}
 use Rattle.game.proofs.Solving.Determined.{listed, solvedRanks, foundMoves, solvedTable, solved-facts}
 use Rattle.game.proofs.Blocks.Tests.{tests-proper, row-fits?, strategic?}

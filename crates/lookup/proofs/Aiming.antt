@@ -1,12 +1,9 @@
 -- What is aimed at, by the kind of the row. Assumes nothing.
-use mathlib.Core.Bool.{Bool, true, false, cond}
-use mathlib.Core.Path.{_≡_, refl, _∙_, ap}
-use Prim.Native.Nat.{ℕ, _<_}
+use mathlib.Core.Bool.{Bool, cond}
+use mathlib.Core.Path.{_≡_, _∙_, ap}
+use Prim.Native.Nat.{ℕ}
 use lib.Dec.{eqb}
 use borrow.Author.Tests.{ne-eqb}
-use Rattle.block.specs.Decide.{Bit}
-use Rattle.game.specs.Table.{never}
-use Rattle.lookup.specs.Aims.{AimBy, CounterBy}
 
 -- what stands for a kind that is neither next nor always
 pub until-stands : (k : ℕ) (A B C : Type 0) → (k ≡ 3 → ⊥) → (k ≡ 4 → ⊥) → cond (eqb k 3) A (cond (eqb k 4) B C) ≡ C

@@ -1,19 +1,20 @@
 -- From a row made ready to the team's move: what is found by ranks is what plays give. Assumes nothing.
 use mathlib.Core.Bool.{Bool, true, false, cond}
 use mathlib.Core.List.{List}
-use mathlib.Core.Logic.{_⊎_, inl, inr, ⊎-elim}
+use mathlib.Core.Logic.{⊎-elim}
 use mathlib.Core.Path.{_≡_, refl, sym, _∙_, ap, subst, transport}
-use Prim.Native.Nat.{ℕ, _^_, _≤_, _<_}
+use Prim.Native.Nat.{ℕ, _<_}
 use native.Mathlib.Nat.{pow-le-pow-right}
 use native.Mathlib.Omega.{arith}
 use lib.Dec.{eqb}
 use lib.ListN.{getD}
-use borrow.Author.Tests.{eqb-true, eqb-false}
-use Rattle.block.specs.Decide.{Bit}
+use borrow.Author.Tests.{eqb-false}
+use Rattle.block.specs.Decide.{Decides, Bit}
 use Rattle.block.specs.Layout as L
 use Rattle.block.specs.Layout.{Block, Strategic}
 use Rattle.block.specs.Valid.{Valid}
-use Rattle.game.specs.Position.{Position, IsPosition, number, Reply, Allowed, outcome}
+use Rattle.block.proofs.Decide as D
+use Rattle.game.specs.Position.{Position, IsPosition, number, outcome}
 use Rattle.game.specs.Play.{Objective, next, always, until, CoalitionWins}
 use Rattle.game.specs.Table.{Table, never, rankAt, moveAt, Aim, Good, Met}
 use Rattle.game.specs.Facts.{Claims, Facts}
@@ -27,7 +28,7 @@ use Rattle.game.proofs.Whole.Decided.{claims-win, wins-claimed}
 use Rattle.game.proofs.Whole.Unique.{smallest-unique}
 use Rattle.solver.specs.Rows.{ClaimsBy}
 use Rattle.solver.proofs.Labelling.{words-decided, claims-by, retold-claims, row-retold, facts-told}
-use Rattle.lookup.specs.Aims.{AimBy, Aimed, GoodBy, FoundBelow}
+use Rattle.lookup.specs.Aims.{Stands, AimBy, Aimed, GoodBy, FoundBelow}
 use Rattle.solver.specs.Labels.{Prepared}
 use Rattle.lookup.specs.Calls.{TableOf, TeamMove}
 
@@ -54,16 +55,13 @@ aim-by b i left right X p x = go (eqb (L.kind b i) L.nextKind) (eqb (L.kind b i)
     go false true = refl
     go false false = refl
 
-module _ (b : Block) (valid : Valid b) (i : ℕ) (inside : i < L.rows b) (strategic : Strategic (L.kind b i)) (left right : ℕ) (ranks : List ℕ) (ready : Prepared b i left right ranks) where
-  abbrev told : Objective
-  told = objectiveBy (L.kind b i) left right
-
+module _ {b : Block} (valid : Valid b) {i : ℕ} (inside : i < L.rows b) (strategic : Strategic (L.kind b i)) {left right : ℕ} {ranks : List ℕ} (ready : Prepared b i left right ranks) where
   -- the table of these ranks
   abbrev pub ready-table : Table
-  ready-table = record { rank = rankIn ranks; move = λ n. getD (foundMoves (arenaOf b i) (valid-proper b valid) told (words-decided b i left right) (rankIn ranks)) n 0 }
+  ready-table = record { rank = rankIn ranks; move = λ n. getD (foundMoves (arenaOf b i) (valid-proper b valid) (objectiveBy (L.kind b i) left right) (words-decided b i left right) (rankIn ranks)) n 0 }
 
-  pub ready-facts : Facts (arenaOf b i) ready-table told
-  ready-facts = moves-found (arenaOf b i) (valid-proper b valid) told (words-decided b i left right) (rankIn ranks) (ready .ranks-of .facts)
+  pub ready-facts : Facts (arenaOf b i) ready-table (objectiveBy (L.kind b i) left right)
+  ready-facts = moves-found (arenaOf b i) (valid-proper b valid) (objectiveBy (L.kind b i) left right) (words-decided b i left right) (rankIn ranks) (ready .ranks-of .facts)
 
   pub row-facts : Facts (arenaOf b i) ready-table (objectiveOf b i)
   row-facts = facts-told b valid i inside left right (ready .left-set) (ready .right-set) strategic ready-table ready-facts
@@ -82,30 +80,56 @@ module _ (b : Block) (valid : Valid b) (i : ℕ) (inside : i < L.rows b) (strate
     pub wins-claimed-by : CoalitionWins (arenaOf b i) (objectiveOf b i) p → ClaimsBy (L.kind b i) (rankIn ranks (number (arenaOf b i) p))
     wins-claimed-by wins = transport (sym same-claim) (wins-claimed (arenaOf b i) (valid-proper b valid) ready-table (objectiveOf b i) row-facts p fits wins)
 
-    module _ (claim : ClaimsBy (L.kind b i) (rankIn ranks (number (arenaOf b i) p))) where
-      told-claim : Claims (arenaOf b i) ready-table told p
-      told-claim = transport (claims-by b i left right ready-table p) claim
+    pub side-told : {t : Bool} → Decides (ClaimsBy (L.kind b i) (rankIn ranks (number (arenaOf b i) p))) t → Decides (CoalitionWins (arenaOf b i) (objectiveOf b i) p) t
+    side-told told = D.same told claimed-wins wins-claimed-by
 
-      team : (m : ℕ) → m < 64 → m ≡ moveAt (arenaOf b i) ready-table p → TeamMove b i p m
-      team m small e = record { table = ready-table; decided = ready-decided; wins = claimed-wins claim; move = e; small = small }
+-- who wins, by the test
+module _ {b : Block} {i : ℕ} {p : Position} {left right own : ℕ} {wins : Bool} {ranks : List ℕ} (at : Stands b i p left right own wins ranks) where
+  pub team-wins : wins ≡ true → CoalitionWins (arenaOf b i) (objectiveOf b i) p
+  team-wins = D.truth (at .side)
 
-      pub team-met : L.kind b i ≡ 5 → rankIn ranks (number (arenaOf b i) p) ≡ 0 → TeamMove b i p 0
-      team-met kind zero = team 0 (omega arith) (sym (ready-facts .moves p fits .met told-claim (by-met b i left right ready-table p kind zero)))
+  pub team-loses : wins ≡ false → CoalitionWins (arenaOf b i) (objectiveOf b i) p → ⊥
+  team-loses = D.falsity (at .side)
 
-      good : (m : ℕ) → GoodBy b i left (rankIn ranks (number (arenaOf b i) p)) ranks p m → Good (arenaOf b i) ready-table told p m
-      good m (allowed, each) = (allowed, λ r reply. transport (aim-by b i left right ready-table p (outcome (arenaOf b i) p m r)) (each r reply))
+-- what is found at a position by its rank
+module _ {b : Block} (valid : Valid b) {i : ℕ} (inside : i < L.rows b) (strategic : Strategic (L.kind b i)) {p : Position} (fits : IsPosition (arenaOf b i) p)
+    {left right own : ℕ} {wins : Bool} {ranks : List ℕ} (at : Stands b i p left right own wins ranks) (told-wins : wins ≡ true) where
+  abbrev X : Table
+  X = ready-table valid inside strategic (at .ready)
 
-      by-good : (m : ℕ) → Good (arenaOf b i) ready-table told p m → GoodBy b i left (rankIn ranks (number (arenaOf b i) p)) ranks p m
-      by-good m (allowed, each) = (allowed, λ r reply. transport (sym (aim-by b i left right ready-table p (outcome (arenaOf b i) p m r))) (each r reply))
+  abbrev told : Objective
+  told = objectiveBy (L.kind b i) left right
 
-      pub team-found : (L.kind b i ≡ 5 → rankIn ranks (number (arenaOf b i) p) ≡ 0 → ⊥) → (m : ℕ) → FoundBelow (GoodBy b i left (rankIn ranks (number (arenaOf b i) p)) ranks p) m → TeamMove b i p m
-      team-found unmet m found = ⊎-elim
-          (λ (small, least). team m small (smallest-unique (GoodBy b i left (rankIn ranks (number (arenaOf b i) p)) ranks p) (Good (arenaOf b i) ready-table told p) good by-good m (moveAt (arenaOf b i) ready-table p) least
-          (ready-facts .moves p fits .best told-claim not-met)))
-          (λ (_, none).
-          let (k, h) = good-exists (arenaOf b i) ready-table told (ready .ranks-of .facts) p fits told-claim not-met in
-          absurd (none k (omega (arith, h .0 .0 .0, pow-le-pow-right {n = 4} (omega arith) (valid .sized .agents-fit .1))) (by-good k h)))
-          found
-        where
-          not-met : Met (arenaOf b i) ready-table told p → ⊥
-          not-met met = let (kind, zero) = met-by b i left right ready-table p strategic met in unmet kind zero
+  facts : Facts (arenaOf b i) X told
+  facts = ready-facts valid inside strategic (at .ready)
+
+  told-claim : Claims (arenaOf b i) X told p
+  told-claim = transport (claims-by b i left right X p) (wins-claimed-by valid inside strategic (at .ready) p fits (team-wins at told-wins))
+
+  team : (m : ℕ) → m < 64 → m ≡ moveAt (arenaOf b i) X p → TeamMove b i p m
+  team m small e = record { table = X; decided = ready-decided valid inside strategic (at .ready); wins = team-wins at told-wins; move = e; small = small }
+
+  pub team-met : L.kind b i ≡ 5 → own ≡ 0 → TeamMove b i p 0
+  team-met kind zero = team 0 (omega arith) (sym (facts .moves p fits .met told-claim (by-met b i left right X p kind (sym (at .rank) ∙ zero))))
+
+  -- a good move by the rank that is known is one by the table's
+  aims : (m r : ℕ) → Aimed b i left own ranks p true m r ≡ Aim (arenaOf b i) X told p (outcome (arenaOf b i) p m r)
+  aims m r = ap (λ (x : ℕ). Aimed b i left x ranks p true m r) (at .rank) ∙ aim-by b i left right X p (outcome (arenaOf b i) p m r)
+
+  good : (m : ℕ) → GoodBy b i left own ranks p m → Good (arenaOf b i) X told p m
+  good m (allowed, each) = (allowed, λ r reply. transport (aims m r) (each r reply))
+
+  by-good : (m : ℕ) → Good (arenaOf b i) X told p m → GoodBy b i left own ranks p m
+  by-good m (allowed, each) = (allowed, λ r reply. transport (sym (aims m r)) (each r reply))
+
+  pub team-found : (L.kind b i ≡ 5 → own ≡ 0 → ⊥) → (m : ℕ) → FoundBelow (GoodBy b i left own ranks p) m → TeamMove b i p m
+  team-found unmet m found = ⊎-elim
+      (λ (small, least). team m small (smallest-unique (GoodBy b i left own ranks p) (Good (arenaOf b i) X told p) good by-good m (moveAt (arenaOf b i) X p) least
+      (facts .moves p fits .best told-claim not-met)))
+      (λ (_, none).
+      let (k, h) = good-exists (arenaOf b i) X told (at .ready .ranks-of .facts) p fits told-claim not-met in
+      absurd (none k (omega (arith, h .0 .0 .0, pow-le-pow-right {n = 4} (omega arith) (valid .sized .agents-fit .1))) (by-good k h)))
+      found
+    where
+      not-met : Met (arenaOf b i) X told p → ⊥
+      not-met met = let (kind, zero) = met-by b i left right X p strategic met in unmet kind (at .rank ∙ zero)

@@ -1,9 +1,9 @@
 -- From a row made ready to the reply: what is found by ranks is what plays give. Assumes nothing.
 use mathlib.Core.Bool.{Bool, true, false, cond}
 use mathlib.Core.List.{List}
-use mathlib.Core.Logic.{_⊎_, inl, inr, ⊎-elim}
-use mathlib.Core.Path.{_≡_, refl, sym, _∙_, ap, subst, transport}
-use Prim.Native.Nat.{ℕ, _^_, _≤_, _<_}
+use mathlib.Core.Logic.{⊎-elim}
+use mathlib.Core.Path.{_≡_, refl, sym, _∙_, ap, transport}
+use Prim.Native.Nat.{ℕ, _<_}
 use native.Mathlib.Nat.{pow-le-pow-right}
 use native.Mathlib.Omega.{arith}
 use lib.Dec.{eqb}
@@ -11,25 +11,22 @@ use Rattle.block.specs.Decide.{Bit}
 use Rattle.block.specs.Layout as L
 use Rattle.block.specs.Layout.{Block, Strategic}
 use Rattle.block.specs.Valid.{Valid}
-use Rattle.game.specs.Position.{Arena, Position, IsPosition, number, Reply, Allowed, outcome}
+use Rattle.game.specs.Position.{Arena, Position, IsPosition, Reply, Allowed, outcome}
 use Rattle.game.specs.Play.{Objective, next, always, until, CoalitionWins, OpponentsWin}
-use Rattle.game.specs.Table.{Table, never, rankAt, Smallest, Failed, CounterAim, ReplyIs}
-use Rattle.game.specs.Facts.{Claims}
-use Rattle.game.specs.Buffers.{rankIn}
+use Rattle.game.specs.Table.{Table, never, rankAt, Failed, CounterAim, ReplyIs}
+use Rattle.game.specs.Facts.{Claims, Facts}
 use Rattle.game.specs.Model.{arenaOf, objectiveOf, objectiveBy}
 use Rattle.game.proofs.Bridge.Proper.{Proper}
 use Rattle.game.proofs.Bridge.Plays.{outcome-fits}
-use Rattle.game.proofs.Local.Lower.{Tells, Retold, same-next, same-always, same-until}
+use Rattle.game.proofs.Local.Lower.{Retold, same-next, same-always, same-until}
 use Rattle.game.proofs.Blocks.Passing.{valid-proper}
 use Rattle.game.proofs.Blocks.Rowwise.{row-determined}
 use Rattle.game.proofs.Solving.Exist.{counter-exists}
-use Rattle.game.proofs.Whole.Decided.{claims-win, unclaimed-opponents, reply-by-plays}
-use Rattle.solver.specs.Rows.{ClaimsBy}
+use Rattle.game.proofs.Whole.Decided.{unclaimed-opponents, reply-by-plays}
 use Rattle.solver.proofs.Labelling.{claims-by, retold-claims, row-retold}
-use Rattle.lookup.specs.Aims.{CounterBy, FailedBy, CountersBy, FoundBelow}
-use Rattle.solver.specs.Labels.{Prepared}
+use Rattle.lookup.specs.Aims.{Stands, CounterBy, FailedBy, Aimed, CountersBy, FoundBelow}
 use Rattle.lookup.specs.Calls.{OthersReply}
-use Rattle.lookup.proofs.Answering.{ready-table, ready-facts, row-facts, ready-decided, wins-claimed-by}
+use Rattle.lookup.proofs.Answering.{ready-table, ready-facts, row-facts, ready-decided, claimed-wins, team-loses}
 
 -- a reply that is right over lower rows' sets is right over their truth
 module _ (G : Arena) (proper : Proper (G .structure)) (X : Table) (p : Position) (fits : IsPosition G p) (m : ℕ) (allowed : Allowed G p m) (r : ℕ) where
@@ -77,43 +74,52 @@ failed-by b i left right X p = go (eqb (L.kind b i) L.nextKind) (eqb (L.kind b i
     go false true = refl
     go false false = refl
 
-module _ (b : Block) (valid : Valid b) (i : ℕ) (inside : i < L.rows b) (strategic : Strategic (L.kind b i)) (left right : ℕ) (ranks : List ℕ) (ready : Prepared b i left right ranks)
-    (p : Position) (fits : IsPosition (arenaOf b i) p) (unclaimed : ClaimsBy (L.kind b i) (rankIn ranks (number (arenaOf b i) p)) → ⊥) (m : ℕ) (allowed : Allowed (arenaOf b i) p m) where
+module _ {b : Block} (valid : Valid b) {i : ℕ} (inside : i < L.rows b) (strategic : Strategic (L.kind b i)) {p : Position} (fits : IsPosition (arenaOf b i) p)
+    {left right own : ℕ} {wins : Bool} {ranks : List ℕ} (at : Stands b i p left right own wins ranks) (told-loses : wins ≡ false) {m : ℕ} (allowed : Allowed (arenaOf b i) p m) where
   abbrev told : Objective
   told = objectiveBy (L.kind b i) left right
 
   abbrev X : Table
-  X = ready-table b valid i inside strategic left right ranks ready
+  X = ready-table valid inside strategic (at .ready)
 
   told-unclaimed : Claims (arenaOf b i) X told p → ⊥
-  told-unclaimed claim = unclaimed (transport (sym (claims-by b i left right X p)) claim)
+  told-unclaimed claim = team-loses at told-loses (claimed-wins valid inside strategic (at .ready) p fits (transport (sym (claims-by b i left right X p)) claim))
 
   row-told : Retold (arenaOf b i) told (objectiveOf b i)
-  row-told = row-retold b valid i inside left right (ready .left-set) (ready .right-set) strategic
+  row-told = row-retold b valid i inside left right (at .ready .left-set) (at .ready .right-set) strategic
 
   row-unclaimed : Claims (arenaOf b i) X (objectiveOf b i) p → ⊥
   row-unclaimed claim = told-unclaimed (transport (sym (retold-claims b i X p row-told)) claim)
 
+  facts : Facts (arenaOf b i) X (objectiveOf b i)
+  facts = row-facts valid inside strategic (at .ready)
+
   others : (r : ℕ) → r < 64 → ReplyIs (arenaOf b i) X told (Claims (arenaOf b i) X told) p m r → OthersReply b i p m r
   others r small right-one = record {
     table = X;
-    decided = ready-decided b valid i inside strategic left right ranks ready;
-    loses = unclaimed-opponents (arenaOf b i) (valid-proper b valid) X (objectiveOf b i) (row-facts b valid i inside strategic left right ranks ready) p fits row-unclaimed;
-    reply = reply-by-plays (arenaOf b i) (valid-proper b valid) X (objectiveOf b i) (row-facts b valid i inside strategic left right ranks ready) p fits m r allowed
-        (retold-reply (arenaOf b i) (valid-proper b valid) X p fits m allowed r row-told right-one);
+    decided = ready-decided valid inside strategic (at .ready);
+    loses = unclaimed-opponents (arenaOf b i) (valid-proper b valid) X (objectiveOf b i) facts p fits row-unclaimed;
+    reply = reply-by-plays (arenaOf b i) (valid-proper b valid) X (objectiveOf b i) facts p fits m r allowed (retold-reply (arenaOf b i) (valid-proper b valid) X p fits m allowed r row-told right-one);
     small = small;
   }
 
-  pub others-failed : FailedBy (L.kind b i) left right (rankIn ranks (number (arenaOf b i) p)) (p .state) → OthersReply b i p m 0
-  others-failed over = others 0 (omega arith) (record { won = λ claim. absurd (told-unclaimed claim); failed = λ _. refl; best = λ _ unfailed. absurd (unfailed (transport (failed-by b i left right X p) over)) })
+  fails : FailedBy (L.kind b i) left right own (p .state) ≡ Failed (arenaOf b i) X told p
+  fails = ap (λ (x : ℕ). FailedBy (L.kind b i) left right x (p .state)) (at .rank) ∙ failed-by b i left right X p
 
-  counter : (r : ℕ) → CountersBy b i left (rankIn ranks (number (arenaOf b i) p)) ranks p m r → Reply (arenaOf b i) p r × CounterAim (arenaOf b i) X told (Claims (arenaOf b i) X told) p (outcome (arenaOf b i) p m r)
-  counter r (reply, aim) = (reply, transport (counter-by b i left right X p (outcome (arenaOf b i) p m r)) aim)
+  pub others-failed : FailedBy (L.kind b i) left right own (p .state) → OthersReply b i p m 0
+  others-failed over = others 0 (omega arith) (record { won = λ claim. absurd (told-unclaimed claim); failed = λ _. refl; best = λ _ unfailed. absurd (unfailed (transport fails over)) })
 
-  by-counter : (r : ℕ) → Reply (arenaOf b i) p r × CounterAim (arenaOf b i) X told (Claims (arenaOf b i) X told) p (outcome (arenaOf b i) p m r) → CountersBy b i left (rankIn ranks (number (arenaOf b i) p)) ranks p m r
-  by-counter r (reply, aim) = (reply, transport (sym (counter-by b i left right X p (outcome (arenaOf b i) p m r))) aim)
+  -- a counter by the rank that is known is one by the table's
+  aims : (r : ℕ) → Aimed b i left own ranks p false m r ≡ CounterAim (arenaOf b i) X told (Claims (arenaOf b i) X told) p (outcome (arenaOf b i) p m r)
+  aims r = ap (λ (x : ℕ). Aimed b i left x ranks p false m r) (at .rank) ∙ counter-by b i left right X p (outcome (arenaOf b i) p m r)
 
-  pub others-found : (FailedBy (L.kind b i) left right (rankIn ranks (number (arenaOf b i) p)) (p .state) → ⊥) → (r : ℕ) → FoundBelow (CountersBy b i left (rankIn ranks (number (arenaOf b i) p)) ranks p m) r → OthersReply b i p m r
+  counter : (r : ℕ) → CountersBy b i left own ranks p m r → Reply (arenaOf b i) p r × CounterAim (arenaOf b i) X told (Claims (arenaOf b i) X told) p (outcome (arenaOf b i) p m r)
+  counter r (reply, aim) = (reply, transport (aims r) aim)
+
+  by-counter : (r : ℕ) → Reply (arenaOf b i) p r × CounterAim (arenaOf b i) X told (Claims (arenaOf b i) X told) p (outcome (arenaOf b i) p m r) → CountersBy b i left own ranks p m r
+  by-counter r (reply, aim) = (reply, transport (sym (aims r)) aim)
+
+  pub others-found : (FailedBy (L.kind b i) left right own (p .state) → ⊥) → (r : ℕ) → FoundBelow (CountersBy b i left own ranks p m) r → OthersReply b i p m r
   others-found unfailed r found = ⊎-elim
       (λ (small, (h, none)). others r small (record {
         won = λ claim. absurd (told-unclaimed claim);
@@ -121,9 +127,10 @@ module _ (b : Block) (valid : Valid b) (i : ℕ) (inside : i < L.rows b) (strate
         best = λ _ _. (counter r h, λ k less c. none k less (by-counter k c));
       }))
       (λ (_, none).
-      let (k, reply, aim) = counter-exists (arenaOf b i) X told (ready-facts b valid i inside strategic left right ranks ready .ranks) (ready-facts b valid i inside strategic left right ranks ready .decided) p fits told-unclaimed not-failed m allowed in
+      let ready = ready-facts valid inside strategic (at .ready) in
+      let (k, reply, aim) = counter-exists (arenaOf b i) X told (ready .ranks) (ready .decided) p fits told-unclaimed not-failed m allowed in
       absurd (none k (omega (arith, reply .0, pow-le-pow-right {n = 4} (omega arith) (valid .sized .agents-fit .1))) (by-counter k (reply, aim))))
       found
     where
       not-failed : Failed (arenaOf b i) X told p → ⊥
-      not-failed over = unfailed (transport (sym (failed-by b i left right X p)) over)
+      not-failed over = unfailed (transport (sym fails) over)

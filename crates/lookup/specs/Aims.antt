@@ -1,22 +1,30 @@
--- The outcomes at which a move or a reply is aimed, by the kind of the row; left is the set of its left row.
+-- What is known at a position, and the outcomes at which a move or a reply is aimed, by the kind of the row; left is the set of its left row.
 use mathlib.Core.Bool.{Bool, true, false, cond}
-use mathlib.Core.List.{List, []}
+use mathlib.Core.List.{List}
 use mathlib.Core.Logic.{_⊎_}
 use mathlib.Core.Path.{_≡_}
 use Prim.Native.Nat.{ℕ, _≤_, _<_}
 use lib.Dec.{eqb}
 use lib.ListN.{getD}
-use Rattle.block.specs.Decide.{Bit, Some}
+use Rattle.block.specs.Decide.{Decides, Bit, Some}
 use Rattle.block.specs.Layout as L
 use Rattle.block.specs.Layout.{Block}
-use Rattle.game.specs.Position.{Position, places, position, Reply, Allowed, outcome, number}
+use Rattle.game.specs.Position.{Position, places, Reply, Allowed, outcome, number}
+use Rattle.game.specs.Play.{CoalitionWins}
 use Rattle.game.specs.Table.{never, Smallest}
 use Rattle.game.specs.Buffers.{rankIn}
-use Rattle.game.specs.Model.{boundsOf, arenaOf}
+use Rattle.game.specs.Model.{boundsOf, arenaOf, objectiveOf}
+use Rattle.solver.specs.Labels.{Prepared}
 
 -- a state at or above M, a stock above its bound, or one that is not 0 where it must be
 abbrev pub NoPosition : Block → ℕ → ℕ → List ℕ → Type 0
 NoPosition b i s stocks = (L.states b ≤ s) ⊎ Some L.maxResources (λ j. places (boundsOf b i j) ≤ getD stocks j 0)
+
+-- row i made ready with its ranks, the rank own of the position p, and whether the team wins there
+pub record Stands (b : Block) (i : ℕ) (p : Position) (left right own : ℕ) (wins : Bool) (ranks : List ℕ) : Type 0 where
+  pub ready : Prepared b i left right ranks
+  pub rank : own ≡ rankIn ranks (number (arenaOf b i) p)
+  pub side : Decides (CoalitionWins (arenaOf b i) (objectiveOf b i) p) wins
 
 -- an outcome in state q with this rank, from a position of rank own
 abbrev pub AimBy : ℕ → ℕ → ℕ → ℕ → ℕ → Type 0

@@ -1,9 +1,9 @@
 // What may be asked about one position or one row: the team's move, the reply to it, and the states of a row.
-pub mod aims;
+mod aims;
 pub mod answer;
 pub mod others;
-pub mod place;
-pub mod room;
+mod place;
+mod room;
 pub mod sets;
 pub mod states;
 pub mod team;

@@ -7,8 +7,6 @@ use block::layout;
 use block::refusal::Checked;
 use block::refusal::Refusal;
 use game::buffers;
-use game::positions;
-use solver::rows;
 use solver::table;
 ghost use mathlib.Core.List.{[], _∷_};
 ghost use mathlib.Core.Path.{_≡_};
@@ -55,21 +53,17 @@ pub fn others_at(
     ensures { λ a. ⌜ OthersAnswer (now (block .entry)) i (position s (now (stocks .entry))) m a ⌝ }
     ensures { λ _. ⌜ length (now (room .exit)) ≡ length (now (room .entry)) ⌝ }
 {
-    let words = place::prepare(block, i, room);
-    let left = words.left;
-    let right = words.right;
-    let kind = layout::kind(block, i);
-    let own = buffers::rank_at(room, positions::number(block, i, s, stocks));
-    if rows::claims(kind, own) {
+    let here = place::look(block, i, s, stocks, room);
+    if here.wins {
         return Answer::Refused(Refusal::WrongSide);
     }
     if !aims::allowed(block, i, s, stocks, m) {
         return Answer::Refused(Refusal::Move);
     }
-    if failed(kind, left, right, own, s) {
+    if failed(layout::kind(block, i), here.left, here.right, here.own, s) {
         return Answer::Value(0);
     }
-    let r = aims::find_reply(block, i, left, own, room, s, stocks, m);
+    let r = aims::find_reply(block, i, here.left, here.own, room, s, stocks, m);
     Answer::Value(r)
 }
 

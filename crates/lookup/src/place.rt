@@ -1,22 +1,32 @@
 // A position that a caller names, and its row made ready.
 use block::layout;
+use game::buffers;
 use game::positions;
 use solver::label;
 use solver::rows;
 ghost use mathlib.Core.Path.{_≡_};
 ghost use Prim.Native.Nat.{_≤_, _<_};
-ghost use lib.ListN.{length, getD};
+ghost use lib.ListN.{length};
 ghost use Rattle.block.specs.Decide.{Decides};
 ghost use Rattle.block.specs.Layout as L;
 ghost use Rattle.block.specs.Valid.{Valid};
 ghost use Rattle.game.specs.Position as P;
-ghost use Rattle.game.specs.Model.{boundsOf};
-ghost use Rattle.lookup.specs.Aims.{NoPosition};
+ghost use Rattle.game.specs.Model.{boundsOf, arenaOf};
 ghost use Rattle.solver.specs.Labels.{Prepared};
+ghost use Rattle.lookup.specs.Aims.{NoPosition, Stands};
 
-pub struct Words {
+// The sets of the rows that a row names.
+struct Words {
+    left: usize,
+    right: usize,
+}
+
+// The same, with the rank of a position and whether the team wins there.
+pub struct Standing {
     pub left: usize,
     pub right: usize,
+    pub own: usize,
+    pub wins: bool,
 }
 
 // Whether a stock of resource j is above its bound, or not 0 where it must be.
@@ -57,7 +67,7 @@ pub fn no_position(block: &[u8], i: usize, s: usize, stocks: &[u8]) -> bool
 }
 
 // Labels the rows below row i and stores its ranks in the room. Answers the sets of the rows that it names.
-pub fn prepare(block: &[u8], i: usize, room: &mut [u8]) -> Words
+fn prepare(block: &[u8], i: usize, room: &mut [u8]) -> Words
     requires { ⌜ Valid (now block) ⌝ }
     requires { ⌜ (i < L.rows (now block)) × L.Strategic (L.kind (now block) i) × (12288 ≤ length (now room)) ⌝ }
     ensures { λ w. ⌜ Prepared (now (block .entry)) i (w .left) (w .right) (now (room .exit)) × (length (now (room .exit)) ≡ length (now (room .entry))) ⌝ }
@@ -70,5 +80,23 @@ pub fn prepare(block: &[u8], i: usize, room: &mut [u8]) -> Words
     Words {
         left: left,
         right: right,
+    }
+}
+
+// Makes row i ready, with its ranks in the room, and looks at the rank of a position.
+pub fn look(block: &[u8], i: usize, s: usize, stocks: &[u8], room: &mut [u8]) -> Standing
+    requires { ⌜ Valid (now block) ⌝ }
+    requires { ⌜ (i < L.rows (now block)) × L.Strategic (L.kind (now block) i) × (L.resources (now block) ≤ length (now stocks)) × (12288 ≤ length (now room)) ⌝ }
+    requires { ⌜ P.IsPosition (arenaOf (now block) i) (P.position s (now stocks)) ⌝ }
+    ensures { λ t. ⌜ Stands (now (block .entry)) i (P.position s (now (stocks .entry))) (t .left) (t .right) (t .own) (t .wins) (now (room .exit)) × (length (now (room .exit)) ≡ length (now (room .entry))) ⌝ }
+{
+    let words = prepare(block, i, room);
+    let own = buffers::rank_at(room, positions::number(block, i, s, stocks));
+    let wins = rows::claims(layout::kind(block, i), own);
+    Standing {
+        left: words.left,
+        right: words.right,
+        own: own,
+        wins: wins,
     }
 }

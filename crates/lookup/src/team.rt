@@ -6,9 +6,6 @@ use block::fill;
 use block::layout;
 use block::refusal::Checked;
 use block::refusal::Refusal;
-use game::buffers;
-use game::positions;
-use solver::rows;
 use solver::table;
 ghost use mathlib.Core.List.{[], _∷_};
 ghost use mathlib.Core.Path.{_≡_};
@@ -29,17 +26,14 @@ pub fn team_at(block: &[u8], i: usize, s: usize, stocks: &[u8], room: &mut [u8])
     ensures { λ a. ⌜ TeamAnswer (now (block .entry)) i (position s (now (stocks .entry))) a ⌝ }
     ensures { λ _. ⌜ length (now (room .exit)) ≡ length (now (room .entry)) ⌝ }
 {
-    let words = place::prepare(block, i, room);
-    let left = words.left;
-    let kind = layout::kind(block, i);
-    let own = buffers::rank_at(room, positions::number(block, i, s, stocks));
-    if !rows::claims(kind, own) {
+    let here = place::look(block, i, s, stocks, room);
+    if !here.wins {
         return Answer::Refused(Refusal::WrongSide);
     }
-    if kind == 5 && own == 0 {
+    if layout::kind(block, i) == 5 && here.own == 0 {
         return Answer::Value(0);
     }
-    let m = aims::find_move(block, i, left, own, room, s, stocks);
+    let m = aims::find_move(block, i, here.left, here.own, room, s, stocks);
     Answer::Value(m)
 }
 

@@ -4,13 +4,13 @@
 --     number-found      where n and sep fill k bytes there, n is found, with the text after them
 -- Assumes nothing.
 use mathlib.Core.List.{List, [], _∷_, _++_}
-use mathlib.Core.Path.{_≡_, refl, sym, ap, subst, _∙_}
+use mathlib.Core.Path.{_≡_, sym, ap, _∙_}
 use Prim.Native.Nat.{ℕ, _+_, _/_, _%_, _≤_, _<_}
 use native.Mathlib.Nat.{add-zero}
 use native.Mathlib.Omega.{arith}
-use lib.ListN.{length, getD, drop}
+use lib.ListN.{getD, drop}
 use lib.Seq.{getD-drop, drop-drop}
-use Rattle.text.specs.Numeral.{decimal, Found, found, missing, search}
+use Rattle.text.specs.Numeral.{decimal, found, missing, search}
 use Rattle.text.proofs.Search.{search-found, search-missing}
 use Rattle.text.proofs.Decimals as D
 use Rattle.text.proofs.Decimals.{Shape, shape, only-one, begins-one, begins-two, begins-three}

@@ -9,11 +9,10 @@ use lib.Dec.{leb, ltb}
 use borrow.Author.Tests.{le-leb, lt-leb, lt-ltb, le-ltb}
 use Rattle.block.specs.Layout.{Block, unlimited}
 use Rattle.block.specs.declared.layout.Place.{Place}
-use Rattle.block.specs.declared.refusal.Refusal.{Refusal}
 use Rattle.block.specs.declared.refusal.Refusal.the-variants.{Form}
 use Rattle.text.specs.Numeral.{ascii, comma, decimal, Starts, Found, found, missing, after, search}
-use Rattle.text.specs.Format.{Spelling, Format, exactly, value, Outcome, refused, store, onFound, read}
-use Rattle.text.specs.Job.{both, either, number, bound, boundField, kindWord, index}
+use Rattle.text.specs.Format.{Spelling, Format, value, Outcome, refused, store, onFound, read}
+use Rattle.text.specs.Job.{both, either, bound, boundField, kindWord, index}
 use Rattle.reader.specs.Step.{resume, resumeWith, pastValue, valueOr, Ranged, Inside, InsideWith}
 use Rattle.reader.specs.declared.step.Value.{Value}
 use Rattle.reader.specs.declared.step.Value.the-variants as value-at

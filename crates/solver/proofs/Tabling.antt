@@ -8,7 +8,7 @@ use Rattle.block.specs.Layout.{Block, Strategic}
 use Rattle.block.specs.Valid.{Valid}
 use Rattle.game.specs.Facts.{Facts}
 use Rattle.game.specs.Model.{RowSet, arenaOf, objectiveBy}
-use Rattle.game.proofs.Local.Certificate.{left-decided}
+use Rattle.game.proofs.Local.Aims.{left-decided}
 use Rattle.game.proofs.Blocks.Tables.{table-decided}
 use Rattle.solver.specs.Tables.{tableIn, RanksOf, MovesOf}
 use Rattle.solver.specs.Calls.{roomBytes, movesBytes, RowTable}

@@ -8,7 +8,7 @@ use Rattle.block.specs.Layout.{digit}
 use Rattle.block.specs.declared.layout.Place.the-variants.{Cost, Field}
 use Rattle.block.specs.declared.refusal.Refusal.the-variants as refusal
 use Rattle.text.specs.declared.sizes.Sizes.{Sizes}
-use Rattle.text.specs.Format.{Format, value}
+use Rattle.text.specs.Format.{value}
 use Rattle.text.specs.Job.{number, bound, index, costEnd, costLimit, costs, actions, possible, jointFields, goLine, goLines, stateLines, states, boundFields, rowLine, rowLines}
 use Rattle.text.proofs.Loops.{Loop}
 

@@ -1,6 +1,6 @@
 -- A description of texts, what a block's text is by it, and how a text is read by it.
 -- Reading goes field by field from the left: each field is tried for its form, with the comma or line end after it, and then for its value.
-use mathlib.Core.Bool.{Bool, true, false, cond}
+use mathlib.Core.Bool.{Bool, cond}
 use mathlib.Core.List.{List, [], _∷_, _++_}
 use mathlib.Core.Path.{_≡_}
 use Prim.Native.Nat.{ℕ, _<_}

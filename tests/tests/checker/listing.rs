@@ -5,30 +5,13 @@ use rbatl_tests::listing::listing;
 use rbatl_tests::random::Rng;
 use rbatl_tests::{games, jobs, text, text_damage};
 
-const CATCH: &str = "\
-list,6
-set,0,1,4
-set,1,2,3
-set,2,3,7
-set,3,2,6
-plan,3,1,1,1
-plan,3,2,0,0
-set,4,3,7
-plan,4,0,2,1
-plan,4,1,1,1
-plan,4,2,0,0
-set,5,2,6
-plan,5,1,1,1
-plan,5,2,0,0
-";
-
 fn printed(text: &[u8]) -> String {
     String::from_utf8(listing(text)).expect("a listing is plain text")
 }
 
 #[test]
 fn catch_has_its_listing() {
-    assert_eq!(printed(&jobs::text("catch.job")), CATCH);
+    assert_eq!(printed(&jobs::text("catch.job")), jobs::CATCH_LISTING);
 }
 
 /// The always row: rank 65535 where the coalition wins.
@@ -36,7 +19,7 @@ fn catch_has_its_listing() {
 fn catch_has_its_seventh_row() {
     let text = text::write(&jobs::catch_with_always());
     let seventh = "set,6,1,1\nplan,6,0,65535,4\n";
-    let expected = CATCH.replace("list,6", "list,7") + seventh;
+    let expected = jobs::CATCH_LISTING.replace("list,6", "list,7") + seventh;
     assert_eq!(printed(&text), expected);
 }
 

@@ -28,23 +28,7 @@ fn check_says_the_sizes() {
 
 #[test]
 fn list_is_the_listing_of_document_01() {
-    let listing = "\
-list,6
-set,0,1,4
-set,1,2,3
-set,2,3,7
-set,3,2,6
-plan,3,1,1,1
-plan,3,2,0,0
-set,4,3,7
-plan,4,0,2,1
-plan,4,1,1,1
-plan,4,2,0,0
-set,5,2,6
-plan,5,1,1,1
-plan,5,2,0,0
-";
-    assert_eq!(catch("list"), listing);
+    assert_eq!(catch("list"), jobs::CATCH_LISTING);
 }
 
 #[test]

@@ -1,17 +1,9 @@
 //! Each refusal of the two calls, on both sides of its border, in its order.
 
 use super::*;
-use rbatl_tests::jobs;
+use rbatl_tests::damage::whole_and_damaged;
+use rbatl_tests::jobs::{self, catch};
 use rbatl_tests::layout::*;
-
-/// Damage for each number of the block, in Catch.
-const DAMAGES: [(u8, usize, u8); 5] = [
-    (2, STATES, 25),
-    (3, 29, 5),
-    (4, 677, 3),
-    (5, 2253, 6),
-    (6, 28, 1),
-];
 
 /// Places in Catch, each with a move: won, not won and not won with a move that
 /// is none; then such as break a rule of the position, and of the row as well.
@@ -24,21 +16,6 @@ const PLACES: [(At, u8); 7] = [
     (at(1, 3, [6, 1]), 255),
     (at(255, 255, [255, 255]), 255),
 ];
-
-fn catch() -> Vec<u8> {
-    jobs::load("catch.job")
-}
-
-/// Catch, and Catch with each number of the block.
-fn whole_and_damaged() -> Vec<(Vec<u8>, u8)> {
-    let mut blocks = vec![(catch(), 0)];
-    for (number, place, value) in DAMAGES {
-        let mut block = catch();
-        block[place] = value;
-        blocks.push((block, number));
-    }
-    blocks
-}
 
 /// Both calls refuse with the number at every place.
 fn refused_everywhere(asked: &Asked, number: u8) {

@@ -1,11 +1,7 @@
 //! Catch, as document 01 has it.
 
 use super::*;
-use rbatl_tests::jobs;
-
-fn catch() -> Vec<u8> {
-    jobs::load("catch.job")
-}
+use rbatl_tests::jobs::{self, catch};
 
 /// Starred cases 11 and 12: agent 1 holds agent 0 back by its action 1.
 #[test]

@@ -2,22 +2,9 @@
 //! refusal changes no buffer but the room, and number 1 not even that.
 
 use super::*;
-use rbatl_tests::damage::BORDERS;
-use rbatl_tests::jobs;
+use rbatl_tests::damage::{whole_and_damaged, BORDERS};
+use rbatl_tests::jobs::{self, catch};
 use rbatl_tests::layout::*;
-
-/// Damage for each number of the block, in Catch.
-const DAMAGES: [(u8, usize, u8); 5] = [
-    (2, STATES, 25),
-    (3, 29, 5),
-    (4, 677, 3),
-    (5, 2253, 6),
-    (6, 28, 1),
-];
-
-pub fn catch() -> Vec<u8> {
-    jobs::load("catch.job")
-}
 
 /// Lengths beside the right one, and far from it.
 pub fn other_lengths(right: usize) -> Vec<usize> {
@@ -37,10 +24,7 @@ fn refused_label(block: &[u8], lent: &Lent, expected: u8, what: &str) {
     assert_eq!(outcome.answer, -i32::from(expected), "{what}");
     let (sets, room) = outcome.buffer.split_at(lent.sets.len());
     assert!(sets == lent.sets, "{what}: the sets");
-    match expected {
-        1 => assert!(room == lent.room, "{what}: the room"),
-        _ => assert!(room.iter().all(|&byte| byte == 0), "{what}: the room"),
-    }
+    lent.expect_room(room, expected, what);
 }
 
 /// A refusal that leaves ranks and moves.
@@ -54,17 +38,6 @@ fn refused_row(block: &[u8], model: &Model, row: u8, lent: &Lent, expected: u8, 
     let (ranks, moves) = outcome.buffer.split_at(lent.ranks.len());
     assert!(ranks == lent.ranks, "{what}: the ranks");
     assert!(moves == lent.moves, "{what}: the moves");
-}
-
-/// Jobs that pass, and jobs that any other number would refuse.
-pub fn whole_and_damaged() -> Vec<(Vec<u8>, u8)> {
-    let mut blocks = vec![(catch(), 0)];
-    for (number, place, value) in DAMAGES {
-        let mut block = catch();
-        block[place] = value;
-        blocks.push((block, number));
-    }
-    blocks
 }
 
 /// Buffers of which one, at this place among them, has another length.
@@ -194,22 +167,27 @@ fn full_sizes() {
     }
 }
 
-/// Every place of Catch, with values at the borders.
-#[test]
-fn changed_bytes() {
-    let lent = Lent::patterned();
+/// Every place of Catch, with values at the borders; each number of the block comes.
+pub fn each_changed_byte(call: impl Fn(&[u8], &str) -> Outcome) {
     let mut seen = [0; 9];
     for place in 0..BLOCK_BYTES {
         for value in BORDERS {
             let mut block = catch();
             block[place] = value;
-            let model = Model::of(&block);
             let what = format!("Catch with byte {place} = {value}");
-            let outcome = lent.label(&block, &model, &what);
-            assert_eq!(outcome.answer, -i32::from(model.number()), "{what}");
-            let outcome = lent.table(&block, &model, 4, &what);
-            seen[number(outcome.answer)] += 1;
+            seen[number(call(&block, &what).answer)] += 1;
         }
     }
     assert_each_came(&seen, &[0, 2, 3, 4, 5, 6], 10);
+}
+
+#[test]
+fn changed_bytes() {
+    let lent = Lent::patterned();
+    each_changed_byte(|block, what| {
+        let model = Model::of(block);
+        let outcome = lent.label(block, &model, what);
+        assert_eq!(outcome.answer, -i32::from(model.number()), "{what}");
+        lent.table(block, &model, 4, what)
+    });
 }

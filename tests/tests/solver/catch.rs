@@ -1,13 +1,9 @@
 //! Catch to the byte, as document 01 has it.
 
 use super::*;
-use rbatl_tests::jobs;
+use rbatl_tests::jobs::{self, catch};
 
 const NEVER: u16 = 65535;
-
-fn catch() -> Vec<u8> {
-    jobs::load("catch.job")
-}
 
 /// The words, lowest byte first, and zeros up to the length.
 fn words<const BYTES: usize>(words: &[[u8; BYTES]], length: usize) -> Vec<u8> {

@@ -40,6 +40,14 @@ impl Lent {
         }
     }
 
+    /// After a refusal the room holds zeros; after a wrong length it is as it was.
+    fn expect_room(&self, room: &[u8], number: u8, what: &str) {
+        match number {
+            1 => assert!(room == self.room, "{what}: the room"),
+            _ => assert!(room.iter().all(|&byte| byte == 0), "{what}: the room"),
+        }
+    }
+
     /// Labelling the block, as the library and the model agree.
     fn label(&self, block: &[u8], model: &Model, what: &str) -> Outcome {
         let lent = [&self.sets[..], &self.room[..]];

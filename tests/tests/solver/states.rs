@@ -1,10 +1,10 @@
 //! The lister of states: the list to the byte, each refusal in its order; a refusal
 //! changes nothing but the room, and number 1 not even that.
 
-use super::borders::{catch, misfits, other_lengths, whole_and_damaged};
+use super::borders::{each_changed_byte, misfits, other_lengths};
 use super::*;
-use rbatl_tests::damage::BORDERS;
-use rbatl_tests::jobs;
+use rbatl_tests::damage::whole_and_damaged;
+use rbatl_tests::jobs::{self, catch};
 use rbatl_tests::layout::*;
 
 /// These states, zeros after them, and zeros in the room.
@@ -24,10 +24,7 @@ fn refused(block: &[u8], model: &Model, row: u8, lent: &Lent, expected: u8, what
     assert_eq!(outcome.answer, -i32::from(expected), "{what}");
     let (list, room) = outcome.buffer.split_at(lent.list.len());
     assert!(list == lent.list, "{what}: the list");
-    match expected {
-        1 => assert!(room == lent.room, "{what}: the room"),
-        _ => assert!(room.iter().all(|&byte| byte == 0), "{what}: the room"),
-    }
+    lent.expect_room(room, expected, what);
 }
 
 #[test]
@@ -126,19 +123,8 @@ fn row_numbers() {
     }
 }
 
-/// Every place of Catch, with values at the borders.
 #[test]
 fn changed_bytes() {
     let lent = Lent::patterned();
-    let mut seen = [0; 9];
-    for place in 0..BLOCK_BYTES {
-        for value in BORDERS {
-            let mut block = catch();
-            block[place] = value;
-            let what = format!("Catch with byte {place} = {value}");
-            let outcome = lent.states(&block, &Model::of(&block), 4, &what);
-            seen[number(outcome.answer)] += 1;
-        }
-    }
-    assert_each_came(&seen, &[0, 2, 3, 4, 5, 6], 10);
+    each_changed_byte(|block, what| lent.states(block, &Model::of(block), 4, what));
 }

@@ -16,12 +16,11 @@ use Rattle.game.specs.Position.{full}
 use Rattle.game.specs.Play.{next, always, until}
 use Rattle.game.specs.Table.{Table}
 use Rattle.game.specs.Facts.{Claims, Facts}
-use Rattle.game.specs.Model.{bit, structureOf, RowTrue, RowSet, Says, arenaOf, objectiveOf, objectiveBy}
+use Rattle.game.specs.Model.{bit, structureOf, RowTrue, RowSet, Says, arenaOf, objectiveOf}
 use Rattle.game.proofs.Numbers.Decide.{all-below, both?, by-test, either?, eq?, from-yes, implies?, isYes, lt?, not?}
 use Rattle.game.proofs.Bridge.Proper.{Proper}
-use Rattle.game.proofs.Local.Lower.{Tells, Retold, same-next, same-always, same-until, retold}
 use Rattle.game.proofs.Local.Decidable.{claims?}
-use Rattle.game.proofs.Local.Certificate.{RowsDecided}
+use Rattle.game.proofs.Local.Aims.{RowsDecided}
 use Rattle.game.proofs.Blocks.Formulas.{prop-formula, not-formula, or-formula, row-wins}
 use Rattle.game.proofs.Bridge.Truth.{full-fits}
 use Rattle.game.proofs.Whole.Decided.{claims-win, wins-claimed}
@@ -63,27 +62,6 @@ decided-by-sets b i w₁ w₂ left right = go (eqb (L.kind b i) L.nextKind) (eqb
     go false false = (decided-by-set b (L.left b i) w₁ left, decided-by-set b (L.right b i) w₂ right)
 
 module _ (b : Block) (proper : Proper (structureOf b)) (i : ℕ) where
-  module _ (w₁ w₂ : ℕ) (left : RowSet b (L.left b i) w₁) (right : RowSet b (L.right b i) w₂) where
-    pub retold-row : Retold (arenaOf b i) (objectiveBy (L.kind b i) w₁ w₂) (objectiveOf b i)
-    retold-row = go (eqb (L.kind b i) L.nextKind) (eqb (L.kind b i) L.alwaysKind)
-      where
-        l : Tells (arenaOf b i) (Bit w₁) (RowTrue b (L.left b i))
-        l = set-tells b (L.left b i) w₁ left
-
-        r : Tells (arenaOf b i) (Bit w₂) (RowTrue b (L.right b i))
-        r = set-tells b (L.right b i) w₂ right
-
-        go : (t u : Bool) → Retold (arenaOf b i)
-            (cond t (next (Bit w₁)) (cond u (always (Bit w₁)) (until (Bit w₁) (Bit w₂))))
-            (cond t (next (RowTrue b (L.left b i))) (cond u (always (RowTrue b (L.left b i))) (until (RowTrue b (L.left b i)) (RowTrue b (L.right b i)))))
-        go true u = same-next l
-        go false true = same-always l
-        go false false = same-until l r
-
-    -- facts with lower rows told by their sets are facts of the row
-    pub row-facts : (X : Table) → Facts (arenaOf b i) X (objectiveBy (L.kind b i) w₁ w₂) → Facts (arenaOf b i) X (objectiveOf b i)
-    row-facts X facts = retold (arenaOf b i) proper X retold-row facts
-
   module _ (row : RowFits b i) where
     -- prop, not and or
     pub prop-set : (w : ℕ) → L.kind b i ≡ L.propKind → Says b w (λ s. T (bit (L.mask b s) (L.left b i))) → RowSet b i w

@@ -8,7 +8,7 @@ use native.Mathlib.Omega.{arith}
 use Rattle.block.specs.Layout as L
 use Rattle.block.specs.Layout.{Block, digit, Acts, Strategic}
 use Rattle.block.specs.Valid.{Valid, RowFits}
-use Rattle.game.specs.Rbatl.{unlimited, Joint, Available}
+use Rattle.game.specs.Rbatl.{Joint, Available}
 use Rattle.game.specs.Position.{places, joint, stockPlacesUpTo, positionsUpTo, positions}
 use Rattle.game.specs.Model.{structureOf, boundsOf, arenaOf}
 use Rattle.game.proofs.Numbers.Decide.{eq?}

@@ -8,7 +8,7 @@ use Rattle.game.specs.Rbatl.{Bound, limit, unlimited, Fits, Coalition, S
 use Rattle.game.specs.Position.{Arena, Position, places, opponents, MoveOf, IsPosition, budget, Reply, cost, Allowed, outcome}
 use Rattle.game.specs.Play.{Objective, next, always, until}
 use Rattle.game.specs.Table.{Table, never, rankAt}
-use Rattle.game.specs.Facts.{CanForce, CanAnswer, Claims}
+use Rattle.game.specs.Facts.{Claims}
 use Rattle.game.proofs.Numbers.Decide.{all-below, both?, eq?, implies?, le?, lt?, some-below}
 
 abbrev pub fits? : (n : ℕ) (b : Bound) → Dec (Fits n b)
@@ -53,20 +53,6 @@ module _ (G : Arena) where
         elim (some-below (λ r. Reply G p r × Y (outcome G p m r)) (4 ^ G .structure .agents) (λ r. both? (reply? p r) (Y? r))) [
           | yes found ↦ yes (found .0, found .2 .0, found .2 .1)
           | no none ↦ no (λ (r, reply, y). none (r, reply .0, (reply, y)))
-        ]
-
-    abbrev pub force? : ((m r : ℕ) → Allowed G p m → Reply G p r → Dec (Y (outcome G p m r))) → Dec (CanForce G p Y)
-    force? Y? =
-        elim (some-below (λ m. Allowed G p m × ((r : ℕ) → Reply G p r → Y (outcome G p m r))) (4 ^ G .structure .agents) (λ m. both? (allowed? p m) (λ a. every? m (λ r. Y? m r a)))) [
-          | yes found ↦ yes (found .0, found .2 .0, found .2 .1)
-          | no none ↦ no (λ (m, a, f). none (m, a .0 .0, (a, f)))
-        ]
-
-    abbrev pub answer? : ((m r : ℕ) → Allowed G p m → Reply G p r → Dec (Y (outcome G p m r))) → Dec (CanAnswer G p Y)
-    answer? Y? =
-        elim (all-below (λ m. Allowed G p m → (r : ℕ) × Reply G p r × Y (outcome G p m r)) (4 ^ G .structure .agents) (λ m _. implies? (allowed? p m) (λ a. some? m (λ r. Y? m r a)))) [
-          | yes all ↦ yes (λ m a. all m (a .0 .0) a)
-          | no fails ↦ no (λ f. fails (λ m _. f m))
         ]
 
   -- what a table claims

@@ -1,6 +1,6 @@
 -- The table of a strategic row, given that lower rows are decided in every state: the solver's ranks and the moves that a search finds
 -- for them, as two lists. It has the local facts, so each position is won by exactly one side. Assumes nothing.
-use mathlib.Core.List.{List, []}
+use mathlib.Core.List.{List}
 use mathlib.Core.Logic.{_⊎_, inl, inr}
 use mathlib.Core.Path.{_≡_, refl, sym, _∙_, ap, subst}
 use Prim.Native.Nat.{ℕ, _^_, _≤_, _<_}
@@ -16,7 +16,7 @@ use Rattle.game.proofs.Bridge.Proper.{Proper}
 use Rattle.game.proofs.Local.Decidable.{position?, claims?}
 use Rattle.game.proofs.Local.Same.{Same, same-sym, same-number, positionOf, position-same, position-fits, number-below}
 use Rattle.game.proofs.Local.ByNumber.{force-transfers, answer-transfers, move-same}
-use Rattle.game.proofs.Local.Certificate.{RowsDecided, left-decided, met?, good?}
+use Rattle.game.proofs.Local.Aims.{RowsDecided, left-decided, met?, good?}
 use Rattle.game.proofs.Solving.Exist.{first-below, good-exists}
 use Rattle.game.proofs.Solving.Sides.{leastLargest, force-attained, answer-defended, coalition-attacks, opponents-attack}
 use Rattle.game.proofs.Solving.Sweeping.{force-weakens, answer-weakens}

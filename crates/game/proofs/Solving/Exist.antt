@@ -12,7 +12,7 @@ use Rattle.game.proofs.Numbers.Decide.{both?}
 use Rattle.game.proofs.Bridge.Proper.{Proper}
 use Rattle.game.proofs.Numbers.Ranks.{below-suc}
 use Rattle.game.proofs.Local.Decidable.{position?, allowed?, reply?, claims?}
-use Rattle.game.proofs.Local.Certificate.{RowsDecided, failed?, counter-aim?}
+use Rattle.game.proofs.Local.Aims.{RowsDecided, failed?, counter-aim?}
 use Rattle.game.proofs.Whole.Choices.{idle-reply}
 use Rattle.game.proofs.Whole.Decided.{reply-by-plays}
 

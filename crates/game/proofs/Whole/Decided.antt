@@ -26,7 +26,7 @@ clash G proper p fits U W apart (F, keeps, u) (ρ, counter, w) =
     apart (states G P) (u P from follows) (w F keeps P from follows answers)
 
 -- what the losing side gets makes the row false
-lost-false : (G : Arena) (X : Table) (t : Objective) (p : Position) (λs : Computation) → LostOn G X t p λs → True t λs → ⊥
+pub lost-false : (G : Arena) (X : Table) (t : Objective) (p : Position) (λs : Computation) → LostOn G X t p λs → True t λs → ⊥
 lost-false G X (until left right) p λs lost = lost
 lost-false G X (always left) p λs (k, _, fails) = λ all. fails (all k)
 lost-false G X (next left) p λs lost = lost

@@ -10,7 +10,7 @@ use Rattle.game.specs.Table.{Table, rankAt, moveAt, Smallest, Fewest, Ra
 use Rattle.game.proofs.Numbers.Decide.{lt?}
 use Rattle.game.proofs.Bridge.Proper.{Proper}
 use Rattle.game.proofs.Bridge.Plays.{outcome-fits}
-use Rattle.game.proofs.Local.Certificate.{met?}
+use Rattle.game.proofs.Local.Aims.{met?}
 
 pub smallest-unique : (P Q : ℕ → Type 0) → ((k : ℕ) → P k → Q k) → ((k : ℕ) → Q k → P k) → (m n : ℕ) → Smallest P m → Smallest Q n → m ≡ n
 smallest-unique P Q to from m n (p, p-first) (q, q-first) = go (lt? m n) (lt? n m)

@@ -1,5 +1,5 @@
 -- `operands_bad` tells a row that names what it may not. Assumes nothing.
-use mathlib.Core.Logic.{inl, inr, ⊎-elim}
+use mathlib.Core.Logic.{⊎-elim}
 use native.Mathlib.Omega.{arith}
 use Rattle.block.specs.Decide.{holds, fails}
 use Rattle.block.specs.Check.{prop-range, left-range, right-range}

@@ -1,6 +1,6 @@
 -- `holds` asks for a bit of the word that it reads. Assumes nothing.
 use borrow.Author.Needs.{needs}
-use mathlib.Core.Path.{ap, subst}
+use mathlib.Core.Path.{subst}
 use Prim.Native.Nat.{ℕ}
 use Rattle.block.specs.Decide.{Decides, Bit}
 use Rattle.game.proofs.buffers.holds.Statement.{statement}

@@ -1,7 +1,7 @@
 -- `with_bit` adds the bit, which is above all others. Assumes nothing.
 use borrow.Author.Needs.{needs}
 use mathlib.Core.Path.{_≡_}
-use Prim.Native.Nat.{ℕ, _*_, _%_, _^_, _≤_}
+use Prim.Native.Nat.{_*_, _%_, _^_, _≤_}
 use native.Mathlib.Omega.{arith}
 use lib.Pow.{pow-mono, shl-exact}
 use Rattle.game.proofs.Numbers.Bytes.{bit-small, bit-besides}

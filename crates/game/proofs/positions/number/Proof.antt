@@ -3,7 +3,7 @@ use mathlib.Core.Path.{_≡_, refl, _∙_, ap}
 use Prim.Native.Nat.{ℕ, _-_, _≤_, _<_}
 use native.Mathlib.Omega.{arith}
 use Rattle.block.specs.Layout as L
-use Rattle.game.specs.Position.{position, places, numberUpTo}
+use Rattle.game.specs.Position.{position, numberUpTo}
 use Rattle.game.specs.Model.{arenaOf}
 use Rattle.game.proofs.Blocks.Numbering.{goes-on, stays-small}
 use Rattle.game.proofs.positions.number.Statement.{statement}

@@ -6,7 +6,7 @@ use native.Mathlib.Omega.{arith}
 use Rattle.block.specs.Layout as L
 use Rattle.block.specs.Layout.{Block}
 use Rattle.game.specs.Position as P
-use Rattle.game.specs.Position.{Position, position, places, IsPosition, numberUpTo}
+use Rattle.game.specs.Position.{Position, position, IsPosition, numberUpTo}
 use Rattle.game.specs.Model.{boundsOf, arenaOf, Pays}
 use Rattle.game.proofs.Bridge.Plays.{outcome-fits}
 use Rattle.game.proofs.Blocks.Reading.{sum-small, outcome-state}

@@ -1,12 +1,11 @@
 -- `aimed` looks up the outcome's state and rank. Assumes nothing.
 use mathlib.Core.Path.{_≡_, sym, _∙_, ap, subst}
-use Prim.Native.Nat.{ℕ, _+_, _≤_, _<_}
+use Prim.Native.Nat.{ℕ, _+_, _<_}
 use native.Mathlib.Omega.{arith}
 use borrow.Author.Needs.{needs}
 use Rattle.block.specs.Decide.{Decides}
 use Rattle.block.specs.Layout as L
-use Rattle.block.proofs.Decide as D
-use Rattle.game.specs.Position.{Position, position, number, outcome}
+use Rattle.game.specs.Position.{position, number, outcome}
 use Rattle.game.specs.Buffers.{rankIn}
 use Rattle.game.specs.Model.{arenaOf}
 use Rattle.game.proofs.Bridge.Plays.{outcome-fits}

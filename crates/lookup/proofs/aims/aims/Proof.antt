@@ -1,5 +1,5 @@
 -- `aims` goes by the kind of the row. Assumes nothing.
-use mathlib.Core.Path.{_≡_, sym, ap, transport}
+use mathlib.Core.Path.{sym, ap, transport}
 use Prim.Native.Nat.{ℕ}
 use borrow.Author.Needs.{needs}
 use Rattle.block.proofs.Decide as D

@@ -1,7 +1,7 @@
 -- `find_reply` tries the numbers of replies in rising order. Assumes nothing.
 use mathlib.Core.Logic.{inl, inr, ⊎-elim}
-use mathlib.Core.Path.{_≡_, refl}
-use Prim.Native.Nat.{ℕ, _+_, _-_, _≤_, _<_}
+use mathlib.Core.Path.{refl}
+use Prim.Native.Nat.{ℕ, _-_, _≤_, _<_}
 use native.Mathlib.Omega.{arith}
 use Rattle.block.proofs.Decide as D
 use Rattle.game.specs.Position.{position}

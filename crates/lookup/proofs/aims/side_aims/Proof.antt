@@ -1,6 +1,6 @@
 -- `side_aims` asks for one side or the other. Assumes nothing.
 use mathlib.Core.Bool.{Bool}
-use mathlib.Core.Path.{_≡_, sym, subst}
+use mathlib.Core.Path.{sym, subst}
 use borrow.Author.Needs.{needs}
 use Rattle.block.specs.Decide.{Decides}
 use Rattle.lookup.specs.Aims.{SideBy}

@@ -1,11 +1,10 @@
 -- `above` compares a stock with the resource's stock places. Assumes nothing.
 use mathlib.Core.Bool.{Bool, cond}
-use mathlib.Core.Path.{_≡_, sym, ap, subst}
-use Prim.Native.Nat.{ℕ, _≤_, _<_}
+use mathlib.Core.Path.{_≡_, ap}
+use Prim.Native.Nat.{_≤_}
 use native.Mathlib.Omega.{arith}
 use borrow.Author.Needs.{needs}
 use borrow.Author.Tests.{le-ltb}
-use Rattle.block.specs.Decide.{Decides}
 use Rattle.block.specs.Layout as L
 use Rattle.block.proofs.Decide as D
 use Rattle.game.specs.Rbatl.{unlimited}

@@ -1,6 +1,5 @@
 -- `fill_states` refuses first, and then lists the states and clears the room. Assumes nothing.
-use mathlib.Core.Path.{_≡_, refl}
-use Prim.Native.Nat.{ℕ}
+use mathlib.Core.Path.{refl}
 use native.Mathlib.Omega.{arith}
 use Rattle.lookup.proofs.Calls.{room-cleared}
 use borrow.Author.Needs.{needs}

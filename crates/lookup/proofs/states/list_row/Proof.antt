@@ -1,6 +1,5 @@
 -- `list_row` labels the rows up to its own, and lists the set of that. Assumes nothing.
-use mathlib.Core.Path.{_≡_, sym, _∙_, subst}
-use Prim.Native.Nat.{ℕ, _+_, _≤_, _<_}
+use mathlib.Core.Path.{sym, _∙_, subst}
 use native.Mathlib.Omega.{arith}
 use Rattle.game.specs.Model.{RowSet}
 use Rattle.lookup.proofs.Calls.{set-small, set-states}

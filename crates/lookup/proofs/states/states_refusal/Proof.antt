@@ -1,6 +1,4 @@
 -- `states_refusal` tries what the lister tries, and leaves the room as it does. Assumes nothing.
-use mathlib.Core.Path.{_≡_}
-use Prim.Native.Nat.{ℕ}
 use native.Mathlib.Omega.{arith}
 use Rattle.lookup.proofs.Calls.{room-cleared}
 use borrow.Author.Needs.{needs}

@@ -1,7 +1,5 @@
 -- `turned_down` tries the lengths, the block and the row in this order. Assumes nothing.
 use mathlib.Core.Logic.{inl, inr}
-use mathlib.Core.Path.{_≡_, _∙_, sym}
-use Prim.Native.Nat.{ℕ, _≤_, _<_}
 use native.Mathlib.Omega.{arith}
 use Rattle.block.proofs.Passing.{passing}
 use Rattle.lookup.proofs.Calls.{length-refused, block-refused, row-refused, admitted}

@@ -1,9 +1,6 @@
 -- `team_answer` tries the conditions in order. Assumes nothing.
-use mathlib.Core.Path.{_≡_}
-use Prim.Native.Nat.{ℕ, _≤_, _<_}
 use native.Mathlib.Omega.{arith}
 use borrow.Author.Needs.{needs}
-use Rattle.block.specs.Valid.{Valid}
 use Rattle.block.proofs.Decide as D
 use Rattle.block.proofs.Passing.{passing}
 use Rattle.solver.proofs.Calls.{row-chosen}

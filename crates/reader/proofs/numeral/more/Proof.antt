@@ -1,10 +1,10 @@
 -- `more` reads the rest of a number of two or three digits. Assumes nothing.
-use Prim.Native.Nat.{_+_, _*_, _-_, _<_}
+use Prim.Native.Nat.{_+_, _*_, _-_}
 use native.Mathlib.Omega.{arith}
 use borrow.Author.Tests.{not-true, not-false}
 use Rattle.block.proofs.Decide as D
 use Rattle.text.proofs.Decimals.{within}
-use Rattle.reader.proofs.Numbers.{Digits, one, two, three, number-missing, found-one, found-two, found-three}
+use Rattle.reader.proofs.Numbers.{one, two, three, number-missing, found-two, found-three}
 use borrow.Author.Needs.{needs}
 use Rattle.reader.proofs.numeral.more.Statement.{statement}
 use Rattle.reader.proofs.numeral.more.Tie as tie

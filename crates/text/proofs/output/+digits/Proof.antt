@@ -1,7 +1,7 @@
 -- `digits` stores all digits but the last by its own call, then the last. The measure is the number. Assumes nothing.
-use mathlib.Core.List.{List, [], _∷_, append-assoc}
-use mathlib.Core.Path.{_≡_, sym, _∙_, subst}
-use Prim.Native.Nat.{ℕ, _+_, _/_, _^_, _≤_, _<_}
+use mathlib.Core.List.{append-assoc}
+use mathlib.Core.Path.{_∙_}
+use Prim.Native.Nat.{ℕ, _<_}
 use native.Mathlib.Omega.{arith}
 use borrow.Author.Needs.{needs}
 use borrow.Fn.Kinds.{In}
