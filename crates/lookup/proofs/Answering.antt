@@ -30,7 +30,7 @@ use Rattle.solver.specs.Rows.{ClaimsBy}
 use Rattle.solver.proofs.Labelling.{words-decided, claims-by, retold-claims, row-retold, facts-told}
 use Rattle.lookup.specs.Aims.{Stands, AimBy, Aimed, GoodBy, FoundBelow}
 use Rattle.solver.specs.Labels.{Prepared}
-use Rattle.lookup.specs.Calls.{TableOf, TeamMove}
+use Rattle.lookup.specs.Calls.{TableOf, CoalitionMove}
 
 -- until at rank 0, by the kind of the row
 pub met-by : (b : Block) (i left right : ℕ) (X : Table) (p : Position) → Strategic (L.kind b i) → Met (arenaOf b i) X (objectiveBy (L.kind b i) left right) p → (L.kind b i ≡ 5) × (rankAt (arenaOf b i) X p ≡ 0)
@@ -85,11 +85,11 @@ module _ {b : Block} (valid : Valid b) {i : ℕ} (inside : i < L.rows b) (strate
 
 -- who wins, by the test
 module _ {b : Block} {i : ℕ} {p : Position} {left right own : ℕ} {wins : Bool} {ranks : List ℕ} (at : Stands b i p left right own wins ranks) where
-  pub team-wins : wins ≡ true → CoalitionWins (arenaOf b i) (objectiveOf b i) p
-  team-wins = D.truth (at .side)
+  pub coalition-wins : wins ≡ true → CoalitionWins (arenaOf b i) (objectiveOf b i) p
+  coalition-wins = D.truth (at .side)
 
-  pub team-loses : wins ≡ false → CoalitionWins (arenaOf b i) (objectiveOf b i) p → ⊥
-  team-loses = D.falsity (at .side)
+  pub coalition-loses : wins ≡ false → CoalitionWins (arenaOf b i) (objectiveOf b i) p → ⊥
+  coalition-loses = D.falsity (at .side)
 
 -- what is found at a position by its rank
 module _ {b : Block} (valid : Valid b) {i : ℕ} (inside : i < L.rows b) (strategic : Strategic (L.kind b i)) {p : Position} (fits : IsPosition (arenaOf b i) p)
@@ -104,13 +104,13 @@ module _ {b : Block} (valid : Valid b) {i : ℕ} (inside : i < L.rows b) (strate
   facts = ready-facts valid inside strategic (at .ready)
 
   told-claim : Claims (arenaOf b i) X told p
-  told-claim = transport (claims-by b i left right X p) (wins-claimed-by valid inside strategic (at .ready) p fits (team-wins at told-wins))
+  told-claim = transport (claims-by b i left right X p) (wins-claimed-by valid inside strategic (at .ready) p fits (coalition-wins at told-wins))
 
-  team : (m : ℕ) → m < 64 → m ≡ moveAt (arenaOf b i) X p → TeamMove b i p m
-  team m small e = record { table = X; decided = ready-decided valid inside strategic (at .ready); wins = team-wins at told-wins; move = e; small = small }
+  chosen : (m : ℕ) → m < 64 → m ≡ moveAt (arenaOf b i) X p → CoalitionMove b i p m
+  chosen m small e = record { table = X; decided = ready-decided valid inside strategic (at .ready); wins = coalition-wins at told-wins; move = e; small = small }
 
-  pub team-met : L.kind b i ≡ 5 → own ≡ 0 → TeamMove b i p 0
-  team-met kind zero = team 0 (omega arith) (sym (facts .moves p fits .met told-claim (by-met b i left right X p kind (sym (at .rank) ∙ zero))))
+  pub coalition-met : L.kind b i ≡ 5 → own ≡ 0 → CoalitionMove b i p 0
+  coalition-met kind zero = chosen 0 (omega arith) (sym (facts .moves p fits .met told-claim (by-met b i left right X p kind (sym (at .rank) ∙ zero))))
 
   -- a good move by the rank that is known is one by the table's
   aims : (m r : ℕ) → Aimed b i left own ranks p true m r ≡ Aim (arenaOf b i) X told p (outcome (arenaOf b i) p m r)
@@ -122,9 +122,9 @@ module _ {b : Block} (valid : Valid b) {i : ℕ} (inside : i < L.rows b) (strate
   by-good : (m : ℕ) → Good (arenaOf b i) X told p m → GoodBy b i left own ranks p m
   by-good m (allowed, each) = (allowed, λ r reply. transport (sym (aims m r)) (each r reply))
 
-  pub team-found : (L.kind b i ≡ 5 → own ≡ 0 → ⊥) → (m : ℕ) → FoundBelow (GoodBy b i left own ranks p) m → TeamMove b i p m
-  team-found unmet m found = ⊎-elim
-      (λ (small, least). team m small (smallest-unique (GoodBy b i left own ranks p) (Good (arenaOf b i) X told p) good by-good m (moveAt (arenaOf b i) X p) least
+  pub coalition-found : (L.kind b i ≡ 5 → own ≡ 0 → ⊥) → (m : ℕ) → FoundBelow (GoodBy b i left own ranks p) m → CoalitionMove b i p m
+  coalition-found unmet m found = ⊎-elim
+      (λ (small, least). chosen m small (smallest-unique (GoodBy b i left own ranks p) (Good (arenaOf b i) X told p) good by-good m (moveAt (arenaOf b i) X p) least
       (facts .moves p fits .best told-claim not-met)))
       (λ (_, none).
       let (k, h) = good-exists (arenaOf b i) X told (at .ready .ranks-of .facts) p fits told-claim not-met in

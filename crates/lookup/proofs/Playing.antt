@@ -26,8 +26,8 @@ use Rattle.game.proofs.Whole.Decided.{lost-false}
 use Rattle.game.proofs.Whole.Unique.{rank-unique, failed-agree, counter-agree, ranks-agree, moves-agree}
 use Rattle.solver.specs.Calls.{NoChoice}
 use Rattle.solver.proofs.Calls.{row-chosen}
-use Rattle.lookup.specs.Calls.{TeamMove}
-use Rattle.lookup.specs.Plays.{ByCalls, ByReplies, InTime, TeamDemand, OthersDemand}
+use Rattle.lookup.specs.Calls.{CoalitionMove}
+use Rattle.lookup.specs.Plays.{ByCalls, ByReplies, InTime, CoalitionDemand, OpponentsDemand}
 
 -- the number of a move is shown as it is
 shown-small : (m : ℕ) → m < 64 → shown m ≡ m
@@ -110,7 +110,7 @@ module _ (b : Block) (i : ℕ) (passed : Verdict b 0) (chosen : NoChoice b i →
       inside : IsPosition (arenaOf b i) (P .at n)
       inside = at-fits (arenaOf b i) proper P n
 
-      asked : CoalitionWins (arenaOf b i) (objectiveOf b i) (P .at n) → TeamMove b i (P .at n) (P .move n)
+      asked : CoalitionWins (arenaOf b i) (objectiveOf b i) (P .at n) → CoalitionMove b i (P .at n) (P .move n)
       asked here =
           let few = move-small (P .at n) inside here in
           let same-move : P .move n ≡ moveAt (arenaOf b i) X (P .at n) = by n ∙ shown-small (moveAt (arenaOf b i) X (P .at n)) few in
@@ -136,8 +136,8 @@ module _ (b : Block) (i : ℕ) (passed : Verdict b 0) (chosen : NoChoice b i →
         ),
       )
 
-pub team-demand : (b : Block) (i : ℕ) → TeamDemand b i
-team-demand b i passed chosen p fits wins = record {
+pub coalition-demand : (b : Block) (i : ℕ) → CoalitionDemand b i
+coalition-demand b i passed chosen p fits wins = record {
   rank = rankAt G (X b i passed chosen) p;
   rank-is = at .rank-is;
   rank-only = λ n rank. rank-unique G t p n (rankAt G (X b i passed chosen) p) rank (at .rank-is);
@@ -157,8 +157,8 @@ team-demand b i passed chosen p fits wins = record {
     at : Decided G (X b i passed chosen) t p
     at = decided b i passed chosen p fits
 
-pub others-demand : (b : Block) (i : ℕ) → OthersDemand b i
-others-demand b i passed chosen p fits others = record {
+pub opponents-demand : (b : Block) (i : ℕ) → OpponentsDemand b i
+opponents-demand b i passed chosen p fits others = record {
   some-reply = table-replies b i passed chosen;
   some-strategy =
       let allowed = idle-allowed (arenaOf b i) (proper b i passed chosen) in

@@ -25,8 +25,8 @@ use Rattle.game.proofs.Solving.Exist.{counter-exists}
 use Rattle.game.proofs.Whole.Decided.{unclaimed-opponents, reply-by-plays}
 use Rattle.solver.proofs.Labelling.{claims-by, retold-claims, row-retold}
 use Rattle.lookup.specs.Aims.{Stands, CounterBy, FailedBy, Aimed, CountersBy, FoundBelow}
-use Rattle.lookup.specs.Calls.{OthersReply}
-use Rattle.lookup.proofs.Answering.{ready-table, ready-facts, row-facts, ready-decided, claimed-wins, team-loses}
+use Rattle.lookup.specs.Calls.{OpponentsReply}
+use Rattle.lookup.proofs.Answering.{ready-table, ready-facts, row-facts, ready-decided, claimed-wins, coalition-loses}
 
 -- a reply that is right over lower rows' sets is right over their truth
 module _ (G : Arena) (proper : Proper (G .structure)) (X : Table) (p : Position) (fits : IsPosition G p) (m : ℕ) (allowed : Allowed G p m) (r : ℕ) where
@@ -83,7 +83,7 @@ module _ {b : Block} (valid : Valid b) {i : ℕ} (inside : i < L.rows b) (strate
   X = ready-table valid inside strategic (at .ready)
 
   told-unclaimed : Claims (arenaOf b i) X told p → ⊥
-  told-unclaimed claim = team-loses at told-loses (claimed-wins valid inside strategic (at .ready) p fits (transport (sym (claims-by b i left right X p)) claim))
+  told-unclaimed claim = coalition-loses at told-loses (claimed-wins valid inside strategic (at .ready) p fits (transport (sym (claims-by b i left right X p)) claim))
 
   row-told : Retold (arenaOf b i) told (objectiveOf b i)
   row-told = row-retold b valid i inside left right (at .ready .left-set) (at .ready .right-set) strategic
@@ -94,8 +94,8 @@ module _ {b : Block} (valid : Valid b) {i : ℕ} (inside : i < L.rows b) (strate
   facts : Facts (arenaOf b i) X (objectiveOf b i)
   facts = row-facts valid inside strategic (at .ready)
 
-  others : (r : ℕ) → r < 64 → ReplyIs (arenaOf b i) X told (Claims (arenaOf b i) X told) p m r → OthersReply b i p m r
-  others r small right-one = record {
+  replied : (r : ℕ) → r < 64 → ReplyIs (arenaOf b i) X told (Claims (arenaOf b i) X told) p m r → OpponentsReply b i p m r
+  replied r small right-one = record {
     table = X;
     decided = ready-decided valid inside strategic (at .ready);
     loses = unclaimed-opponents (arenaOf b i) (valid-proper b valid) X (objectiveOf b i) facts p fits row-unclaimed;
@@ -106,8 +106,8 @@ module _ {b : Block} (valid : Valid b) {i : ℕ} (inside : i < L.rows b) (strate
   fails : FailedBy (L.kind b i) left right own (p .state) ≡ Failed (arenaOf b i) X told p
   fails = ap (λ (x : ℕ). FailedBy (L.kind b i) left right x (p .state)) (at .rank) ∙ failed-by b i left right X p
 
-  pub others-failed : FailedBy (L.kind b i) left right own (p .state) → OthersReply b i p m 0
-  others-failed over = others 0 (omega arith) (record { won = λ claim. absurd (told-unclaimed claim); failed = λ _. refl; best = λ _ unfailed. absurd (unfailed (transport fails over)) })
+  pub opponents-failed : FailedBy (L.kind b i) left right own (p .state) → OpponentsReply b i p m 0
+  opponents-failed over = replied 0 (omega arith) (record { won = λ claim. absurd (told-unclaimed claim); failed = λ _. refl; best = λ _ unfailed. absurd (unfailed (transport fails over)) })
 
   -- a counter by the rank that is known is one by the table's
   aims : (r : ℕ) → Aimed b i left own ranks p false m r ≡ CounterAim (arenaOf b i) X told (Claims (arenaOf b i) X told) p (outcome (arenaOf b i) p m r)
@@ -119,9 +119,9 @@ module _ {b : Block} (valid : Valid b) {i : ℕ} (inside : i < L.rows b) (strate
   by-counter : (r : ℕ) → Reply (arenaOf b i) p r × CounterAim (arenaOf b i) X told (Claims (arenaOf b i) X told) p (outcome (arenaOf b i) p m r) → CountersBy b i left own ranks p m r
   by-counter r (reply, aim) = (reply, transport (sym (aims r)) aim)
 
-  pub others-found : (FailedBy (L.kind b i) left right own (p .state) → ⊥) → (r : ℕ) → FoundBelow (CountersBy b i left own ranks p m) r → OthersReply b i p m r
-  others-found unfailed r found = ⊎-elim
-      (λ (small, (h, none)). others r small (record {
+  pub opponents-found : (FailedBy (L.kind b i) left right own (p .state) → ⊥) → (r : ℕ) → FoundBelow (CountersBy b i left own ranks p m) r → OpponentsReply b i p m r
+  opponents-found unfailed r found = ⊎-elim
+      (λ (small, (h, none)). replied r small (record {
         won = λ claim. absurd (told-unclaimed claim);
         failed = λ over. absurd (not-failed over);
         best = λ _ _. (counter r h, λ k less c. none k less (by-counter k c));

@@ -29,7 +29,7 @@ abbrev pub TableOf : Block → ℕ → Table → Type 0
 TableOf b i X = (y : Position) → IsPosition (arenaOf b i) y → Decided (arenaOf b i) X (objectiveOf b i) y
 
 -- m is the team's move at p: the table's, where the team wins
-pub record TeamMove (b : Block) (i : ℕ) (p : Position) (m : ℕ) : Type 0 where
+pub record CoalitionMove (b : Block) (i : ℕ) (p : Position) (m : ℕ) : Type 0 where
   pub table : Table
   pub decided : TableOf b i table
   pub wins : CoalitionWins (arenaOf b i) (objectiveOf b i) p
@@ -37,7 +37,7 @@ pub record TeamMove (b : Block) (i : ℕ) (p : Position) (m : ℕ) : Type 0 wher
   pub small : m < L.maxJoint
 
 -- r is the reply at p to the move m, where the others win
-pub record OthersReply (b : Block) (i : ℕ) (p : Position) (m r : ℕ) : Type 0 where
+pub record OpponentsReply (b : Block) (i : ℕ) (p : Position) (m r : ℕ) : Type 0 where
   pub table : Table
   pub decided : TableOf b i table
   pub loses : OpponentsWin (arenaOf b i) (objectiveOf b i) p
@@ -81,10 +81,10 @@ pub record Found (Refuses : Refusal → Type 0) (order : List Refusal) (right : 
   pub value : ValueIs right a
 
 abbrev pub MoveFound : Block → ℕ → ℕ → List ℕ → List ℕ → Answer → Type 0
-MoveFound b i s stocks room = Found (Unmoved b i s stocks room) moveOrder (TeamMove b i (position s stocks))
+MoveFound b i s stocks room = Found (Unmoved b i s stocks room) moveOrder (CoalitionMove b i (position s stocks))
 
 abbrev pub ReplyFound : Block → ℕ → ℕ → List ℕ → ℕ → List ℕ → Answer → Type 0
-ReplyFound b i s stocks m room = Found (Unanswered b i s stocks m room) replyOrder (OthersReply b i (position s stocks) m)
+ReplyFound b i s stocks m room = Found (Unanswered b i s stocks m room) replyOrder (OpponentsReply b i (position s stocks) m)
 
 -- and the room, before and after the call
 pub record Call (Refuses : Refusal → Type 0) (order : List Refusal) (right : ℕ → Type 0) (room room′ : List ℕ) (a : Answer) : Type 0 where
@@ -92,19 +92,19 @@ pub record Call (Refuses : Refusal → Type 0) (order : List Refusal) (right : �
   pub room-after : RoomAfter room room′ (answerNumber a)
 
 abbrev pub MoveCall : Block → ℕ → ℕ → List ℕ → List ℕ → List ℕ → Answer → Type 0
-MoveCall b i s stocks room = Call (Unmoved b i s stocks room) moveOrder (TeamMove b i (position s stocks)) room
+MoveCall b i s stocks room = Call (Unmoved b i s stocks room) moveOrder (CoalitionMove b i (position s stocks)) room
 
 abbrev pub ReplyCall : Block → ℕ → ℕ → List ℕ → ℕ → List ℕ → List ℕ → Answer → Type 0
-ReplyCall b i s stocks m room = Call (Unanswered b i s stocks m room) replyOrder (OthersReply b i (position s stocks) m) room
+ReplyCall b i s stocks m room = Call (Unanswered b i s stocks m room) replyOrder (OpponentsReply b i (position s stocks) m) room
 
 -- the same of a position that exists in a row that is chosen: 10, or a value
-abbrev pub TeamAnswer : Block → ℕ → Position → Answer → Type 0
-TeamAnswer b i p (answer.Value m) = TeamMove b i p m
-TeamAnswer b i p (answer.Refused r) = (r ≡ refusal.WrongSide) × (CoalitionWins (arenaOf b i) (objectiveOf b i) p → ⊥)
+abbrev pub CoalitionAnswer : Block → ℕ → Position → Answer → Type 0
+CoalitionAnswer b i p (answer.Value m) = CoalitionMove b i p m
+CoalitionAnswer b i p (answer.Refused r) = (r ≡ refusal.WrongSide) × (CoalitionWins (arenaOf b i) (objectiveOf b i) p → ⊥)
 
 -- 10, 11, or a reply
-abbrev pub OthersAnswer : Block → ℕ → Position → ℕ → Answer → Type 0
-OthersAnswer b i p m (answer.Value r) = OthersReply b i p m r × Allowed (arenaOf b i) p m
-OthersAnswer b i p m (answer.Refused r) =
+abbrev pub OpponentsAnswer : Block → ℕ → Position → ℕ → Answer → Type 0
+OpponentsAnswer b i p m (answer.Value r) = OpponentsReply b i p m r × Allowed (arenaOf b i) p m
+OpponentsAnswer b i p m (answer.Refused r) =
     ((r ≡ refusal.WrongSide) × CoalitionWins (arenaOf b i) (objectiveOf b i) p)
     ⊎ ((r ≡ refusal.Move) × ((CoalitionWins (arenaOf b i) (objectiveOf b i) p → ⊥) × (Allowed (arenaOf b i) p m → ⊥)))

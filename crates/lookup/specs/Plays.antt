@@ -9,21 +9,21 @@ use Rattle.game.specs.Play.{Objective, next, always, until, True, MetWithin, Pl
 use Rattle.game.specs.Table.{RankIs}
 use Rattle.game.specs.Model.{arenaOf, objectiveOf}
 use Rattle.solver.specs.Calls.{NoChoice}
-use Rattle.lookup.specs.Calls.{TeamMove, OthersReply}
+use Rattle.lookup.specs.Calls.{CoalitionMove, OpponentsReply}
 
 module _ (b : Block) (i : ℕ) where
   -- the team asks for its move wherever it wins, and idles elsewhere
   abbrev pub ByCalls : Play (arenaOf b i) → Type 0
   ByCalls P =
       (n : ℕ)
-      → (CoalitionWins (arenaOf b i) (objectiveOf b i) (P .at n) → TeamMove b i (P .at n) (P .move n))
+      → (CoalitionWins (arenaOf b i) (objectiveOf b i) (P .at n) → CoalitionMove b i (P .at n) (P .move n))
       × ((CoalitionWins (arenaOf b i) (objectiveOf b i) (P .at n) → ⊥) → P .move n ≡ 0)
 
   -- the others ask for their reply wherever they win; elsewhere 0 stands for it
   abbrev pub ByReplies : CounterStrategy → Type 0
   ByReplies ρ =
       (y : Position) (m : ℕ) → IsPosition (arenaOf b i) y → Allowed (arenaOf b i) y m
-      → (OpponentsWin (arenaOf b i) (objectiveOf b i) y → OthersReply b i y m (ρ y m))
+      → (OpponentsWin (arenaOf b i) (objectiveOf b i) y → OpponentsReply b i y m (ρ y m))
       × (CoalitionWins (arenaOf b i) (objectiveOf b i) y → ρ y m ≡ 0)
 
   -- an until row is met within n moves
@@ -57,12 +57,12 @@ module _ (b : Block) (i : ℕ) where
         → True (objectiveOf b i) (states (arenaOf b i) P) → ⊥
 
   -- from every position that the team wins, the one; from every other, the other
-  abbrev pub TeamDemand : Type 0
-  TeamDemand =
+  abbrev pub CoalitionDemand : Type 0
+  CoalitionDemand =
       Verdict b 0 → (NoChoice b i → ⊥)
       → (p : Position) → IsPosition (arenaOf b i) p → CoalitionWins (arenaOf b i) (objectiveOf b i) p → CallsWin p
 
-  abbrev pub OthersDemand : Type 0
-  OthersDemand =
+  abbrev pub OpponentsDemand : Type 0
+  OpponentsDemand =
       Verdict b 0 → (NoChoice b i → ⊥)
       → (p : Position) → IsPosition (arenaOf b i) p → OpponentsWin (arenaOf b i) (objectiveOf b i) p → RepliesWin p

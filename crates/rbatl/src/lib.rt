@@ -7,7 +7,7 @@ ghost use mathlib.Core.List.{[], _∷_};
 ghost use mathlib.Core.Path.{_≡_};
 ghost use Rattle.block.specs.Refusal.{numberOf, answerOf};
 ghost use Rattle.text.specs.Text.{readCall, blockAfter, Exact};
-ghost use Rattle.lookup.specs.Plays.{TeamDemand, OthersDemand};
+ghost use Rattle.lookup.specs.Plays.{CoalitionDemand, OpponentsDemand};
 ghost use Rattle.rbatl.specs.Answer.{minus, CheckAnswer, readAnswer, WriteAnswer, LabelAnswer, TableAnswer, Small, answerCode, MoveAnswer, ReplyAnswer, StatesAnswer};
 
 fn refused(r: Refusal) -> i32
@@ -99,9 +99,16 @@ pub extern "C" fn rbatl_move(
     room: &mut [u8],
 ) -> i32
     ensures { λ r. ⌜ MoveAnswer (now (block .entry)) row state (stock0 ∷ stock1 ∷ []) (now (room .entry)) (now (room .exit)) r ⌝ }
-    ensures { λ _. ⌜ TeamDemand (now (block .entry)) row ⌝ }
+    ensures { λ _. ⌜ CoalitionDemand (now (block .entry)) row ⌝ }
 {
-    value(lookup::team::team_move(block, row as usize, state as usize, stock0, stock1, room))
+    value(lookup::coalition::coalition_move(
+        block,
+        row as usize,
+        state as usize,
+        stock0,
+        stock1,
+        room,
+    ))
 }
 
 #[no_mangle]
@@ -115,9 +122,9 @@ pub extern "C" fn rbatl_reply(
     room: &mut [u8],
 ) -> i32
     ensures { λ r. ⌜ ReplyAnswer (now (block .entry)) row state (stock0 ∷ stock1 ∷ []) mv (now (room .entry)) (now (room .exit)) r ⌝ }
-    ensures { λ _. ⌜ OthersDemand (now (block .entry)) row ⌝ }
+    ensures { λ _. ⌜ OpponentsDemand (now (block .entry)) row ⌝ }
 {
-    value(lookup::others::reply(
+    value(lookup::opponents::reply(
         block,
         row as usize,
         state as usize,

@@ -4,24 +4,24 @@ use mathlib.Core.Path.{_≡_, _∙_}
 use mir.Facts.{toZ-ofZ}
 use borrow.Author.Needs.{needs}
 use Rattle.game.specs.Position.{position}
-use Rattle.lookup.specs.Calls.{TeamMove}
+use Rattle.lookup.specs.Calls.{CoalitionMove}
 use Rattle.rbatl.proofs.Values.{small-value}
 use Rattle.rbatl.proofs.rbatl_move.Statement.{statement}
 use Rattle.rbatl.proofs.rbatl_move.Tie as tie
 
-team-move-requires : tie.Need-team-move-requires
-team-move-requires c κs = search needs
+coalition-move-requires : tie.Need-coalition-move-requires
+coalition-move-requires c κs = search needs
 
 value-requires : tie.Need-value-requires
 value-requires c κs =
     let args = c .before .before .before .before .before .before .args in
-    small-value (TeamMove (args .block .now) (args .row) (position (args .state) (args .stock0 ∷ args .stock1 ∷ []))) (λ n h. h .small) (c .before .before .team-move .result) (c .before .before .team-move .ensures .0 .found .value)
+    small-value (CoalitionMove (args .block .now) (args .row) (position (args .state) (args .stock0 ∷ args .stock1 ∷ []))) (λ n h. h .small) (c .before .before .coalition-move .result) (c .before .before .coalition-move .ensures .0 .found .value)
 
 same-length : tie.Need-same-length
 same-length c = search needs
 
 returns : tie.Need-returns
-returns c = ((c .before .before .before .team-move .result, c .before .before .before .team-move .ensures .0, toZ-ofZ (record { sfits = c .value .ok }) ∙ c .value .ensures), c .before .before .before .team-move .ensures .1)
+returns c = ((c .before .before .before .coalition-move .result, c .before .before .before .coalition-move .ensures .0, toZ-ofZ (record { sfits = c .value .ok }) ∙ c .value .ensures), c .before .before .before .coalition-move .ensures .1)
 
 pub rbatl-move-spec : {M : Type 1} → statement M
-rbatl-move-spec = tie.close (tie.spec team-move-requires value-requires same-length returns)
+rbatl-move-spec = tie.close (tie.spec coalition-move-requires value-requires same-length returns)

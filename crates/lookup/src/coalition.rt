@@ -15,15 +15,15 @@ ghost use Rattle.block.specs.Layout as L;
 ghost use Rattle.block.specs.Valid.{Valid};
 ghost use Rattle.game.specs.Position.{position, IsPosition};
 ghost use Rattle.game.specs.Model.{arenaOf};
-ghost use Rattle.lookup.specs.Calls.{TeamAnswer, MoveFound, MoveCall};
-ghost use Rattle.lookup.specs.Plays.{TeamDemand};
+ghost use Rattle.lookup.specs.Calls.{CoalitionAnswer, MoveFound, MoveCall};
+ghost use Rattle.lookup.specs.Plays.{CoalitionDemand};
 
 // The team's move at a position of a strategic row.
-pub fn team_at(block: &[u8], i: usize, s: usize, stocks: &[u8], room: &mut [u8]) -> Answer
+pub fn coalition_at(block: &[u8], i: usize, s: usize, stocks: &[u8], room: &mut [u8]) -> Answer
     requires { ⌜ Valid (now block) ⌝ }
     requires { ⌜ (i < L.rows (now block)) × L.Strategic (L.kind (now block) i) × (L.resources (now block) ≤ length (now stocks)) × (12288 ≤ length (now room)) ⌝ }
     requires { ⌜ IsPosition (arenaOf (now block) i) (position s (now stocks)) ⌝ }
-    ensures { λ a. ⌜ TeamAnswer (now (block .entry)) i (position s (now (stocks .entry))) a ⌝ }
+    ensures { λ a. ⌜ CoalitionAnswer (now (block .entry)) i (position s (now (stocks .entry))) a ⌝ }
     ensures { λ _. ⌜ length (now (room .exit)) ≡ length (now (room .entry)) ⌝ }
 {
     let here = place::look(block, i, s, stocks, room);
@@ -38,7 +38,7 @@ pub fn team_at(block: &[u8], i: usize, s: usize, stocks: &[u8], room: &mut [u8])
 }
 
 // The same of any block, row and position; the room is left as it comes out.
-fn team_answer(block: &[u8], i: usize, s: usize, stocks: &[u8], room: &mut [u8]) -> Answer
+fn coalition_answer(block: &[u8], i: usize, s: usize, stocks: &[u8], room: &mut [u8]) -> Answer
     requires { ⌜ (length (now stocks) ≡ 2) × (length (now room) ≡ 12288) ⌝ }
     ensures { λ a. ⌜ MoveFound (now (block .entry)) i s (now (stocks .entry)) (now (room .entry)) a ⌝ }
     ensures { λ _. ⌜ length (now (room .exit)) ≡ length (now (room .entry)) ⌝ }
@@ -51,14 +51,14 @@ fn team_answer(block: &[u8], i: usize, s: usize, stocks: &[u8], room: &mut [u8])
             if place::no_position(block, i, s, stocks) {
                 return Answer::Refused(Refusal::Position);
             }
-            team_at(block, i, s, stocks, room)
+            coalition_at(block, i, s, stocks, room)
         }
         Checked::Refused(r) => Answer::Refused(r),
     }
 }
 
 // The team's move of row i in state s with these stocks. The room is left filled with zeros, unless a buffer has another length.
-pub fn team_move(
+pub fn coalition_move(
     block: &[u8],
     i: usize,
     s: usize,
@@ -67,7 +67,7 @@ pub fn team_move(
     room: &mut [u8],
 ) -> Answer
     ensures { λ a. ⌜ MoveCall (now (block .entry)) i s (stock0 ∷ stock1 ∷ []) (now (room .entry)) (now (room .exit)) a ⌝ }
-    ensures { λ _. ⌜ TeamDemand (now (block .entry)) i ⌝ }
+    ensures { λ _. ⌜ CoalitionDemand (now (block .entry)) i ⌝ }
 {
     if block.len() != layout::BLOCK_BYTES {
         return Answer::Refused(Refusal::Length);
@@ -76,7 +76,7 @@ pub fn team_move(
         return Answer::Refused(Refusal::Length);
     }
     let stocks = [stock0, stock1];
-    let answer = team_answer(block, i, s, &stocks, room);
+    let answer = coalition_answer(block, i, s, &stocks, room);
     fill::zeros(room, 0);
     answer
 }

@@ -1,4 +1,4 @@
--- `team_answer` tries the conditions in order. Assumes nothing.
+-- `coalition_answer` tries the conditions in order. Assumes nothing.
 use native.Mathlib.Omega.{arith}
 use borrow.Author.Needs.{needs}
 use Rattle.block.proofs.Decide as D
@@ -7,10 +7,10 @@ use Rattle.solver.proofs.Calls.{row-chosen}
 use mathlib.Core.List.{[], _∷_}
 use Rattle.block.specs.declared.refusal.Refusal.the-variants as refusal
 use Rattle.game.specs.Position.{position}
-use Rattle.lookup.specs.Calls.{TeamMove}
+use Rattle.lookup.specs.Calls.{CoalitionMove}
 use Rattle.lookup.proofs.Refusing.{placed, refused, no-choice, no-position, LateMove, late-move, move-answered}
-use Rattle.lookup.proofs.team.team_answer.Statement.{statement}
-use Rattle.lookup.proofs.team.team_answer.Tie as tie
+use Rattle.lookup.proofs.coalition.coalition_answer.Statement.{statement}
+use Rattle.lookup.proofs.coalition.coalition_answer.Tie as tie
 
 check-requires : tie.Need-check-requires
 check-requires c κs = search needs
@@ -24,7 +24,7 @@ no-choice-requires c κs = passing (rw (c .enum-told .given .1) at (c .before .b
 returns : tie.Need-returns
 returns c =
     let args = c .before .before .before .before .before .before .before .before .args in (
-      no-choice (args .block .now) (args .i) (args .s) (args .stocks .now) (args .room .now) (LateMove (args .block .now) (args .i) (args .s) (args .stocks .now)) (late-move (args .block .now) (args .i) (args .s) (args .stocks .now)) (refusal.WrongSide ∷ []) (TeamMove (args .block .now) (args .i) (position (args .s) (args .stocks .now))) (c .before .before .before .before .before .before .before .before .pre .1) (rw (c .before .before .enum-told .given .1) at (c .before .before .before .before .check .ensures)) (D.truth (c .before .no-choice .ensures) (c .if1 .taken)),
+      no-choice (args .block .now) (args .i) (args .s) (args .stocks .now) (args .room .now) (LateMove (args .block .now) (args .i) (args .s) (args .stocks .now)) (late-move (args .block .now) (args .i) (args .s) (args .stocks .now)) (refusal.WrongSide ∷ []) (CoalitionMove (args .block .now) (args .i) (position (args .s) (args .stocks .now))) (c .before .before .before .before .before .before .before .before .pre .1) (rw (c .before .before .enum-told .given .1) at (c .before .before .before .before .check .ensures)) (D.truth (c .before .no-choice .ensures) (c .if1 .taken)),
       omega arith,
     )
 
@@ -37,13 +37,13 @@ no-position-requires c κs =
 returns-2 : tie.Need-returns-2
 returns-2 c =
     let args = c .before .before .before .before .before .before .before .before .before .before .args in (
-      no-position (args .block .now) (args .i) (args .s) (args .stocks .now) (args .room .now) (LateMove (args .block .now) (args .i) (args .s) (args .stocks .now)) (late-move (args .block .now) (args .i) (args .s) (args .stocks .now)) (refusal.WrongSide ∷ []) (TeamMove (args .block .now) (args .i) (position (args .s) (args .stocks .now))) (c .before .before .before .before .before .before .before .before .before .before .pre .1) (rw (c .before .before .before .before .enum-told .given .1) at (c .before .before .before .before .before .before .check .ensures)) (D.falsity (c .before .before .before .no-choice .ensures) (c .before .before .if1 .left))
+      no-position (args .block .now) (args .i) (args .s) (args .stocks .now) (args .room .now) (LateMove (args .block .now) (args .i) (args .s) (args .stocks .now)) (late-move (args .block .now) (args .i) (args .s) (args .stocks .now)) (refusal.WrongSide ∷ []) (CoalitionMove (args .block .now) (args .i) (position (args .s) (args .stocks .now))) (c .before .before .before .before .before .before .before .before .before .before .pre .1) (rw (c .before .before .before .before .enum-told .given .1) at (c .before .before .before .before .before .before .check .ensures)) (D.falsity (c .before .before .before .no-choice .ensures) (c .before .before .if1 .left))
           (D.truth (c .before .no-position .ensures) (c .if2 .taken)),
       omega arith,
     )
 
-team-at-requires : tie.Need-team-at-requires
-team-at-requires c κs =
+coalition-at-requires : tie.Need-coalition-at-requires
+coalition-at-requires c κs =
     let args = c .before .before .before .before .before .before .before .before .before .before .before .args in
     let valid = passing (rw (c .before .before .before .before .before .enum-told .given .1) at (c .before .before .before .before .before .before .before .check .ensures)) in
     let row = row-chosen (args .block .now) valid (args .i) (D.falsity (c .before .before .before .before .no-choice .ensures) (c .before .before .before .if1 .left)) in
@@ -53,20 +53,20 @@ enum-known-r : tie.Need-enum-known-r
 enum-known-r c = search needs
 
 same-length : tie.Need-same-length
-same-length c = c .before .before .team-at .ensures .1
+same-length c = c .before .before .coalition-at .ensures .1
 
 returns-3 : tie.Need-returns-3
 returns-3 c =
     let args = c .before .before .before .before .before .before .before .before .before .before .before .before .before .before .args in (
       move-answered (args .block .now) (args .i) (args .s) (args .stocks .now) (args .room .now) (c .before .before .before .before .before .before .before .before .before .before .before .before .before .before .pre .1) (rw (c .before .before .before .before .before .before .before .before .enum-told .given .1) at (c .before .before .before .before .before .before .before .before .before .before .check .ensures)) (D.falsity (c .before .before .before .before .before .before .before .no-choice .ensures) (c .before .before .before .before .before .before .if1 .left))
-          (D.falsity (c .before .before .before .before .before .no-position .ensures) (c .before .before .before .before .if2 .left)) (c .before .before .team-at .result) (c .before .before .team-at .ensures .0),
-      c .before .before .team-at .ensures .1,
+          (D.falsity (c .before .before .before .before .before .no-position .ensures) (c .before .before .before .before .if2 .left)) (c .before .before .coalition-at .result) (c .before .before .coalition-at .ensures .0),
+      c .before .before .coalition-at .ensures .1,
     )
 
 returns-4 : tie.Need-returns-4
 returns-4 c =
     let args = c .before .before .before .before .before .before .before .args in
-    (refused (args .block .now) (args .i) (args .s) (args .stocks .now) (args .room .now) (LateMove (args .block .now) (args .i) (args .s) (args .stocks .now)) (late-move (args .block .now) (args .i) (args .s) (args .stocks .now)) (refusal.WrongSide ∷ []) (TeamMove (args .block .now) (args .i) (position (args .s) (args .stocks .now))) (c .before .before .before .before .before .before .before .pre .1) (c .before .r .given .0 .0) (rw (c .before .r .given .1) at (c .before .before .before .check .ensures)), omega arith)
+    (refused (args .block .now) (args .i) (args .s) (args .stocks .now) (args .room .now) (LateMove (args .block .now) (args .i) (args .s) (args .stocks .now)) (late-move (args .block .now) (args .i) (args .s) (args .stocks .now)) (refusal.WrongSide ∷ []) (CoalitionMove (args .block .now) (args .i) (position (args .s) (args .stocks .now))) (c .before .before .before .before .before .before .before .pre .1) (c .before .r .given .0 .0) (rw (c .before .r .given .1) at (c .before .before .before .check .ensures)), omega arith)
 
-pub team-answer-spec : {M : Type 1} → statement M
-team-answer-spec = tie.close (tie.spec check-requires enum-told no-choice-requires returns no-position-requires returns-2 team-at-requires enum-known-r same-length returns-3 returns-4)
+pub coalition-answer-spec : {M : Type 1} → statement M
+coalition-answer-spec = tie.close (tie.spec check-requires enum-told no-choice-requires returns no-position-requires returns-2 coalition-at-requires enum-known-r same-length returns-3 returns-4)

@@ -6,8 +6,8 @@ use Rattle.block.specs.Decide.{Bit, fails}
 use Rattle.block.proofs.Decide as D
 use Rattle.lookup.specs.Aims.{FailedBy}
 use Rattle.lookup.proofs.Aiming.{until-stands}
-use Rattle.lookup.proofs.others.failed.Statement.{statement}
-use Rattle.lookup.proofs.others.failed.Tie as tie
+use Rattle.lookup.proofs.opponents.failed.Statement.{statement}
+use Rattle.lookup.proofs.opponents.failed.Tie as tie
 
 returns : tie.Need-returns
 returns c =

@@ -18,8 +18,8 @@ ghost use Rattle.block.specs.Valid.{Valid};
 ghost use Rattle.game.specs.Position.{position, IsPosition};
 ghost use Rattle.game.specs.Model.{arenaOf};
 ghost use Rattle.lookup.specs.Aims.{FailedBy};
-ghost use Rattle.lookup.specs.Calls.{OthersAnswer, ReplyFound, ReplyCall};
-ghost use Rattle.lookup.specs.Plays.{OthersDemand};
+ghost use Rattle.lookup.specs.Calls.{OpponentsAnswer, ReplyFound, ReplyCall};
+ghost use Rattle.lookup.specs.Plays.{OpponentsDemand};
 
 // Whether the row has failed already in state s, at a position of rank own.
 fn failed(kind: usize, left: usize, right: usize, own: usize, s: usize) -> bool
@@ -39,7 +39,7 @@ fn failed(kind: usize, left: usize, right: usize, own: usize, s: usize) -> bool
 }
 
 // The reply to the move m at a position of a strategic row.
-pub fn others_at(
+pub fn opponents_at(
     block: &[u8],
     i: usize,
     s: usize,
@@ -50,7 +50,7 @@ pub fn others_at(
     requires { ⌜ Valid (now block) ⌝ }
     requires { ⌜ (i < L.rows (now block)) × L.Strategic (L.kind (now block) i) × (L.resources (now block) ≤ length (now stocks)) × (12288 ≤ length (now room)) ⌝ }
     requires { ⌜ IsPosition (arenaOf (now block) i) (position s (now stocks)) ⌝ }
-    ensures { λ a. ⌜ OthersAnswer (now (block .entry)) i (position s (now (stocks .entry))) m a ⌝ }
+    ensures { λ a. ⌜ OpponentsAnswer (now (block .entry)) i (position s (now (stocks .entry))) m a ⌝ }
     ensures { λ _. ⌜ length (now (room .exit)) ≡ length (now (room .entry)) ⌝ }
 {
     let here = place::look(block, i, s, stocks, room);
@@ -68,7 +68,7 @@ pub fn others_at(
 }
 
 // The same of any block, row and position; the room is left as it comes out.
-fn others_answer(
+fn opponents_answer(
     block: &[u8],
     i: usize,
     s: usize,
@@ -88,7 +88,7 @@ fn others_answer(
             if place::no_position(block, i, s, stocks) {
                 return Answer::Refused(Refusal::Position);
             }
-            others_at(block, i, s, stocks, m, room)
+            opponents_at(block, i, s, stocks, m, room)
         }
         Checked::Refused(r) => Answer::Refused(r),
     }
@@ -105,7 +105,7 @@ pub fn reply(
     room: &mut [u8],
 ) -> Answer
     ensures { λ a. ⌜ ReplyCall (now (block .entry)) i s (stock0 ∷ stock1 ∷ []) m (now (room .entry)) (now (room .exit)) a ⌝ }
-    ensures { λ _. ⌜ OthersDemand (now (block .entry)) i ⌝ }
+    ensures { λ _. ⌜ OpponentsDemand (now (block .entry)) i ⌝ }
 {
     if block.len() != layout::BLOCK_BYTES {
         return Answer::Refused(Refusal::Length);
@@ -114,7 +114,7 @@ pub fn reply(
         return Answer::Refused(Refusal::Length);
     }
     let stocks = [stock0, stock1];
-    let answer = others_answer(block, i, s, &stocks, m, room);
+    let answer = opponents_answer(block, i, s, &stocks, m, room);
     fill::zeros(room, 0);
     answer
 }

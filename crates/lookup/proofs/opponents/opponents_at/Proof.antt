@@ -1,4 +1,4 @@
--- `others_at` looks at the position: where the others win, the smallest reply is found. Assumes nothing.
+-- `opponents_at` looks at the position: where the others win, the smallest reply is found. Assumes nothing.
 use mathlib.Core.Logic.{inl, inr}
 use mathlib.Core.Path.{refl, sym, subst}
 use Prim.Native.Nat.{ℕ}
@@ -7,10 +7,10 @@ use borrow.Author.Needs.{needs}
 use borrow.Author.Tests.{not-true, not-false}
 use Rattle.block.proofs.Decide as D
 use Rattle.lookup.specs.Aims.{FailedBy}
-use Rattle.lookup.proofs.Answering.{team-wins, team-loses}
-use Rattle.lookup.proofs.Replying.{others-failed, others-found}
-use Rattle.lookup.proofs.others.others_at.Statement.{statement}
-use Rattle.lookup.proofs.others.others_at.Tie as tie
+use Rattle.lookup.proofs.Answering.{coalition-wins, coalition-loses}
+use Rattle.lookup.proofs.Replying.{opponents-failed, opponents-found}
+use Rattle.lookup.proofs.opponents.opponents_at.Statement.{statement}
+use Rattle.lookup.proofs.opponents.opponents_at.Tie as tie
 
 look-requires : tie.Need-look-requires
 look-requires c κs = search needs
@@ -19,7 +19,7 @@ same-length : tie.Need-same-length
 same-length c = search needs
 
 returns : tie.Need-returns
-returns c = let at = c .before .before .before .look .ensures in (inl (refl, team-wins (at .0) (c .if1 .taken)), at .1)
+returns c = let at = c .before .before .before .look .ensures in (inl (refl, coalition-wins (at .0) (c .if1 .taken)), at .1)
 
 allowed-requires : tie.Need-allowed-requires
 allowed-requires c κs = search needs
@@ -28,7 +28,7 @@ same-length-2 : tie.Need-same-length-2
 same-length-2 c = search needs
 
 returns-2 : tie.Need-returns-2
-returns-2 c = let at = c .before .before .before .before .before .look .ensures in (inr (refl, (team-loses (at .0) (c .before .before .if1 .left), D.falsity (c .before .allowed .ensures) (not-true _ (c .if2 .taken)))), at .1)
+returns-2 c = let at = c .before .before .before .before .before .look .ensures in (inr (refl, (coalition-loses (at .0) (c .before .before .if1 .left), D.falsity (c .before .allowed .ensures) (not-true _ (c .if2 .taken)))), at .1)
 
 kind-requires : tie.Need-kind-requires
 kind-requires c κs = search needs
@@ -46,7 +46,7 @@ returns-3 c =
     let at = c .before .before .before .before .before .before .before .before .look in
     let allowed = D.truth (c .before .before .before .before .allowed .ensures) (not-false _ (c .before .before .before .if2 .left)) in (
       (
-        others-failed (pre .0) (pre .1 .0 .0) (pre .1 .0 .1) (pre .1 .1) (at .ensures .0) (c .before .before .before .before .before .if1 .left) allowed
+        opponents-failed (pre .0) (pre .1 .0 .0) (pre .1 .0 .1) (pre .1 .1) (at .ensures .0) (c .before .before .before .before .before .if1 .left) allowed
             (subst (λ (k : ℕ). FailedBy k (at .result .left) (at .result .right) (at .result .own) (args .s)) (c .before .before .kind .ensures) (D.truth (c .before .failed .ensures) (c .if3 .taken))),
         allowed,
       ),
@@ -68,7 +68,7 @@ returns-4 c =
     let at = c .before .before .before .before .before .before .before .before .before .before .look in
     let allowed = D.truth (c .before .before .before .before .before .before .allowed .ensures) (not-false _ (c .before .before .before .before .before .if2 .left)) in (
       (
-        others-found (pre .0) (pre .1 .0 .0) (pre .1 .0 .1) (pre .1 .1) (at .ensures .0) (c .before .before .before .before .before .before .before .if1 .left) allowed
+        opponents-found (pre .0) (pre .1 .0 .0) (pre .1 .0 .1) (pre .1 .1) (at .ensures .0) (c .before .before .before .before .before .before .before .if1 .left) allowed
             (λ over. D.falsity (c .before .before .before .failed .ensures) (c .before .before .if3 .left) (subst (λ (k : ℕ). FailedBy k (at .result .left) (at .result .right) (at .result .own) (args .s)) (sym (c .before .before .before .before .kind .ensures)) over))
             (c .find-reply .result) (c .find-reply .ensures),
         allowed,
@@ -76,8 +76,8 @@ returns-4 c =
       at .ensures .1,
     )
 
-pub others-at-spec : {M : Type 1} → statement M
-others-at-spec =
+pub opponents-at-spec : {M : Type 1} → statement M
+opponents-at-spec =
     tie.close
     (tie.spec
     look-requires
