@@ -58,6 +58,17 @@ fn aimed(
     replies::best_of(ranks, targets, n, at, true, rank) < rank
 }
 
+// Whether the coalition wins at position p and has no move there yet.
+fn is_open(ranks: &[u8], moves: &[u8], p: usize, soon: bool, ever: bool) -> bool
+    requires { ⌜ (p < length (now moves)) × (2 * p + 1 < length (now ranks)) ⌝ }
+    ensures { λ r. ⌜ Decides (OpenAt soon ever (now (ranks .entry)) (now (moves .entry)) p) r ⌝ }
+{
+    if moves[p] != 255 {
+        return false;
+    }
+    claimed(soon, ever, buffers::rank_at(ranks, p))
+}
+
 // Tries the move m at position p, which keeps `at` of its stocks.
 fn choose_one(
     ranks: &[u8],
@@ -75,13 +86,10 @@ fn choose_one(
     requires { ⌜ ((k : ℕ) → k < n → 2 * (getD (now targets) k 0 + at) + 1 < length (now ranks)) ⌝ }
     ensures { λ _. ⌜ Tried (HitAt soon ever into (now (ranks .entry)) (now (targets .entry)) n at p) m (now (moves .entry)) (now (moves .exit)) ⌝ }
 {
-    if moves[p] != 255 {
+    if !is_open(ranks, moves, p, soon, ever) {
         return;
     }
     let rank = buffers::rank_at(ranks, p);
-    if !claimed(soon, ever, rank) {
-        return;
-    }
     if !aimed(ranks, targets, n, at, rank, soon, ever, into) {
         return;
     }
@@ -194,18 +202,7 @@ fn choose_move(
     );
 }
 
-// Whether the coalition wins at position p and has no move there yet.
-fn is_open(ranks: &[u8], moves: &[u8], p: usize, soon: bool, ever: bool) -> bool
-    requires { ⌜ (p < length (now moves)) × (2 * p + 1 < length (now ranks)) ⌝ }
-    ensures { λ r. ⌜ Decides (OpenAt soon ever (now (ranks .entry)) (now (moves .entry)) p) r ⌝ }
-{
-    if moves[p] != 255 {
-        return false;
-    }
-    claimed(soon, ever, buffers::rank_at(ranks, p))
-}
-
-// Whether one of the first c positions past base is so.
+// Whether one of the first c positions past base is open.
 fn any_open(ranks: &[u8], moves: &[u8], base: usize, c: usize, soon: bool, ever: bool) -> bool
     requires { ⌜ (base + c ≤ 6144) × (12288 ≤ length (now ranks)) × (6144 ≤ length (now moves)) ⌝ }
     ensures { λ r. ⌜ Decides (Some c (λ (x : ℕ). OpenAt soon ever (now (ranks .entry)) (now (moves .entry)) (base + x))) r ⌝ }
