@@ -1,12 +1,14 @@
 // Reads the text of a job on standard input and prints its listing. It only moves bytes: what is printed is made by `report`.
 use libc::STDIN_FILENO;
 use libc::STDOUT_FILENO;
+use solver::sizes;
+use text::TEXT_BYTES;
 ghost use Prim.Native.Nat.{_≤_};
 ghost use lib.ListN.{length};
 ghost use Rattle.listing.specs.Input.{Within};
 
 // One byte more than a text may have, so that a longer one is seen to be too long, also one that never ends.
-const INPUT_BYTES: usize = 32769;
+const INPUT_BYTES: usize = TEXT_BYTES + 1;
 
 // How much of the input was read, all of it or as much as the buffer holds; or that a read failed.
 pub enum Input {
@@ -35,9 +37,9 @@ fn read_input(text: &mut [u8]) -> Input
 
 // Prints what is listed for the text, or says that it cannot.
 fn print_listing(text: &[u8]) {
-    let mut out = [0u8; 32768];
-    let mut ranks = [0u8; 12288];
-    let mut moves = [0u8; 6144];
+    let mut out = [0u8; TEXT_BYTES];
+    let mut ranks = [0u8; sizes::ROOM_BYTES];
+    let mut moves = [0u8; sizes::MOVES_BYTES];
     let n = report::listing(text, &mut out, &mut ranks, &mut moves);
     if !io::write_all(STDOUT_FILENO, &out[..n]) {
         os::fail(b"standard output");

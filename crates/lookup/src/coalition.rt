@@ -6,6 +6,7 @@ use block::fill;
 use block::layout;
 use block::refusal::Checked;
 use block::refusal::Refusal;
+use solver::sizes;
 use solver::table;
 ghost use mathlib.Core.List.{[], _∷_};
 ghost use mathlib.Core.Path.{_≡_};
@@ -72,7 +73,7 @@ pub fn coalition_move(
     if block.len() != layout::BLOCK_BYTES {
         return Answer::Refused(Refusal::Length);
     }
-    if room.len() != 12288 {
+    if room.len() != sizes::ROOM_BYTES {
         return Answer::Refused(Refusal::Length);
     }
     let stocks = [stock0, stock1];

@@ -7,6 +7,7 @@ use block::layout;
 use block::refusal::Checked;
 use block::refusal::Refusal;
 use game::buffers;
+use solver::sizes;
 use solver::table;
 ghost use mathlib.Core.List.{[], _∷_};
 ghost use mathlib.Core.Path.{_≡_};
@@ -110,7 +111,7 @@ pub fn reply(
     if block.len() != layout::BLOCK_BYTES {
         return Answer::Refused(Refusal::Length);
     }
-    if room.len() != 12288 {
+    if room.len() != sizes::ROOM_BYTES {
         return Answer::Refused(Refusal::Length);
     }
     let stocks = [stock0, stock1];

@@ -8,6 +8,7 @@ use block::refusal::Checked;
 use block::refusal::Refusal;
 use game::buffers;
 use solver::label;
+use solver::sizes;
 ghost use mathlib.Core.Path.{_≡_};
 ghost use Prim.Native.Nat.{_<_};
 ghost use lib.ListN.{length};
@@ -17,14 +18,17 @@ ghost use Rattle.block.specs.Valid.{Valid};
 ghost use Rattle.solver.specs.Calls.{rowOrder};
 ghost use Rattle.lookup.specs.States.{Unlisted, Admitted, StatesIn, frontOf, StatesCall, RefusalCall, PartCall};
 
+// The list has a byte for each state that a job can have.
+const STATES_BYTES: usize = 24;
+
 // The refusal of a call with a list and a room of these lengths.
 fn turned_down(block: &[u8], i: usize, list: usize, room: usize) -> Checked
     ensures { λ r. ⌜ First (Unlisted (now (block .entry)) i list room) rowOrder (answerOf r) × Admitted (now (block .entry)) i list room r ⌝ }
 {
-    if list != 24 {
+    if list != STATES_BYTES {
         return Checked::Refused(Refusal::Length);
     }
-    if room != 12288 {
+    if room != sizes::ROOM_BYTES {
         return Checked::Refused(Refusal::Length);
     }
     match block::check(block) {

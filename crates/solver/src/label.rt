@@ -1,5 +1,6 @@
 // Labelling: the sets of the rows, each from the sets of lower rows.
 use crate::rows;
+use crate::sizes;
 use block::fill;
 use block::layout;
 use block::refusal::Checked;
@@ -79,10 +80,10 @@ pub fn label(block: &[u8], sets: &mut [u8], room: &mut [u8]) -> Checked
     if block.len() != layout::BLOCK_BYTES {
         return Checked::Refused(Refusal::Length);
     }
-    if sets.len() != 128 {
+    if sets.len() != sizes::SETS_BYTES {
         return Checked::Refused(Refusal::Length);
     }
-    if room.len() != 12288 {
+    if room.len() != sizes::ROOM_BYTES {
         return Checked::Refused(Refusal::Length);
     }
     match block::check(block) {

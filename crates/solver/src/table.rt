@@ -2,6 +2,7 @@
 use crate::choose;
 use crate::label;
 use crate::rows;
+use crate::sizes;
 use block::layout;
 use block::refusal::Checked;
 use block::refusal::Refusal;
@@ -42,10 +43,10 @@ pub fn fill_table(block: &[u8], i: usize, ranks: &mut [u8], moves: &mut [u8])
 pub fn table(block: &[u8], i: usize, ranks: &mut [u8], moves: &mut [u8]) -> Checked
     ensures { λ r. ⌜ TableCall (now (block .entry)) i (now (ranks .entry)) (now (moves .entry)) (now (ranks .exit)) (now (moves .exit)) r ⌝ }
 {
-    if ranks.len() != 12288 {
+    if ranks.len() != sizes::ROOM_BYTES {
         return Checked::Refused(Refusal::Length);
     }
-    if moves.len() != 6144 {
+    if moves.len() != sizes::MOVES_BYTES {
         return Checked::Refused(Refusal::Length);
     }
     match block::check(block) {
