@@ -3,14 +3,13 @@
 --     planned-next     one more line, for the lowest state from a place on
 --     planned-all      no state is left
 use mathlib.Core.Bool.{Bool, cond}
-use mathlib.Core.List.{List, [], _∷_, _++_, append-assoc, append-nil}
-use mathlib.Core.Logic.{_⊎_, ⊎-elim}
-use mathlib.Core.Path.{_≡_, refl, sym, ap, subst, _∙_}
+use mathlib.Core.List.{List, [], _++_, append-assoc, append-nil}
+use mathlib.Core.Logic.{⊎-elim}
+use mathlib.Core.Path.{_≡_, refl, sym, ap, _∙_}
 use Prim.Native.Nat.{ℕ, zero, suc, _+_, _*_, _-_, _/_, _%_, _^_, _≤_, _<_}
 use native.Mathlib.Nat.{zero-div}
 use native.Mathlib.Numerals.{add-one}
 use native.Mathlib.Omega.{arith}
-use lib.Dec.{eqb}
 use lib.ListN.{length, take}
 use lib.Pow.{shr-shr}
 use borrow.Author.Tests.{eq-eqb, ne-eqb}
@@ -20,7 +19,6 @@ use Rattle.block.specs.Layout.{Block}
 use Rattle.text.specs.Adding.{Adds}
 use Rattle.text.proofs.Decimals.{lt-or-ge}
 use Rattle.game.specs.Table.{Table}
-use Rattle.game.specs.Model.{bit}
 use Rattle.report.specs.Listing.{parts, planAt, planOf, planLines}
 
 parts-next : (part : ℕ → List ℕ) (n : ℕ) → parts part (n + 1) ≡ parts part n ++ part n

@@ -2,15 +2,13 @@
 use mathlib.Core.Bool.{Bool, true, false, cond, not}
 use mathlib.Core.List.{List, [], _++_, append-nil}
 use mathlib.Core.Path.{_≡_, refl, sym, ap, subst, _∙_}
-use Prim.Native.Nat.{ℕ, _-_, _≤_, _<_}
+use Prim.Native.Nat.{ℕ, _-_, _≤_}
 use native.Mathlib.Omega.{arith}
 use lib.Dec.{ltb, eqb}
 use lib.ListN.{length, take, replicate}
 use lib.Seq.{length-take-le, take-append-le, take-all}
 use Rattle.block.specs.Layout.{Block, blockBytes}
-use Rattle.block.specs.Refusal.{numberOf}
 use Rattle.block.specs.Valid.{Valid}
-use Rattle.block.specs.declared.refusal.Refusal.{Refusal}
 use Rattle.block.specs.declared.refusal.Refusal.the-variants.{Length}
 use Rattle.block.specs.declared.refusal.Checked.{Checked}
 use Rattle.block.proofs.Passing.{passing}
@@ -22,7 +20,7 @@ use Rattle.text.proofs.Formats.{never}
 use Rattle.text.proofs.Accepts.{accepts}
 use Rattle.solver.specs.Calls.{roomBytes, movesBytes}
 use Rattle.report.specs.Call.{listingBytes, ListingCall}
-use Rattle.report.specs.Listing.{refusedLine, Printed}
+use Rattle.report.specs.Listing.{Printed}
 
 -- the answer and the block afterwards tell the outcome
 pub outcome-is : (o : Outcome) (b c : Block) (a : Checked) → a ≡ answerTo o → c ≡ blockAfter b o → o ≡ outcomeOf a c

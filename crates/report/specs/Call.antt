@@ -2,7 +2,7 @@
 use mathlib.Core.List.{List, _++_}
 use mathlib.Core.Path.{_≡_}
 use Prim.Native.Nat.{ℕ, _-_, _≤_}
-use lib.ListN.{length, take, replicate}
+use lib.ListN.{take, replicate}
 use Rattle.text.specs.Text.{textBytes}
 use Rattle.solver.specs.Calls.{roomBytes, movesBytes}
 use Rattle.report.specs.Listing.{Printed}

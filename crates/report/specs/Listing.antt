@@ -1,8 +1,8 @@
 -- The listing (document 01, "The job Catch"): what the program prints for a text.
 use mathlib.Core.Bool.{cond}
-use mathlib.Core.List.{List, [], _∷_, _++_}
+use mathlib.Core.List.{List, [], _++_}
 use mathlib.Core.Path.{_≡_}
-use Prim.Native.Nat.{ℕ, zero, suc, _+_, _<_}
+use Prim.Native.Nat.{ℕ, zero, suc, _+_}
 use lib.Count.{ones}
 use lib.Dec.{ltb}
 use Rattle.block.specs.Layout as L

@@ -1,13 +1,12 @@
 -- Steps of writing (specs' Past): a loop, a bound, the agents of a state.
 -- Assumes nothing.
-use mathlib.Core.List.{List, [], _∷_, _++_, append-assoc, append-nil}
+use mathlib.Core.List.{List, [], _∷_, _++_}
 use mathlib.Core.Path.{_≡_, refl, sym, ap, _∙_}
 use Prim.Native.Nat.{ℕ, suc, _+_, _-_, _≤_, _<_}
-use native.Mathlib.Nat.{add-zero, sub-zero}
+use native.Mathlib.Nat.{sub-zero}
 use native.Mathlib.Numerals.{add-one}
 use native.Mathlib.Omega.{arith}
-use lib.ListN.{length, getD, take, set}
-use lib.Seq.{take-suc, take-suc-set, take-all}
+use lib.ListN.{take, set}
 use borrow.Author.Tests.{lt-ltb, ne-eqb}
 use Rattle.block.specs.Layout as L
 use Rattle.block.specs.Layout.{Block, unlimited}

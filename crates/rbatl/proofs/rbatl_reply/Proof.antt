@@ -1,6 +1,6 @@
 -- `rbatl_reply` hands over the answer of the reply call. Assumes nothing.
 use mathlib.Core.List.{[], _∷_}
-use mathlib.Core.Path.{_≡_, _∙_}
+use mathlib.Core.Path.{_∙_}
 use mir.Facts.{toZ-ofZ}
 use borrow.Author.Needs.{needs}
 use Rattle.game.specs.Position.{position}

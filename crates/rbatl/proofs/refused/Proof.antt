@@ -1,6 +1,6 @@
 -- `refused` gives minus the number: each arm is told its variant, at which the number computes. Assumes nothing.
 use mathlib.Core.Path.{_≡_, sym, ap}
-use lib.IntN.{ℤ, pos, negℤ}
+use lib.IntN.{pos, negℤ}
 use Rattle.block.specs.Refusal.{numberOf}
 use Rattle.block.specs.declared.refusal.Refusal.{Refusal}
 use borrow.Author.Needs.{needs}

@@ -1,5 +1,5 @@
 -- `value` hands over a small value, or the refusal. Assumes nothing.
-use mathlib.Core.Path.{_≡_, _∙_, sym, ap, subst}
+use mathlib.Core.Path.{_∙_, sym, ap, subst}
 use Prim.Native.Nat.{ℕ, _<_}
 use native.Mathlib.Omega.{arith}
 use lib.IntN.{pos}
@@ -7,8 +7,6 @@ use mir.Facts.{toZ-ofZ}
 use mir.Syntax.{w32}
 use mir.Val.{SFits}
 use borrow.Author.Needs.{needs}
-use Rattle.lookup.specs.declared.answer.Answer.{Answer}
-use Rattle.lookup.specs.declared.answer.Answer.the-variants as answer
 use Rattle.rbatl.specs.Answer.{Small, answerCode}
 use Rattle.rbatl.proofs.Values.{small}
 use Rattle.rbatl.proofs.value.Statement.{statement}

@@ -1,6 +1,5 @@
 -- `listing` fills the rest of its buffers with zeros. Assumes nothing.
 use mathlib.Core.Path.{_∙_}
-use native.Mathlib.Omega.{arith}
 use Rattle.solver.specs.Calls.{roomBytes, movesBytes}
 use Rattle.solver.proofs.Calls.{cleared}
 use Rattle.report.proofs.Printing.{printed-whole}

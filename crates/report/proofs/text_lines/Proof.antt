@@ -2,8 +2,8 @@
 use mathlib.Core.Path.{_≡_, sym, ap, subst, _∙_}
 use native.Mathlib.Omega.{arith}
 use lib.ListN.{take}
-use Rattle.text.specs.Format.{accepted, refused}
-use Rattle.text.specs.Text.{blank, readCall, outcomeOf}
+use Rattle.text.specs.Format.{accepted}
+use Rattle.text.specs.Text.{blank, readCall}
 use Rattle.report.specs.Listing.{PrintedFor, refusedLine}
 use Rattle.report.proofs.Printing.{outcome-is, read-valid, front-only}
 use borrow.Author.Needs.{needs}

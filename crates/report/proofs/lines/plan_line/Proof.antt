@@ -1,7 +1,6 @@
 -- `plan_line` stores its word and four numbers. Assumes nothing.
-use mathlib.Core.List.{List, _++_, append-assoc}
-use mathlib.Core.Path.{_≡_, sym, ap, _∙_}
-use Prim.Native.Nat.{ℕ}
+use mathlib.Core.List.{_++_, append-assoc}
+use mathlib.Core.Path.{_∙_}
 use native.Mathlib.Omega.{arith}
 use Rattle.text.specs.Numeral.{comma, lineEnd, field}
 use borrow.Author.Needs.{needs}

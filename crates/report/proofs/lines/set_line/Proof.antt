@@ -1,7 +1,6 @@
 -- `set_line` stores its word and three numbers. Assumes nothing.
-use mathlib.Core.List.{List, _++_, append-assoc}
-use mathlib.Core.Path.{_≡_, sym, ap, _∙_}
-use Prim.Native.Nat.{ℕ}
+use mathlib.Core.List.{_++_, append-assoc}
+use mathlib.Core.Path.{_∙_}
 use native.Mathlib.Omega.{arith}
 use lib.Count.{ones, ones-le}
 use Rattle.text.specs.Numeral.{comma, lineEnd, field}

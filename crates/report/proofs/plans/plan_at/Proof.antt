@@ -1,10 +1,8 @@
 -- `plan_at` reads rank and move where the state stands at full stock. Assumes nothing.
-use mathlib.Core.Path.{_≡_, sym, subst}
-use Prim.Native.Nat.{ℕ, _+_, _*_, _<_}
+use Prim.Native.Nat.{_<_}
 use native.Mathlib.Omega.{arith}
-use Rattle.block.specs.Layout as L
 use Rattle.game.specs.Model.{arenaOf}
-use Rattle.game.specs.Position.{number, full}
+use Rattle.game.specs.Position.{full}
 use Rattle.game.proofs.Local.Same.{number-below}
 use Rattle.game.proofs.Bridge.Truth.{full-fits}
 use Rattle.game.proofs.Blocks.Passing.{few-positions}
