@@ -2,7 +2,7 @@
 //! costs that a bound pays for several times, and mostly strategic rows.
 
 use crate::layout::*;
-use crate::random::Rng;
+use crate::random::{any_block, Rng};
 
 /// What the jobs of a kind have in common.
 #[derive(Clone, Copy)]
@@ -74,6 +74,15 @@ fn punish_idling(rng: &mut Rng, block: &mut [u8], driver: u8) {
                 block[next(state, joint)] = goal as u8;
             }
         }
+    }
+}
+
+/// A job with something to play for, or any.
+pub fn mixed(rng: &mut Rng) -> Vec<u8> {
+    match rng.below(4) {
+        0 => any_block(rng),
+        1 => contest(rng),
+        _ => small(rng),
     }
 }
 

@@ -3,7 +3,8 @@
 
 use crate::checker::search;
 use crate::checker::structure::{contains, Structure};
-use crate::text;
+use crate::random::{cases, Rng};
+use crate::{games, jobs, text, text_damage};
 
 /// The listing of a text, or `refused,` and the number.
 pub fn listing(job: &[u8]) -> Vec<u8> {
@@ -31,4 +32,32 @@ fn of_block(block: &[u8]) -> String {
         }
     }
     lines.iter().map(|line| format!("{line}\n")).collect()
+}
+
+/// Tries `agree` on the job files. It compares a program with the listing of a
+/// text, and tells whether the text is listed and not refused.
+pub fn try_job_files(agree: impl Fn(&[u8], &str) -> bool) {
+    for name in jobs::names() {
+        assert!(agree(&jobs::text(&name), &name));
+    }
+}
+
+/// The same on random jobs.
+pub fn try_random_jobs(seed: u64, agree: impl Fn(&[u8], &str) -> bool) {
+    for case in 0..cases(500) {
+        let text = text::write(&games::mixed(&mut Rng::for_case(seed, case)));
+        assert!(agree(&text, &format!("case {case}")));
+    }
+}
+
+/// The same on damaged texts, many of which are refused.
+pub fn try_damaged_texts(seed: u64, agree: impl Fn(&[u8], &str) -> bool) {
+    let mut refused = 0;
+    for case in 0..cases(500) {
+        let mut rng = Rng::for_case(seed, case);
+        let mut text = text::write(&games::small(&mut rng));
+        let how = text_damage::damage(&mut rng, &mut text);
+        refused += u64::from(!agree(&text, &format!("case {case}, {how}")));
+    }
+    assert!(refused > 200, "{refused}");
 }

@@ -2,22 +2,13 @@
 
 use super::{desk, Says};
 use rbatl_tests::layout::*;
-use rbatl_tests::listing::listing;
+use rbatl_tests::listing::{listing, try_damaged_texts, try_job_files, try_random_jobs};
 use rbatl_tests::lookup::{At, Model};
-use rbatl_tests::random::{any_block, cases, Rng};
+use rbatl_tests::random::{cases, Rng};
 use rbatl_tests::solver::ROOM_BYTES;
-use rbatl_tests::{games, jobs, text, text_damage};
+use rbatl_tests::{games, text};
 
 const SEED: u64 = 57;
-
-/// A job with something to play for, or any.
-fn job(rng: &mut Rng) -> Vec<u8> {
-    match rng.below(4) {
-        0 => any_block(rng),
-        1 => games::contest(rng),
-        _ => games::small(rng),
-    }
-}
 
 fn agree_on_listing(text: &[u8], what: &str) -> bool {
     let ran = desk("list", text);
@@ -33,30 +24,17 @@ fn agree_on_listing(text: &[u8], what: &str) -> bool {
 
 #[test]
 fn listings_of_the_job_files() {
-    for name in jobs::names() {
-        assert!(agree_on_listing(&jobs::text(&name), &name));
-    }
+    try_job_files(agree_on_listing);
 }
 
 #[test]
 fn listings_of_random_jobs() {
-    for case in 0..cases(500) {
-        let mut rng = Rng::for_case(SEED, case);
-        let text = text::write(&job(&mut rng));
-        assert!(agree_on_listing(&text, &format!("case {case}")));
-    }
+    try_random_jobs(SEED, agree_on_listing);
 }
 
 #[test]
 fn listings_of_damaged_texts() {
-    let mut refused = 0;
-    for case in 0..cases(500) {
-        let mut rng = Rng::for_case(SEED + 1, case);
-        let mut text = text::write(&games::small(&mut rng));
-        let how = text_damage::damage(&mut rng, &mut text);
-        refused += u64::from(!agree_on_listing(&text, &format!("case {case}, {how}")));
-    }
-    assert!(refused > 200, "{refused}");
+    try_damaged_texts(SEED + 1, agree_on_listing);
 }
 
 /// The agents' actions in words.

@@ -1,9 +1,9 @@
 //! Listings beside those of the second implementation.
 
 use super::printed;
-use rbatl_tests::listing::listing;
-use rbatl_tests::random::{any_block, cases, Rng};
-use rbatl_tests::{games, jobs, text, text_damage};
+use rbatl_tests::listing::{listing, try_damaged_texts, try_job_files, try_random_jobs};
+use rbatl_tests::random::{cases, Rng};
+use rbatl_tests::{games, text};
 
 const SEED: u64 = 71;
 
@@ -16,22 +16,12 @@ fn agree(text: &[u8], what: &str) -> bool {
 
 #[test]
 fn the_job_files() {
-    for name in jobs::names() {
-        assert!(agree(&jobs::text(&name), &name));
-    }
+    try_job_files(agree);
 }
 
 #[test]
 fn jobs_of_every_size() {
-    for case in 0..cases(600) {
-        let mut rng = Rng::for_case(SEED, case);
-        let block = match rng.below(4) {
-            0 => any_block(&mut rng),
-            1 => games::contest(&mut rng),
-            _ => games::small(&mut rng),
-        };
-        assert!(agree(&text::write(&block), &format!("case {case}")));
-    }
+    try_random_jobs(SEED, agree);
 }
 
 #[test]
@@ -44,14 +34,7 @@ fn jobs_of_full_size() {
 
 #[test]
 fn damaged_texts() {
-    let mut refused = 0;
-    for case in 0..cases(600) {
-        let mut rng = Rng::for_case(SEED + 2, case);
-        let mut text = text::write(&games::small(&mut rng));
-        let how = text_damage::damage(&mut rng, &mut text);
-        refused += u64::from(!agree(&text, &format!("case {case}, {how}")));
-    }
-    assert!(refused > 200, "{refused}");
+    try_damaged_texts(SEED + 2, agree);
 }
 
 /// Both sides of the longest text.
