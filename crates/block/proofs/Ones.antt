@@ -1,6 +1,6 @@
 -- The lowest bit of a word, and the count of its bits. Assumes nothing.
 use mathlib.Core.Path.{_≡_, refl, sym, _∙_, ap, subst}
-use Prim.Native.Nat.{ℕ, zero, suc, _+_, _/_, _%_, _^_, _<_}
+use Prim.Native.Nat.{ℕ, zero, suc, _+_, _-_, _/_, _%_, _^_, _≤_, _<_}
 use native.Mathlib.Omega.{arith}
 use lib.Arith.{bin-ind}
 use lib.Count.{ones, ones-step, trailingZeros, under}
@@ -62,3 +62,10 @@ ones-none = bin-ind (λ w. ones w ≡ 0 → w ≡ 0) (λ _. refl) (λ w half non
 pub ones-zero : ones 0 ≡ 0
 unfolding ones
 ones-zero = refl
+
+-- the lowest bit from a place on, as a bit of the whole word; none stands between
+pub lowest-from : (w from k : ℕ) → Lowest (w / 2 ^ from) k → Bit w (from + k) × ((x : ℕ) → from ≤ x → x < from + k → Bit w x → ⊥)
+lowest-from w from k low = (sym (moved k) ∙ low .bit, λ x l u one. let place : from + (x - from) ≡ x = omega arith in low .first (x - from) (omega arith) (moved (x - from) ∙ ap (λ (n : ℕ). w / 2 ^ n % 2) place ∙ one))
+  where
+    moved : (j : ℕ) → w / 2 ^ from / 2 ^ j % 2 ≡ w / 2 ^ (from + j) % 2
+    moved j = ap (λ (n : ℕ). n % 2) (shr-shr w from j)

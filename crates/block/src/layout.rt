@@ -1,4 +1,5 @@
 // Where each field of a job stands in its block. No other module computes an offset.
+use crate::widths::wide;
 ghost use mathlib.Core.Path.{_≡_};
 ghost use Prim.Native.Nat.{_<_};
 ghost use lib.ListN.{length};
@@ -95,12 +96,6 @@ pub fn offset(x: Place) -> usize
         Place::Next(s, joint) => next_place(s, joint),
         Place::Field(i, f) => field_place(i, f),
     }
-}
-
-fn wide(x: u8) -> usize
-    ensures { λ r. ⌜ r ≡ x ⌝ }
-{
-    x as usize
 }
 
 pub fn byte_at(block: &[u8], p: usize) -> usize

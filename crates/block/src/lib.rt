@@ -9,6 +9,7 @@ mod rows;
 mod sizes;
 mod states;
 mod unused;
+pub mod widths;
 
 use nexts::nexts_bad;
 use refusal::Checked;

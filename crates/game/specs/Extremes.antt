@@ -29,7 +29,11 @@ pub record BestOf (most : Bool) (n : ℕ) (f : ℕ → ℕ) (limit r : ℕ) : Ty
   pub extreme : Extreme most n f worst
   pub further : Further (not most) worst limit r
 
--- the first n places of a list hold the value of each r that has the property, and of no other
-pub record Lists (P : ℕ → Type 0) (f : ℕ → ℕ) (l : List ℕ) (n : ℕ) : Type 0 where
-  pub each : (r : ℕ) → P r → (k : ℕ) × (k < n) × (getD l k 0 ≡ f r)
-  pub only : (k : ℕ) → k < n → (r : ℕ) × P r × (getD l k 0 ≡ f r)
+-- the first n of the numbers `at` are the value of each r that has the property, and of no other
+pub record ListsAt (P : ℕ → Type 0) (f : ℕ → ℕ) (at : ℕ → ℕ) (n : ℕ) : Type 0 where
+  pub each : (r : ℕ) → P r → (k : ℕ) × (k < n) × (at k ≡ f r)
+  pub only : (k : ℕ) → k < n → (r : ℕ) × P r × (at k ≡ f r)
+
+-- the first n places of a list hold them
+abbrev pub Lists : (ℕ → Type 0) → (ℕ → ℕ) → List ℕ → ℕ → Type 0
+Lists P f l n = ListsAt P f (λ k. getD l k 0) n

@@ -1,16 +1,11 @@
 // Words in lent buffers, lowest byte first: the rank of a position, and the set of a row with a bit for each state.
+use block::widths::wide;
 ghost use mathlib.Core.Path.{_≡_};
 ghost use mathlib.Core.Logic.{_↔_, _⊎_};
 ghost use Prim.Native.Nat.{ℕ, _+_, _*_, _^_, _≤_, _<_};
 ghost use lib.ListN.{length};
 ghost use Rattle.block.specs.Decide.{Decides, Bit};
 ghost use Rattle.game.specs.Buffers.{rankIn, wordIn, Stored, Lowered};
-
-fn wide(x: u8) -> usize
-    ensures { λ r. ⌜ (r ≡ x) × (r < 256) ⌝ }
-{
-    x as usize
-}
 
 // The rank of position p.
 pub fn rank_at(ranks: &[u8], p: usize) -> usize

@@ -1,6 +1,7 @@
 // Positions of a strategic row: how many stock places each resource has, how many positions there are, and their numbers.
 use crate::moves;
 use block::layout;
+use block::widths::wide;
 ghost use mathlib.Core.Path.{_≡_};
 ghost use Prim.Native.Nat.{_≤_, _<_};
 ghost use lib.ListN.{length};
@@ -47,12 +48,6 @@ pub fn count(block: &[u8], i: usize) -> usize
     ensures { λ r. ⌜ (r ≡ P.positions (arenaOf (now (block .entry)) i)) × (r ≤ 6144) ⌝ }
 {
     layout::states(block) * stock_places(block, i)
-}
-
-fn wide(x: u8) -> usize
-    ensures { λ r. ⌜ r ≡ x ⌝ }
-{
-    x as usize
 }
 
 // The number of the position with state s and the stocks of the list, resource 0 first.

@@ -11,7 +11,7 @@ use lib.Pow.{shr-le, shr-shr}
 use lib.Seq.{getD-set-same, getD-set-other}
 use Rattle.block.specs.Decide.{Some, Bit, Lowest}
 use Rattle.block.proofs.Masks.{no-bit-above}
-use Rattle.block.proofs.Ones.{ones-above, ones-none, ones-zero}
+use Rattle.block.proofs.Ones.{ones-above, ones-none, ones-zero, lowest-from}
 use Rattle.game.proofs.Numbers.Decide.{eq?, lt?}
 use Rattle.solver.proofs.Calls.{zero-byte}
 use Rattle.lookup.specs.Sets.{Lists}
@@ -78,7 +78,7 @@ module _ (w : ℕ) where
     }
       where
         bit : Bit w (from + t)
-        bit = sym (ap (λ (n : ℕ). n % 2) (shr-shr w from t)) ∙ low .bit
+        bit = lowest-from w from t low .0
 
         above : ones (w / 2 ^ from) ≡ 1 + ones (w / 2 ^ (from + t + 1))
         above =
@@ -113,9 +113,7 @@ module _ (w : ℕ) where
         all x l one (no _) (yes before) =
             let (j, m, e) = so .all x before one in
             (j, omega arith, other j (λ e′. omega arith) ∙ e)
-        all x l one (no ne) (no after) =
-            let place : from + (x - from) ≡ x = omega arith in
-            absurd (low .first (x - from) (omega arith) (ap (λ (n : ℕ). n % 2) (shr-shr w from (x - from) ∙ ap (λ (n : ℕ). w / 2 ^ n) place) ∙ one))
+        all x l one (no ne) (no after) = absurd (lowest-from w from t low .1 x (omega arith) (omega arith) one)
 
     pub listing-all : (list : List ℕ) (n from : ℕ) → Listing list n from → n ≡ ones w → Lists (Bit w) list n
     listing-all list n from so whole = record {

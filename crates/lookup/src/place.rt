@@ -1,5 +1,6 @@
 // A position that a caller names, and its row made ready.
 use block::layout;
+use block::widths::wide;
 use game::buffers;
 use game::positions;
 use solver::label;
@@ -39,12 +40,6 @@ fn above(block: &[u8], i: usize, j: usize, stock: usize) -> bool
         return 1 <= stock;
     }
     positions::places(block, i, j) <= stock
-}
-
-fn wide(x: u8) -> usize
-    ensures { λ r. ⌜ r ≡ x ⌝ }
-{
-    x as usize
 }
 
 // Whether there is no such position.

@@ -1,5 +1,6 @@
 // Numbers in the text.
 use crate::step::Numeral;
+use block::widths::wide;
 ghost use mathlib.Core.Bool.{Bool};
 ghost use mathlib.Core.List.{_∷_, [], _++_};
 ghost use mathlib.Core.Path.{_≡_};
@@ -8,12 +9,6 @@ ghost use lib.ListN.{length, getD, drop};
 ghost use Rattle.block.specs.Decide.{Decides};
 ghost use Rattle.text.specs.Numeral.{decimal, search};
 ghost use Rattle.reader.specs.Step.{foundAt, InsideNumeral};
-
-fn wide(x: u8) -> usize
-    ensures { λ r. ⌜ r ≡ x ⌝ }
-{
-    x as usize
-}
 
 // The byte at a place of the text, 0 past its end.
 pub fn byte(text: &[u8], at: usize) -> usize

@@ -7,6 +7,7 @@ use lib.ListN.{take}
 use Rattle.block.specs.Layout as L
 use Rattle.block.specs.Layout.{Block}
 use Rattle.text.specs.Adding.{Adds}
+use Rattle.text.proofs.Adding.{added-front}
 use Rattle.report.specs.Listing.{listLine, RowListed, RowsListed, none, next, Listed}
 
 -- the first line and the lines of i rows stand in the front of the buffer
@@ -16,16 +17,12 @@ pub record Rowed (b : Block) (u : List ℕ) (place i : ℕ) : Type 0 where
   pub so : take place u ≡ listLine (L.rows b) ++ lines
   pub near : place ≤ 14 + i * 1015
 
--- a word was added to what stands in front
-front : (w t u : List ℕ) (place last : ℕ) → Adds w t place u last → take last u ≡ take place t ++ w
-front w t u place last added = sym (append-nil (take last u)) ∙ added [] ∙ ap (λ (l : List ℕ). take place t ++ l) (append-nil w)
-
 module _ (b : Block) (u : List ℕ) (place : ℕ) where
   pub rowed-none : (t : List ℕ) → Adds (listLine (L.rows b)) t 0 u place → place ≤ 0 + 14 → Rowed b u place 0
   rowed-none t added short = record {
     lines = [];
     rows = none;
-    so = front (listLine (L.rows b)) t u 0 place added ∙ sym (append-nil (listLine (L.rows b)));
+    so = added-front (listLine (L.rows b)) t u 0 place added ∙ sym (append-nil (listLine (L.rows b)));
     near = omega arith;
   }
 
@@ -34,7 +31,7 @@ module _ (b : Block) (u : List ℕ) (place : ℕ) where
     rowed-next lines v last listed added short = record {
       lines = r .lines ++ lines;
       rows = next (r .rows) listed;
-      so = front lines u v place last added ∙ ap (λ (l : List ℕ). l ++ lines) (r .so) ∙ append-assoc (listLine (L.rows b)) (r .lines) lines;
+      so = added-front lines u v place last added ∙ ap (λ (l : List ℕ). l ++ lines) (r .so) ∙ append-assoc (listLine (L.rows b)) (r .lines) lines;
       near = omega (arith, r .near);
     }
 

@@ -5,7 +5,7 @@
 use mathlib.Core.Bool.{Bool, cond}
 use mathlib.Core.List.{List, [], _++_, append-assoc, append-nil}
 use mathlib.Core.Logic.{⊎-elim}
-use mathlib.Core.Path.{_≡_, refl, sym, ap, _∙_}
+use mathlib.Core.Path.{_≡_, refl, sym, ap, subst, _∙_}
 use Prim.Native.Nat.{ℕ, zero, suc, _+_, _*_, _-_, _/_, _%_, _^_, _≤_, _<_}
 use native.Mathlib.Nat.{zero-div}
 use native.Mathlib.Numerals.{add-one}
@@ -16,7 +16,10 @@ use borrow.Author.Tests.{eq-eqb, ne-eqb}
 use Rattle.block.specs.Decide.{Bit, Lowest}
 use Rattle.block.specs.Layout as L
 use Rattle.block.specs.Layout.{Block}
+use Rattle.block.proofs.Masks.{no-bit-above}
+use Rattle.block.proofs.Ones.{lowest-from}
 use Rattle.text.specs.Adding.{Adds}
+use Rattle.text.proofs.Adding.{adds-then}
 use Rattle.text.proofs.Decimals.{lt-or-ge}
 use Rattle.game.specs.Table.{Table}
 use Rattle.report.specs.Listing.{parts, planAt, planOf, planLines}
@@ -41,14 +44,6 @@ parts-skip part m (suc n) h none = ⊎-elim
     (λ more. ap (parts part) (omega arith))
     (lt-or-ge m (suc n))
 
--- bit k of a word without its low bits
-shifted : (w from k : ℕ) → w / 2 ^ from / 2 ^ k % 2 ≡ w / 2 ^ (from + k) % 2
-shifted w from k = ap (λ (n : ℕ). n % 2) (shr-shr w from k)
-
--- and the bit x of the word, found there
-above : (w from x : ℕ) → from ≤ x → w / 2 ^ from / 2 ^ (x - from) % 2 ≡ w / 2 ^ x % 2
-above w from x l = let back : from + (x - from) ≡ x = omega arith in shifted w from (x - from) ∙ ap (λ (n : ℕ). w / 2 ^ n % 2) back
-
 module _ (b : Block) (i w : ℕ) (X : Table) where
   there : (s : ℕ) → Bit w s → planOf b i w X s ≡ planAt b i X s
   there s one = ap (λ (t : Bool). cond t (planAt b i X s) []) (eq-eqb (w / 2 ^ s % 2) 1 one)
@@ -71,21 +66,17 @@ module _ (b : Block) (i w : ℕ) (X : Table) where
     -- from here on the lowest state is k further
     module _ (k : ℕ) (low : Lowest (w / 2 ^ from) k) where
       found : Bit w (from + k)
-      found = sym (shifted w from k) ∙ low .bit
+      found = lowest-from w from k low .0
 
       pub state-inside : from + k < L.states b
       state-inside = states (from + k) found
 
       skipped : parts (planOf b i w X) (from + k) ≡ parts (planOf b i w X) from
-      skipped = parts-skip (planOf b i w X) from (from + k) (omega arith) (λ x l u. missing x (λ one. low .first (x - from) (omega arith) (above w from x l ∙ one)))
+      skipped = parts-skip (planOf b i w X) from (from + k) (omega arith) (λ x l u. missing x (lowest-from w from k low .1 x l u))
 
       pub planned-next : {v : List ℕ} {last : ℕ} → Adds (planAt b i X (from + k)) u next v last → last ≤ next + 41 → length v ≡ length u → Planned t at v last (from + k + 1)
       planned-next {v} {last} added short same = record {
-        so = λ rest.
-            added rest
-            ∙ p .so (planAt b i X (from + k) ++ rest)
-            ∙ ap (λ (l : List ℕ). take at t ++ l) (sym (append-assoc (parts (planOf b i w X) from) (planAt b i X (from + k)) rest))
-            ∙ ap (λ (l : List ℕ). take at t ++ (l ++ rest)) (sym (line ∙ ap (λ (l : List ℕ). l ++ planAt b i X (from + k)) skipped));
+        so = subst (λ (l : List ℕ). Adds l t at v last) (sym (line ∙ ap (λ (l : List ℕ). l ++ planAt b i X (from + k)) skipped)) (adds-then (parts (planOf b i w X) from) (planAt b i X (from + k)) t u v at next last (p .so) added);
         near = omega (arith, p .near);
         inside = omega (arith, state-inside);
         long = same ∙ p .long;
@@ -95,7 +86,4 @@ module _ (b : Block) (i w : ℕ) (X : Table) where
           line = parts-next (planOf b i w X) (from + k) ∙ ap (λ (l : List ℕ). parts (planOf b i w X) (from + k) ++ l) (there (from + k) found)
 
     pub planned-all : w / 2 ^ from ≡ 0 → Adds (planLines b i w X) t at u next
-    planned-all none = λ rest. p .so rest ∙ ap (λ (l : List ℕ). take at t ++ (l ++ rest)) (sym (parts-skip (planOf b i w X) from (L.states b) (p .inside) (λ x l u. missing x (over x l))))
-      where
-        over : (x : ℕ) → from ≤ x → Bit w x → ⊥
-        over x l one = absurd (omega (arith, above w from x l ∙ one, ap (λ (n : ℕ). n / 2 ^ (x - from) % 2) none ∙ ap (λ (n : ℕ). n % 2) (zero-div (2 ^ (x - from)))))
+    planned-all none = λ rest. p .so rest ∙ ap (λ (l : List ℕ). take at t ++ (l ++ rest)) (sym (parts-skip (planOf b i w X) from (L.states b) (p .inside) (λ x l u. missing x (λ one. no-bit-above from w none (x, l, one)))))

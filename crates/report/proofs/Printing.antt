@@ -12,7 +12,6 @@ use Rattle.block.specs.Valid.{Valid}
 use Rattle.block.specs.declared.refusal.Refusal.the-variants.{Length}
 use Rattle.block.specs.declared.refusal.Checked.{Checked}
 use Rattle.block.proofs.Passing.{passing}
-use Rattle.text.specs.Adding.{Adds}
 use Rattle.text.specs.Format.{Outcome, accepted, refused}
 use Rattle.text.specs.Job.{either}
 use Rattle.text.specs.Text.{textBytes, readText, readCall, answerTo, blockAfter, outcomeOf}
@@ -37,10 +36,6 @@ read-valid t b c = go (either (ltb textBytes (length t)) (not (eqb (length b) bl
     go : (test : Bool) → cond test (refused Length) (readText t) ≡ accepted c → Valid c
     go true e = never Length c e
     go false e = passing (accepts t c .0 e .0)
-
--- a word at the front of the buffer is all that stands there
-pub front-only : (w t u : List ℕ) (last : ℕ) → Adds w t 0 u last → take last u ≡ w
-front-only w t u last added = sym (append-nil (take last u)) ∙ added [] ∙ append-nil w
 
 -- zeros fill what is left of the buffer
 pub printed-whole : (text used out ranks moves : List ℕ) (n : ℕ) → Printed text (take n used) → n ≤ listingBytes → length used ≡ listingBytes

@@ -1,4 +1,5 @@
 // The lines of the listing. Each number is given room for eight digits.
+use block::widths::wide;
 use lookup::sets;
 use text::output::field;
 use text::output::word;
@@ -8,12 +9,6 @@ ghost use lib.ListN.{length};
 ghost use Rattle.text.specs.Adding.{Adds};
 ghost use Rattle.text.specs.Numeral as F;
 ghost use Rattle.report.specs.Listing.{listLine, setLine, planLine, refusedLine};
-
-fn wide(x: u8) -> usize
-    ensures { λ r. ⌜ r ≡ x ⌝ }
-{
-    x as usize
-}
 
 // A number of at most eight digits, and the byte after it.
 fn number(out: &mut [u8], at: usize, n: usize, sep: u8) -> usize

@@ -1,6 +1,6 @@
 -- Entries of a state, filled one after another with the numbers that have a property. Assumes nothing.
 use mathlib.Core.List.{List}
-use mathlib.Core.Path.{_≡_, sym, _∙_, ap, subst}
+use mathlib.Core.Path.{_≡_, refl, sym, _∙_, ap, subst}
 use Prim.Native.Nat.{ℕ, _+_, _*_, _≤_, _<_}
 use native.Mathlib.Omega.{arith}
 use lib.ListN.{getD, length, set}
@@ -10,71 +10,51 @@ use Rattle.block.specs.Layout.{Block}
 use Rattle.game.specs.Position.{Allowed, full, offset}
 use Rattle.game.specs.Model.{arenaOf, ReplyTo}
 use Rattle.game.proofs.Numbers.Decide.{eq?}
+use Rattle.game.proofs.Numbers.Lists.{Puts, ListsBelow, lists-none, lists-skip, lists-more, ValuesBelow, values-more}
 use Rattle.solver.specs.Ways.{entry, Ways, Answers}
 
 -- what is stored in the next entry of state s
-module _ (l : List ℕ) (s n v : ℕ) (inside : 64 * s + n < length l) where
-  pub entry-new : entry (set l (64 * s + n) v) s n ≡ v
-  entry-new = getD-set-same l (64 * s + n) v 0 inside
+pub entry-puts : (l : List ℕ) (s n v : ℕ) → 64 * s + n < length l → Puts (entry l s) n v (entry (set l (64 * s + n) v) s)
+entry-puts l s n v inside = record { here = getD-set-same l (64 * s + n) v 0 inside; before = λ k small. getD-set-other l (64 * s + n) (64 * s + k) v 0 (λ e. omega arith) }
 
-  pub entry-old : (k : ℕ) → k < n → entry (set l (64 * s + n) v) s k ≡ entry l s k
-  entry-old k small = getD-set-other l (64 * s + n) (64 * s + k) v 0 (λ e. omega arith)
+pub entry-lower : (l : List ℕ) (s n v : ℕ) (k : ℕ) → k < 64 * s → getD (set l (64 * s + n) v) k 0 ≡ getD l k 0
+entry-lower l s n v k small = getD-set-other l (64 * s + n) k v 0 (λ e. omega arith)
 
-  pub entry-lower : (k : ℕ) → k < 64 * s → getD (set l (64 * s + n) v) k 0 ≡ getD l k 0
-  entry-lower k small = getD-set-other l (64 * s + n) k v 0 (λ e. omega arith)
+abbrev itself : ℕ → ℕ
+itself r = r
 
 -- the first n entries are the numbers below j that have the property
 pub record EntriesBelow (P : ℕ → Type 0) (s j n : ℕ) (l : List ℕ) : Type 0 where
-  pub each : (r : ℕ) → r < j → P r → (k : ℕ) × (k < n) × (entry l s k ≡ r)
-  pub only : (k : ℕ) → k < n → P (entry l s k)
+  pub lists : ListsBelow P itself j (entry l s) n
   pub few : n ≤ j
 
 module _ (P : ℕ → Type 0) (s : ℕ) where
   pub entries-none : (l : List ℕ) → EntriesBelow P s 0 0 l
-  entries-none l = record { each = λ r small. absurd (omega arith); only = λ k small. absurd (omega arith); few = omega arith }
+  entries-none l = record { lists = lists-none P itself (entry l s); few = omega arith }
 
   pub entries-skip : (j n : ℕ) (l : List ℕ) → EntriesBelow P s j n l → (P j → ⊥) → EntriesBelow P s (j + 1) n l
-  entries-skip j n l so-far none = record {
-    each = λ r small holds. so-far .each r (other r small holds (eq? r j)) holds;
-    only = so-far .only;
-    few = omega (arith, so-far .few);
-  }
-    where
-      other : (r : ℕ) → r < j + 1 → P r → Dec (r ≡ j) → r < j
-      other r small holds (yes e) = absurd (none (subst P e holds))
-      other r small holds (no ne) = omega arith
+  entries-skip j n l so-far none = record { lists = lists-skip P itself j n (entry l s) (so-far .lists) none; few = omega (arith, so-far .few) }
 
   pub entries-more : (j n : ℕ) (l : List ℕ) → 64 * s + n < length l → EntriesBelow P s j n l → P j → EntriesBelow P s (j + 1) (n + 1) (set l (64 * s + n) j)
   entries-more j n l inside so-far holds = record {
-    each = λ r small h. found r small h (eq? r j);
-    only = λ k small. from k small (eq? k n);
+    lists = lists-more P itself j n j (entry l s) (entry (set l (64 * s + n) j) s) (entry-puts l s n j inside) (so-far .lists) holds refl;
     few = omega (arith, so-far .few);
   }
-    where
-      found : (r : ℕ) → r < j + 1 → P r → Dec (r ≡ j) → (k : ℕ) × (k < n + 1) × (entry (set l (64 * s + n) j) s k ≡ r)
-      found r small h (yes e) = (n, omega arith, entry-new l s n j inside ∙ sym e)
-      found r small h (no ne) = let (k, below, e) = so-far .each r (omega arith) h in (k, omega arith, entry-old l s n j inside k below ∙ e)
 
-      from : (k : ℕ) → k < n + 1 → Dec (k ≡ n) → P (entry (set l (64 * s + n) j) s k)
-      from k small (yes e) = subst P (sym (ap (λ (y : ℕ). entry (set l (64 * s + n) j) s y) e ∙ entry-new l s n j inside)) holds
-      from k small (no ne) = let below : k < n = omega arith in subst P (sym (entry-old l s n j inside k below)) (so-far .only k below)
+  pub entries-each : (j n : ℕ) (l : List ℕ) → EntriesBelow P s j n l → (r : ℕ) → r < j → P r → (k : ℕ) × (k < n) × (entry l s k ≡ r)
+  entries-each j n l all r small holds = all .lists .each r (small, holds)
+
+  pub entries-only : (j n : ℕ) (l : List ℕ) → EntriesBelow P s j n l → (k : ℕ) → k < n → P (entry l s k)
+  entries-only j n l all k small = let (r, (_, holds), e) = all .lists .only k small in subst P (sym e) holds
 
 -- beside each of the first n entries stands its value
 abbrev pub ValuesOf : (ℕ → ℕ) → ℕ → ℕ → List ℕ → List ℕ → Type 0
-ValuesOf f s n l values = (k : ℕ) → k < n → entry values s k ≡ f (entry l s k)
+ValuesOf f s n l values = ValuesBelow f n (entry l s) (entry values s)
 
 pub values-next : (f : ℕ → ℕ) (s n j v : ℕ) (l values : List ℕ) → 64 * s + n < length l → 64 * s + n < length values → ValuesOf f s n l values → v ≡ f j → ValuesOf f s (n + 1) (set l (64 * s + n) j) (set values (64 * s + n) v)
-values-next f s n j v l values inside inside′ so-far is k small = go (eq? k n)
-  where
-    go : Dec (k ≡ n) → entry (set values (64 * s + n) v) s k ≡ f (entry (set l (64 * s + n) j) s k)
-    go (yes e) =
-        ap (λ (y : ℕ). entry (set values (64 * s + n) v) s y) e
-        ∙ entry-new values s n v inside′
-        ∙ is
-        ∙ sym (ap f (ap (λ (y : ℕ). entry (set l (64 * s + n) j) s y) e ∙ entry-new l s n j inside))
-    go (no ne) =
-        let below : k < n = omega arith in
-        entry-old values s n v inside′ k below ∙ so-far k below ∙ sym (ap f (entry-old l s n j inside k below))
+values-next f s n j v l values inside inside′ so-far is =
+    let put = entry-puts l s n j inside in
+    values-more f n v (entry l s) (entry (set l (64 * s + n) j) s) (entry values s) (entry (set values (64 * s + n) v) s) (put .before) (entry-puts values s n v inside′) so-far (is ∙ ap f (sym (put .here)))
 
 -- lists with the same entries list the same
 pub ways-same : (b : Block) (i t n : ℕ) (moves takes moves′ takes′ : List ℕ) → ((k : ℕ) → k < n → (entry moves′ t k ≡ entry moves t k) × (entry takes′ t k ≡ entry takes t k)) → Ways b i t n moves takes → Ways b i t n moves′ takes′

@@ -40,13 +40,14 @@ pub fn right_set(block: &[u8], sets: &[u8], i: usize) -> usize
     0
 }
 
-// Stores the set of row i, where lower rows have theirs. The ranks are working room, and hold those of a strategic row.
+// Stores the set of row i, where lower rows have theirs. The ranks become those of a strategic row, and stay as they are for any other.
 pub fn label_row(block: &[u8], i: usize, sets: &mut [u8], ranks: &mut [u8])
     requires { ⌜ Valid (now block) ⌝ }
     requires { ⌜ (i < L.rows (now block)) × (128 ≤ length (now sets)) × (12288 ≤ length (now ranks)) ⌝ }
     requires { ⌜ LowerSets (now block) i (now sets) ⌝ }
     ensures { λ _. ⌜ RowLabelled (now (block .entry)) i (now (sets .entry)) (now (sets .exit)) ⌝ }
     ensures { λ _. ⌜ Ranked (now (block .entry)) i (now (sets .exit)) (now (ranks .exit)) ⌝ }
+    ensures { λ _. ⌜ ((L.Strategic (L.kind (now (block .entry)) i) → ⊥) → now (ranks .exit) ≡ now (ranks .entry)) ⌝ }
     ensures { λ _. ⌜ length (now (ranks .exit)) ≡ length (now (ranks .entry)) ⌝ }
 {
     let left = left_set(block, sets, i);

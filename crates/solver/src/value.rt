@@ -1,6 +1,7 @@
 // The value of a position in one step: the best over the coalition's moves of the worst over the replies.
 use crate::wides;
 use block::layout;
+use block::widths::wide;
 use game::buffers;
 use game::replies;
 ghost use mathlib.Core.Bool.{true, false};
@@ -17,12 +18,6 @@ ghost use Rattle.game.specs.Model.{arenaOf};
 ghost use Rattle.solver.specs.Ways.{entry, Listed};
 ghost use Rattle.solver.specs.Places.{PlacedAt};
 ghost use Rattle.solver.specs.Values.{Final, Valued};
-
-fn byte(x: u8) -> usize
-    ensures { λ r. ⌜ r ≡ x ⌝ }
-{
-    x as usize
-}
 
 // The worst rank over the first n replies in state s to the move m, which leaves `at` of the stocks, or the limit.
 pub fn worst_at(
@@ -43,14 +38,14 @@ pub fn worst_at(
     ensures { λ r. ⌜ BestOf most n (λ (k : ℕ). rankIn (now (ranks .entry)) (L.next (now (block .entry)) s (m + entry (now (answers .entry)) s k) * c + at)) limit r ⌝ }
     ensures { λ r. ⌜ (limit < 65536 → r < 65536) ⌝ }
 {
-    let first = layout::next(block, s, m + byte(answers[64 * s]));
+    let first = layout::next(block, s, m + wide(answers[64 * s]));
     let mut best = buffers::rank_at(ranks, first * c + at);
     let mut k = 1;
     while k < n {
         if replies::beyond(most, limit, best) {
             return limit;
         }
-        let next = layout::next(block, s, m + byte(answers[64 * s + k]));
+        let next = layout::next(block, s, m + wide(answers[64 * s + k]));
         best = replies::further(most, buffers::rank_at(ranks, next * c + at), best);
         k += 1;
     }
@@ -108,9 +103,9 @@ pub fn value_at(
     let mut v = first_value(most, rank);
     let mut k = 0;
     while k < n {
-        let o = byte(takes[64 * s + k]);
+        let o = wide(takes[64 * s + k]);
         if wides::covers(wides, x, o) {
-            let m = byte(moves[64 * s + k]);
+            let m = wide(moves[64 * s + k]);
             v = worst_at(block, s, m, answers, replies, c, x - o, ranks, most, v);
         }
         if is_final(most, rank, v) {

@@ -4,8 +4,9 @@ use native.Mathlib.Omega.{arith}
 use lib.ListN.{take}
 use Rattle.text.specs.Format.{accepted}
 use Rattle.text.specs.Text.{blank, readCall}
+use Rattle.text.proofs.Adding.{added-front}
 use Rattle.report.specs.Listing.{PrintedFor, refusedLine}
-use Rattle.report.proofs.Printing.{outcome-is, read-valid, front-only}
+use Rattle.report.proofs.Printing.{outcome-is, read-valid}
 use borrow.Author.Needs.{needs}
 use Rattle.report.proofs.text_lines.Statement.{statement}
 use Rattle.report.proofs.text_lines.Tie as tie
@@ -62,7 +63,7 @@ returns-2 c =
     let args = c .before .before .before .before .before .before .before .before .before .before .before .before .before .before .before .args in
     let line = c .before .before .refused-line in
     let is = outcome-is (readCall (args .text .now) blank) blank (c .before .before .before .before .before .before .before .before .before .read .last .1 .0) _ (sym (c .before .before .before .before .before .before .r .given .1) ∙ c .before .before .before .before .before .before .before .before .before .read .ensures .0) (c .before .before .before .before .before .before .before .before .before .read .ensures .1 .0) in
-    (subst (λ o. PrintedFor o (take (line .result) (line .last .0))) (sym is) (front-only (refusedLine (c .before .before .before .number .result)) (args .out .now) (line .last .0) (line .result) (line .ensures .0) ∙ ap refusedLine (c .before .before .before .number .ensures)), omega (arith, line .ensures .1))
+    (subst (λ o. PrintedFor o (take (line .result) (line .last .0))) (sym is) (added-front (refusedLine (c .before .before .before .number .result)) (args .out .now) (line .last .0) 0 (line .result) (line .ensures .0) ∙ ap refusedLine (c .before .before .before .number .ensures)), omega (arith, line .ensures .1))
 
 pub text-lines-spec : {M : Type 1} → statement M
 text-lines-spec =

@@ -42,7 +42,7 @@ pays-requires c κs =
 told : (c : tie.After-pays Inv-loop μ-loop) → Decides (Pays (c .before .before .before .before .before .before .before .before .args .block .now) (c .before .before .before .before .before .before .before .before .args .i) (c .before .before .before .before .before .before .before .before .args .s) (c .before .before .before .before .before .before .before .before .args .m) (c .before .before .before .before .loop .j) (getD (c .before .before .before .before .before .before .before .before .args .stocks .now) (c .before .before .before .before .loop .j) 0)) (c .pays .result)
 told c =
     let start = c .before .before .before .before .before .before .before .before in
-    subst (λ (v : ℕ). Decides (Pays (start .args .block .now) (start .args .i) (start .args .s) (start .args .m) (c .before .before .before .before .loop .j) v) (c .pays .result)) (c .before .wide .ensures) (c .pays .ensures)
+    subst (λ (v : ℕ). Decides (Pays (start .args .block .now) (start .args .i) (start .args .s) (start .args .m) (c .before .before .before .before .loop .j) v) (c .pays .result)) (c .before .wide .ensures .0) (c .pays .ensures)
 
 returns : tie.Need-returns Inv-loop μ-loop
 returns c = fails (λ all. D.falsity (told (c .before)) (not-true _ (c .if1 .taken)) (all _ (resource-at (c .before .before .before .before))))

@@ -46,7 +46,7 @@ add-x : tie.Need-add-x Inv-loop μ-loop
 add-x c =
     let start = c .before .before .before .before .before .before .before .before in
     let at = c .before .before .before .before .loop in
-    omega (arith, stays-small (start .args .block .now) (start .pre .0) (start .args .i) (at .j) (at .x) (c .before .before .places .result) (c .wide .result) (position (start .args .s) (start .args .stocks .now)) (start .pre .1 .0 .0) (start .pre .1 .0 .1) (start .pre .1 .1) (resource-at (c .before .before .before)) (at .inv .1) (c .before .before .places .ensures) (c .wide .ensures))
+    omega (arith, stays-small (start .args .block .now) (start .pre .0) (start .args .i) (at .j) (at .x) (c .before .before .places .result) (c .wide .result) (position (start .args .s) (start .args .stocks .now)) (start .pre .1 .0 .0) (start .pre .1 .0 .1) (start .pre .1 .1) (resource-at (c .before .before .before)) (at .inv .1) (c .before .before .places .ensures) (c .wide .ensures .0))
 
 add-j : tie.Need-add-j Inv-loop μ-loop
 add-j c = omega arith
@@ -59,7 +59,7 @@ loop-again c =
     let start = c .before .before .before .before .before .before .before .before in
     let at = c .before .before .before .before .loop in (
       omega arith,
-      goes-on (start .args .block .now) (start .pre .0) (start .args .i) (at .j) (at .x) (c .before .before .places .result) (c .wide .result) (position (start .args .s) (start .args .stocks .now)) (start .pre .1 .0 .0) (start .pre .1 .0 .1) (start .pre .1 .1) (resource-at (c .before .before .before)) (at .inv .1) (c .before .before .places .ensures) (c .wide .ensures),
+      goes-on (start .args .block .now) (start .pre .0) (start .args .i) (at .j) (at .x) (c .before .before .places .result) (c .wide .result) (position (start .args .s) (start .args .stocks .now)) (start .pre .1 .0 .0) (start .pre .1 .0 .1) (start .pre .1 .1) (resource-at (c .before .before .before)) (at .inv .1) (c .before .before .places .ensures) (c .wide .ensures .0),
     )
 
 returns : tie.Need-returns Inv-loop μ-loop

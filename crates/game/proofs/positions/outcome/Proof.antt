@@ -80,7 +80,7 @@ remaining-requires c κs =
         (start .pre .1 .0 .0, start .pre .1 .1 .0 .0, resource),
         (
           start .pre .1 .1 .1 .0 .0,
-          subst (λ (v : ℕ). Pays (start .args .block .now) (start .args .i) (start .args .s) (start .args .m) j v) (sym (c .wide .ensures)) (start .pre .1 .1 .1 .0 .1 j resource),
+          subst (λ (v : ℕ). Pays (start .args .block .now) (start .args .i) (start .args .s) (start .args .m) j v) (sym (c .wide .ensures .0)) (start .pre .1 .1 .1 .0 .1 j resource),
         ),
       ),
     )
@@ -90,7 +90,7 @@ stock-is : (c : tie.After-remaining Inv-loop μ-loop) → c .remaining .result �
 stock-is c =
     let start = c .before .before .before .before .before .before .before .before .before .before in
     let j = c .before .before .before .before .before .loop .j in
-    c .remaining .ensures ∙ ap (λ (v : ℕ). P.remaining (boundsOf (start .args .block .now) (start .args .i) j) v (P.cost (arenaOf (start .args .block .now) (start .args .i)) (position (start .args .s) (start .args .stocks .now)) (start .args .m) j)) (c .before .wide .ensures)
+    c .remaining .ensures ∙ ap (λ (v : ℕ). P.remaining (boundsOf (start .args .block .now) (start .args .i) j) v (P.cost (arenaOf (start .args .block .now) (start .args .i)) (position (start .args .s) (start .args .stocks .now)) (start .args .m) j)) (c .before .wide .ensures .0)
 
 add-x : tie.Need-add-x Inv-loop μ-loop
 add-x c =

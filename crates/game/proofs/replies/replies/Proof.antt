@@ -4,10 +4,10 @@ use mathlib.Core.Logic.{⊎-elim}
 use mathlib.Core.Path.{_≡_, refl, sym, _∙_, ap, subst, subst₂}
 use Prim.Native.Nat.{ℕ, _+_, _-_, _≤_, _<_}
 use native.Mathlib.Omega.{arith}
-use lib.ListN.{length, length-set}
+use lib.ListN.{getD, length, set, length-set}
 use Rattle.block.proofs.Decide as D
 use Rattle.game.specs.Model.{ReplyTo}
-use Rattle.game.proofs.Numbers.Lists.{ListsBelow, lists-none, lists-skip, lists-more, lists-all}
+use Rattle.game.proofs.Numbers.Lists.{set-puts, ListsBelow, lists-none, lists-skip, lists-more, lists-all}
 use Rattle.game.proofs.Blocks.Replies.{reply-small}
 use Rattle.game.proofs.replies.replies.Statement.{statement}
 use Rattle.game.proofs.replies.replies.Tie as tie
@@ -15,8 +15,11 @@ use Rattle.game.proofs.replies.replies.Tie as tie
 abbrev itself : ℕ → ℕ
 itself r = r
 
+abbrev placed : List ℕ → ℕ → ℕ
+placed l k = getD l k 0
+
 abbrev Inv-loop : tie.InvT-loop
-Inv-loop block i s out₀ n₀ r₀ out n r = ((r ≤ 64) × (n ≤ r)) × (length out ≡ length out₀) × ListsBelow (ReplyTo block i s) itself r out n
+Inv-loop block i s out₀ n₀ r₀ out n r = ((r ≤ 64) × (n ≤ r)) × (length out ≡ length out₀) × ListsBelow (ReplyTo block i s) itself r (placed out) n
 
 abbrev μ-loop : tie.MeasureT-loop
 μ-loop block i s out₀ n₀ r₀ out n r = 64 - r
@@ -24,7 +27,7 @@ abbrev μ-loop : tie.MeasureT-loop
 loop-holds : tie.Need-loop-holds Inv-loop μ-loop
 loop-holds c =
     let args = c .before .before .args in
-    ((omega arith, omega arith), refl, lists-none (ReplyTo (args .block .now) (args .i) (args .s)) itself (args .out .now))
+    ((omega arith, omega arith), refl, lists-none (ReplyTo (args .block .now) (args .i) (args .s)) itself (placed (args .out .now)))
 
 is-reply-requires : tie.Need-is-reply-requires Inv-loop μ-loop
 is-reply-requires c κs = let pre = c .before .before .before .before .pre in (pre .0, pre .1 .0)
@@ -55,14 +58,14 @@ loop-again c =
     (λ w. (
       (omega arith, omega (arith, w .2, at .inv .0)),
       ap length (w .1) ∙ length-set (at .out) (at .n) (at .r) ∙ at .inv .1,
-      subst₂ (λ (out : List ℕ) (n : ℕ). ListsBelow P itself (at .r + 1) out n) (sym (w .1)) (sym (w .2))
-          (lists-more P itself (at .r) (at .n) (at .r) (at .out) inside (at .inv .2) (D.truth (c .before .is-reply .ensures) (w .0 .taken)) refl),
+      subst₂ (λ (out : List ℕ) (n : ℕ). ListsBelow P itself (at .r + 1) (placed out) n) (sym (w .1)) (sym (w .2))
+          (lists-more P itself (at .r) (at .n) (at .r) (placed (at .out)) (placed (set (at .out) (at .n) (at .r))) (set-puts (at .out) (at .n) (at .r) inside) (at .inv .2) (D.truth (c .before .is-reply .ensures) (w .0 .taken)) refl),
     ))
     (λ w. (
       (omega arith, omega (arith, w .2, at .inv .0)),
       ap length (w .1) ∙ at .inv .1,
-      subst₂ (λ (out : List ℕ) (n : ℕ). ListsBelow P itself (at .r + 1) out n) (sym (w .1)) (sym (w .2))
-          (lists-skip P itself (at .r) (at .n) (at .out) (at .inv .2) (D.falsity (c .before .is-reply .ensures) (w .0 .left))),
+      subst₂ (λ (out : List ℕ) (n : ℕ). ListsBelow P itself (at .r + 1) (placed out) n) (sym (w .1)) (sym (w .2))
+          (lists-skip P itself (at .r) (at .n) (placed (at .out)) (at .inv .2) (D.falsity (c .before .is-reply .ensures) (w .0 .left))),
     ))
     (c .if1 .came)
 
@@ -76,8 +79,8 @@ returns c =
     let at = c .before .loop in
     let P = ReplyTo (args .block .now) (args .i) (args .s) in
     let all : at .r ≡ 64 = omega (arith, at .inv .0, c .loop-test .left) in (
-      lists-all P itself 64 (at .n) (at .out) (reply-small (args .block .now) (start .pre .0) (args .i) (start .pre .1 .0 .0) (start .pre .1 .0 .1) (args .s))
-          (subst (λ (r : ℕ). ListsBelow P itself r (at .out) (at .n)) all (at .inv .2)),
+      lists-all P itself 64 (at .n) (placed (at .out)) (reply-small (args .block .now) (start .pre .0) (args .i) (start .pre .1 .0 .0) (start .pre .1 .0 .1) (args .s))
+          (subst (λ (r : ℕ). ListsBelow P itself r (placed (at .out)) (at .n)) all (at .inv .2)),
       (omega (arith, at .inv .0), at .inv .1),
     )
 

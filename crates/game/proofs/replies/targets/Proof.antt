@@ -3,11 +3,11 @@ use mathlib.Core.Path.{_≡_, refl, sym, _∙_, ap, subst}
 use Prim.Native.Nat.{ℕ, _+_, _*_, _-_, _≤_, _<_}
 use native.Mathlib.Nat.{mul-le-mul}
 use native.Mathlib.Omega.{arith}
-use lib.ListN.{getD, length, length-set}
+use lib.ListN.{getD, length, set, length-set}
 use Rattle.block.specs.Layout as L
 use Rattle.block.specs.Layout.{Block}
 use Rattle.game.specs.Model.{ReplyTo}
-use Rattle.game.proofs.Numbers.Lists.{ValuesBelow, values-more, lists-values}
+use Rattle.game.proofs.Numbers.Lists.{set-puts, ValuesBelow, values-more, lists-values}
 use Rattle.game.proofs.Blocks.Replies.{joint-small, next-small}
 use Rattle.game.proofs.replies.targets.Statement.{statement}
 use Rattle.game.proofs.replies.targets.Tie as tie
@@ -17,7 +17,7 @@ abbrev target : Block → ℕ → ℕ → ℕ → ℕ → ℕ
 target b s m c r = L.next b s (m + r) * c
 
 abbrev Inv-loop : tie.InvT-loop
-Inv-loop block i s m c answers n out₀ k₀ out k = (k ≤ n) × (length out ≡ length out₀) × ValuesBelow (target block s m c) k answers out
+Inv-loop block i s m c answers n out₀ k₀ out k = (k ≤ n) × (length out ≡ length out₀) × ValuesBelow (target block s m c) k (λ j. getD answers j 0) (λ j. getD out j 0)
 
 abbrev μ-loop : tie.MeasureT-loop
 μ-loop block i s m c answers n out₀ k₀ out k = n - k
@@ -77,7 +77,7 @@ loop-again c =
     let inside : at .k < length (at .out) = omega (arith, start .pre .1 .1 .1 .1 .1, at .inv .1, c .before .before .loop-test .taken) in (
       omega (arith, c .before .before .loop-test .taken),
       length-set (at .out) (at .k) (c .next .result * args .c) ∙ at .inv .1,
-      values-more (target (args .block .now) (args .s) (args .m) (args .c)) (at .k) (c .next .result * args .c) (args .answers .now) (at .out) inside (at .inv .2) (ap (λ (q : ℕ). q * args .c) (c .next .ensures)),
+      values-more (target (args .block .now) (args .s) (args .m) (args .c)) (at .k) (c .next .result * args .c) (λ j. getD (args .answers .now) j 0) (λ j. getD (args .answers .now) j 0) (λ j. getD (at .out) j 0) (λ j. getD (set (at .out) (at .k) (c .next .result * args .c)) j 0) (λ j _. refl) (set-puts (at .out) (at .k) (c .next .result * args .c) inside) (at .inv .2) (ap (λ (q : ℕ). q * args .c) (c .next .ensures)),
     )
 
 same-length : tie.Need-same-length Inv-loop μ-loop

@@ -38,7 +38,7 @@ above-requires c κs = let pre = c .before .before .before .before .before .befo
 
 -- what the test told of the stock that was read
 told : (c : tie.After-above Inv-loop μ-loop) → Decides (places (boundsOf (c .before .before .before .before .before .before .before .before .before .args .block .now) (c .before .before .before .before .before .before .before .before .before .args .i) (c .before .before .before .before .loop .j)) ≤ getD (c .before .before .before .before .before .before .before .before .before .args .stocks .now) (c .before .before .before .before .loop .j) 0) (c .above .result)
-told c = subst (λ (x : ℕ). Decides (places (boundsOf (c .before .before .before .before .before .before .before .before .before .args .block .now) (c .before .before .before .before .before .before .before .before .before .args .i) (c .before .before .before .before .loop .j)) ≤ x) (c .above .result)) (c .before .wide .ensures) (c .above .ensures)
+told c = subst (λ (x : ℕ). Decides (places (boundsOf (c .before .before .before .before .before .before .before .before .before .args .block .now) (c .before .before .before .before .before .before .before .before .before .args .i) (c .before .before .before .before .loop .j)) ≤ x) (c .above .result)) (c .before .wide .ensures .0) (c .above .ensures)
 
 returns-2 : tie.Need-returns-2 Inv-loop μ-loop
 returns-2 c = holds (inr (c .before .before .before .before .before .loop .j, omega (arith, c .before .before .before .before .loop-test .taken), D.truth (told (c .before)) (c .if2 .taken)))

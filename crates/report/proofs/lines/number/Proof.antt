@@ -13,7 +13,7 @@ same-length c = search needs
 returns : tie.Need-returns
 returns c =
     let call = c .before .before .field .ensures in
-    (call .0, omega (arith, call .1 8 (omega arith) (c .before .before .before .before .before .pre .1)))
+    (call .0, omega (arith, call .1 .0 8 (omega arith) (c .before .before .before .before .before .pre .1)))
 
 pub number-spec : {M : Type 1} → statement M
 number-spec = tie.close (tie.spec field-requires same-length returns)

@@ -38,7 +38,7 @@ returns c =
     let s = field (args .s) comma in
     let rank = field (args .rank) comma in
     let move = field (args .m) lineEnd in (
-      λ rest. rw (append-assoc i (s ++ (rank ++ move)) rest, append-assoc s (rank ++ move) rest, append-assoc rank move rest, ← c .before .before .before .wide .ensures) (c .before .before .number4 .ensures .0 rest ∙ c .before .before .before .before .before .before .before .number3 .ensures .0 _ ∙ c .before .before .before .before .before .before .before .before .before .before .before .number2 .ensures .0 _ ∙ c .before .before .before .before .before .before .before .before .before .before .before .before .before .before .before .number .ensures .0 _ ∙ c .before .before .before .before .before .before .before .before .before .before .before .before .before .before .before .before .before .before .before .word .ensures .0 _),
+      λ rest. rw (append-assoc i (s ++ (rank ++ move)) rest, append-assoc s (rank ++ move) rest, append-assoc rank move rest, ← c .before .before .before .wide .ensures .0) (c .before .before .number4 .ensures .0 rest ∙ c .before .before .before .before .before .before .before .number3 .ensures .0 _ ∙ c .before .before .before .before .before .before .before .before .before .before .before .number2 .ensures .0 _ ∙ c .before .before .before .before .before .before .before .before .before .before .before .before .before .before .before .number .ensures .0 _ ∙ c .before .before .before .before .before .before .before .before .before .before .before .before .before .before .before .before .before .before .before .word .ensures .0 _),
       omega (arith, c .before .before .before .before .before .before .before .before .before .before .before .before .before .before .before .before .before .before .before .word .ensures .1, c .before .before .before .before .before .before .before .before .before .before .before .before .before .before .before .number .ensures .1, c .before .before .before .before .before .before .before .before .before .before .before .number2 .ensures .1, c .before .before .before .before .before .before .before .number3 .ensures .1, c .before .before .number4 .ensures .1),
     )
 

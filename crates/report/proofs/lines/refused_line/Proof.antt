@@ -22,7 +22,7 @@ same-length c = search needs
 
 returns : tie.Need-returns
 returns c =
-    (λ rest. rw (← c .before .before .before .wide .ensures) (c .before .before .number .ensures .0 rest ∙ c .before .before .before .before .before .before .before .word .ensures .0 _), omega (arith, c .before .before .before .before .before .before .before .word .ensures .1, c .before .before .number .ensures .1))
+    (λ rest. rw (← c .before .before .before .wide .ensures .0) (c .before .before .number .ensures .0 rest ∙ c .before .before .before .before .before .before .before .word .ensures .0 _), omega (arith, c .before .before .before .before .before .before .before .word .ensures .1, c .before .before .number .ensures .1))
 
 pub refused-line-spec : {M : Type 1} → statement M
 refused-line-spec =

@@ -5,6 +5,7 @@ use Prim.Native.Nat.{ℕ, _^_, _<_}
 use native.Mathlib.Omega.{arith}
 use lib.ListN.{take}
 use Rattle.block.specs.Layout as L
+use Rattle.text.proofs.Adding.{adds-then}
 use Rattle.game.specs.Model.{RowSet}
 use Rattle.solver.specs.Tables.{tableIn}
 use Rattle.lookup.proofs.Calls.{set-small}
@@ -51,11 +52,11 @@ returns c =
     let low : L.kind (args .block .now) (args .i) < L.nextKind = omega (arith, c .if1 .taken, c .before .kind .ensures) in
     let line = c .before .before .before .before .set-line .ensures in (
       c .before .before .before .before .before .before .before .before .before .before .before .before .label-row .ensures .0,
-      ((c .before .before .before .before .before .before .before .before .before .before .before .before .label-row .ensures .1 .1 ∙ c .before .before .before .before .before .before .before .before .before .before .before .before .before .before .before .before .before .before .before .before .pre .1 .0 .1, c .before .before .before .before .before .before .before .before .before .before .before .before .before .before .before .before .before .before .before .before .pre .1 .0 .2), ((setLine (args .i) (c .before .before .before .before .before .before .word-at .result), (plain-listed (args .block .now) (args .i) (c .before .before .before .before .before .before .word-at .result) (told (c .before .before .before .before .before .before)) low, line .0)), omega (arith, line .1))),
+      ((c .before .before .before .before .before .before .before .before .before .before .before .before .label-row .ensures .1 .1 .1 ∙ c .before .before .before .before .before .before .before .before .before .before .before .before .before .before .before .before .before .before .before .before .pre .1 .0 .1, c .before .before .before .before .before .before .before .before .before .before .before .before .before .before .before .before .before .before .before .before .pre .1 .0 .2), ((setLine (args .i) (c .before .before .before .before .before .before .word-at .result), (plain-listed (args .block .now) (args .i) (c .before .before .before .before .before .before .word-at .result) (told (c .before .before .before .before .before .before)) low, line .0)), omega (arith, line .1))),
     )
 
 row-table-requires : tie.Need-row-table-requires
-row-table-requires c κs = let pre = c .before .before .before .before .before .before .before .before .before .before .before .before .before .before .before .before .before .before .before .before .before .before .before .pre in (pre .0 .0, ((pre .0 .1, strategic (c .before .before .before)), ((c .before .before .before .before .before .before .before .before .before .before .before .before .before .before .before .label-row .ensures .0 .long ∙ pre .1 .0 .0, c .before .before .before .before .before .before .before .before .before .before .before .before .before .before .before .label-row .ensures .1 .1 ∙ pre .1 .0 .1, pre .1 .0 .2), c .before .before .before .before .before .before .before .before .before .before .before .before .before .before .before .label-row .ensures .1 .0)))
+row-table-requires c κs = let pre = c .before .before .before .before .before .before .before .before .before .before .before .before .before .before .before .before .before .before .before .before .before .before .before .pre in (pre .0 .0, ((pre .0 .1, strategic (c .before .before .before)), ((c .before .before .before .before .before .before .before .before .before .before .before .before .before .before .before .label-row .ensures .0 .long ∙ pre .1 .0 .0, c .before .before .before .before .before .before .before .before .before .before .before .before .before .before .before .label-row .ensures .1 .1 .1 ∙ pre .1 .0 .1, pre .1 .0 .2), c .before .before .before .before .before .before .before .before .before .before .before .before .before .before .before .label-row .ensures .1 .0)))
 
 plan-lines-requires : tie.Need-plan-lines-requires
 plan-lines-requires c κs =
@@ -93,7 +94,7 @@ returns-2 c =
             setLine (args .i) set ++ planLines b (args .i) set X,
             (
               strategic-listed b (args .i) set (told (c .before .before .before .before .before .before .before .before .before .before .before .before .before .before .before .before .before .before)) X (strategic (c .before .before .before .before .before .before .before .before .before .before .before .before) .0) (table .decided),
-              λ rest. plan .0 rest ∙ line .0 _ ∙ ap (λ (l : List ℕ). take (args .at) (args .out .now) ++ l) (sym (append-assoc (setLine (args .i) set) (planLines b (args .i) set X) rest)),
+              adds-then (setLine (args .i) set) (planLines b (args .i) set X) (args .out .now) (c .before .before .before .before .before .before .before .before .before .before .before .before .before .before .before .before .set-line .last .0) (c .before .before .plan-lines .last .1 .1 .1 .1 .1 .0) (args .at) (c .before .before .before .before .before .before .before .before .before .before .before .before .before .before .before .before .set-line .result) (c .before .before .plan-lines .result) (line .0) (plan .0),
             ),
           ),
           omega (arith, line .1, plan .1),

@@ -66,6 +66,14 @@ right-told c uses =
     let b = start .args .block .now in
     subst (RowSet b (L.right b (start .args .i))) (sym (c .before .before .right-set .ensures uses)) (start .pre .1 .1 (L.right b (start .args .i)) (start .pre .0 .row-fits (start .args .i) (start .pre .1 .0 .0) .right-lower uses))
 
+-- the ranks of any other row stay
+plain : (c : tie.Joined1) → (L.Strategic (L.kind (c .before .before .before .before .before .before .before .before .before .args .block .now) (c .before .before .before .before .before .before .before .before .before .args .i)) → ⊥) → c .if1 .ranks ≡ c .before .before .before .before .before .before .before .before .before .args .ranks .now
+plain c other =
+    ⊎-elim
+    (λ w. absurd (other (omega (arith, c .before .kind .ensures, w .0 .taken), c .before .before .before .before .before .before .before .before .before .pre .0 .row-fits (c .before .before .before .before .before .before .before .before .before .args .i) (c .before .before .before .before .before .before .before .before .before .pre .1 .0 .0) .known)))
+    (λ w. w .1)
+    (c .if1 .came)
+
 returns : tie.Need-returns
 returns c =
     let args = c .before .before .before .before .before .before .before .before .before .before .before .before .before .before .before .args in
@@ -82,7 +90,7 @@ returns c =
             let lower = pre .0 .row-fits (args .i) (pre .1 .0 .0) .left-lower uses in
             let same = c .before .before .before .before .before .before .before .before .before .before .left-set .ensures uses ∙ sym (stored .others (L.left b (args .i)) (λ e. omega arith)) in
             (c .before .before .before .before .before .before .before .before .right-set .result, subst (λ (w : ℕ). Prepared b (args .i) w (c .before .before .before .before .before .before .before .before .right-set .result) (at .if1 .ranks)) same (record { left-set = left-told at; right-set = right-told at; ranks-of = ranked at strategic })),
-        long at,
+        (plain at, long at),
       ),
     )
 

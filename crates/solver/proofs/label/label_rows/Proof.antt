@@ -34,7 +34,7 @@ loop-again : tie.Need-loop-again Inv-loop μ-loop
 loop-again c =
     let at = c .before .before .before .before .before .before .before .before .loop in
     let one = c .before .before .before .before .label-row in (
-      (omega (arith, c .before .before .before .before .before .before .before .loop-test .taken), one .ensures .0 .long ∙ at .inv .0 .1, one .ensures .1 .1 ∙ at .inv .0 .2),
+      (omega (arith, c .before .before .before .before .before .before .before .loop-test .taken), one .ensures .0 .long ∙ at .inv .0 .1, one .ensures .1 .1 .1 ∙ at .inv .0 .2),
       lower-more (c .before .before .before .before .before .before .before .before .before .before .before .before .args .block .now) (at .i) (at .sets) (one .last .1 .1 .0) (at .inv .1) (one .ensures .0),
       λ j l. one .ensures .0 .others j (λ e. omega arith) ∙ at .inv .2 j (omega arith),
     )

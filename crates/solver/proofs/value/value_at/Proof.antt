@@ -55,23 +55,23 @@ loop-holds c =
 inside : (c : tie.In-loop Inv-loop μ-loop) → 64 * c .before .before .before .before .before .before .before .before .before .before .before .before .before .args .s + c .before .loop .k < 1536
 inside c = let start = c .before .before .before .before .before .before .before .before .before .before .before .before .before in omega (arith, state-small start, start .pre .1 .1 .0 .ways (start .args .s) (start .pre .1 .0 .2) .few, c .loop-test .taken)
 
-mul-byte : tie.Need-mul-byte Inv-loop μ-loop
-mul-byte c = record { fits = omega (arith, inside c) }
+mul-wide : tie.Need-mul-wide Inv-loop μ-loop
+mul-wide c = record { fits = omega (arith, inside c) }
 
-add-byte : tie.Need-add-byte Inv-loop μ-loop
-add-byte c = record { fits = omega (arith, inside c) }
+add-wide : tie.Need-add-wide Inv-loop μ-loop
+add-wide c = record { fits = omega (arith, inside c) }
 
-shared-slice-read-byte : tie.Need-shared-slice-read-byte Inv-loop μ-loop
-shared-slice-read-byte c = omega (arith, inside (c .before), c .before .before .before .before .before .before .before .before .before .before .before .before .before .before .pre .1 .1 .0 .entries-long)
+shared-slice-read-wide : tie.Need-shared-slice-read-wide Inv-loop μ-loop
+shared-slice-read-wide c = omega (arith, inside (c .before), c .before .before .before .before .before .before .before .before .before .before .before .before .before .before .pre .1 .1 .0 .entries-long)
 
-byte-requires : tie.Need-byte-requires Inv-loop μ-loop
-byte-requires c κs = tt
+wide-requires : tie.Need-wide-requires Inv-loop μ-loop
+wide-requires c κs = tt
 
 few : (start : tie.Start Inv-loop μ-loop) → stockPlaces (arenaOf (start .args .block .now) (start .args .i)) ≤ 256
 few start = few-stocks (start .args .block .now) (start .pre .0) (start .args .i) (start .pre .1 .0 .0) (start .pre .1 .0 .1) (L.resources (start .args .block .now)) (omega arith)
 
 -- what the k-th move takes is a stock place
-taken-small : (c : tie.After-byte Inv-loop μ-loop) → c .byte .result < 256
+taken-small : (c : tie.After-wide Inv-loop μ-loop) → c .wide .result < 256
 taken-small c =
     let start = c .before .before .before .before .before .before .before .before .before .before .before .before .before .before .before in
     let args = start .args in
@@ -83,7 +83,7 @@ taken-small c =
       few start,
       way-small (args .block .now) (pre .0) (args .i) (args .s) (args .x) (args .c) (pre .1 .0 .0) (pre .1 .0 .1) (pre .1 .0 .2) (pre .1 .1 .1 .0 .0) (pre .1 .1 .1 .0 .1)
           (getD (args .counts .now) (args .s) 0) (args .moves .now) (args .takes .now) (l .ways (args .s) (pre .1 .0 .2)) (getD (args .others .now) (args .s) 0) (args .answers .now) (l .replies (args .s) (pre .1 .0 .2)) (args .wides .now) (l .wide)
-          (at .k) (c .before .before .loop-test .taken) (c .byte .result) (entry (args .moves .now) (args .s) (at .k)) (c .byte .ensures) refl,
+          (at .k) (c .before .before .loop-test .taken) (c .wide .result) (entry (args .moves .now) (args .s) (at .k)) (c .wide .ensures .0) refl,
     )
 
 covers-requires : tie.Need-covers-requires Inv-loop μ-loop
@@ -92,17 +92,17 @@ covers-requires c κs =
     let l = start .pre .1 .1 .0 in
     ((omega (arith, few start, start .pre .1 .1 .1 .0, l .places-long), omega (arith, taken-small c, l .places-long)), l .wide .small)
 
-mul-byte-2 : tie.Need-mul-byte-2 Inv-loop μ-loop
-mul-byte-2 c = record { fits = omega (arith, inside (c .before .before .before .before)) }
+mul-wide-2 : tie.Need-mul-wide-2 Inv-loop μ-loop
+mul-wide-2 c = record { fits = omega (arith, inside (c .before .before .before .before)) }
 
-add-byte-2 : tie.Need-add-byte-2 Inv-loop μ-loop
-add-byte-2 c = record { fits = omega (arith, inside (c .before .before .before .before)) }
+add-wide-2 : tie.Need-add-wide-2 Inv-loop μ-loop
+add-wide-2 c = record { fits = omega (arith, inside (c .before .before .before .before)) }
 
-shared-slice-read-byte-2 : tie.Need-shared-slice-read-byte-2 Inv-loop μ-loop
-shared-slice-read-byte-2 c = omega (arith, inside (c .before .before .before .before .before), c .before .before .before .before .before .before .before .before .before .before .before .before .before .before .before .before .before .before .pre .1 .1 .0 .entries-long)
+shared-slice-read-wide-2 : tie.Need-shared-slice-read-wide-2 Inv-loop μ-loop
+shared-slice-read-wide-2 c = omega (arith, inside (c .before .before .before .before .before), c .before .before .before .before .before .before .before .before .before .before .before .before .before .before .before .before .before .before .pre .1 .1 .0 .entries-long)
 
-byte-requires-2 : tie.Need-byte-requires-2 Inv-loop μ-loop
-byte-requires-2 c κs = tt
+wide-requires-2 : tie.Need-wide-requires-2 Inv-loop μ-loop
+wide-requires-2 c κs = tt
 
 sub-worst-at : tie.Need-sub-worst-at Inv-loop μ-loop
 sub-worst-at c = D.truth (c .before .before .before .covers .ensures) (c .before .before .if1 .taken) .0
@@ -120,7 +120,7 @@ worst-at-requires c κs =
     let n′ = getD (args .others .now) (args .s) 0 in
     let fits = way-fits b (pre .0) (args .i) (args .s) (args .x) (args .c) (pre .1 .0 .0) (pre .1 .0 .1) (pre .1 .0 .2) (pre .1 .1 .1 .0 .0) (pre .1 .1 .1 .0 .1)
     (getD (args .counts .now) (args .s) 0) (args .moves .now) (args .takes .now) ways n′ (args .answers .now) replies (args .wides .now) (l .wide)
-    (at .k) (c .before .before .before .before .before .before .loop-test .taken) (c .before .before .before .before .byte .result) (c .byte2 .result) (c .before .before .before .before .byte .ensures) (c .byte2 .ensures) (D.truth (c .before .before .before .covers .ensures) (c .before .before .if1 .taken)) in (
+    (at .k) (c .before .before .before .before .before .before .loop-test .taken) (c .before .before .before .before .wide .result) (c .wide2 .result) (c .before .before .before .before .wide .ensures .0) (c .wide2 .ensures .0) (D.truth (c .before .before .before .covers .ensures) (c .before .before .if1 .taken)) in (
       (pre .0, pre .1 .0 .2),
       (
         (
@@ -150,11 +150,11 @@ module _ (c : tie.Joined1 Inv-loop μ-loop) where
       (λ w. subst One (sym (w .4))
       (way-gathered b (pre .0) (args .i) (args .s) (args .x) (args .c) (pre .1 .0 .0) (pre .1 .0 .1) (pre .1 .0 .2) (pre .1 .1 .1 .0 .0) (pre .1 .1 .1 .0 .1)
       (getD (args .counts .now) (args .s) 0) (args .moves .now) (args .takes .now) (l .ways (args .s) (pre .1 .0 .2)) (getD (args .others .now) (args .s) 0) (args .answers .now) (l .replies (args .s) (pre .1 .0 .2)) (args .wides .now) (l .wide)
-      (at .k) (c .before .before .before .before .loop-test .taken) (c .before .before .byte .result) (w .2 .result) (c .before .before .byte .ensures) (w .2 .ensures) (args .most) (rankIn (args .ranks .now)) (D.truth told (w .0 .taken)) (at .v) (w .3 .result) (w .3 .ensures .0)))
+      (at .k) (c .before .before .before .before .loop-test .taken) (c .before .before .wide .result) (w .2 .result) (c .before .before .wide .ensures .0) (w .2 .ensures .0) (args .most) (rankIn (args .ranks .now)) (D.truth told (w .0 .taken)) (at .v) (w .3 .result) (w .3 .ensures .0)))
       (λ w. subst One (sym (w .1))
       (way-nothing b (pre .0) (args .i) (args .s) (args .x) (args .c) (pre .1 .0 .0) (pre .1 .0 .1) (pre .1 .0 .2) (pre .1 .1 .1 .0 .0) (pre .1 .1 .1 .0 .1)
       (getD (args .counts .now) (args .s) 0) (args .moves .now) (args .takes .now) (l .ways (args .s) (pre .1 .0 .2)) (getD (args .others .now) (args .s) 0) (args .answers .now) (l .replies (args .s) (pre .1 .0 .2)) (args .wides .now) (l .wide)
-      (at .k) (c .before .before .before .before .loop-test .taken) (c .before .before .byte .result) (entry (args .moves .now) (args .s) (at .k)) (c .before .before .byte .ensures) refl (args .most) (rankIn (args .ranks .now)) (D.falsity told (w .0 .left)) (at .v)))
+      (at .k) (c .before .before .before .before .loop-test .taken) (c .before .before .wide .result) (entry (args .moves .now) (args .s) (at .k)) (c .before .before .wide .ensures .0) refl (args .most) (rankIn (args .ranks .now)) (D.falsity told (w .0 .left)) (at .v)))
       (c .if1 .came) in
       gathered-next (not (args .most)) offers (at .k) (c .before .before .before .before .before .before .first-value .result) (at .v) (c .if1 .v) (at .inv .1) one
 
@@ -219,15 +219,15 @@ value-at-spec =
     shared-slice-read-replies
     first-value-requires
     loop-holds
-    mul-byte
-    add-byte
-    shared-slice-read-byte
-    byte-requires
+    mul-wide
+    add-wide
+    shared-slice-read-wide
+    wide-requires
     covers-requires
-    mul-byte-2
-    add-byte-2
-    shared-slice-read-byte-2
-    byte-requires-2
+    mul-wide-2
+    add-wide-2
+    shared-slice-read-wide-2
+    wide-requires-2
     sub-worst-at
     worst-at-requires
     is-final-requires

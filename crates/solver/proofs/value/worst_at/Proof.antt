@@ -43,18 +43,18 @@ some start = start .pre .1 .0 .0
 same-first : (l : List ℕ) (s : ℕ) → getD l (64 * s) 0 ≡ entry l s 0
 same-first l s = ap (λ (k : ℕ). getD l k 0) (omega arith)
 
-mul-byte : tie.Need-mul-byte Inv-loop μ-loop
-mul-byte c = record { fits = omega (arith, inside (c .before .before .before) 0 (some (c .before .before .before))) }
+mul-wide : tie.Need-mul-wide Inv-loop μ-loop
+mul-wide c = record { fits = omega (arith, inside (c .before .before .before) 0 (some (c .before .before .before))) }
 
-shared-slice-read-byte : tie.Need-shared-slice-read-byte Inv-loop μ-loop
-shared-slice-read-byte c = omega (arith, inside (c .before .before .before .before) 0 (some (c .before .before .before .before)), c .before .before .before .before .pre .1 .0 .2)
+shared-slice-read-wide : tie.Need-shared-slice-read-wide Inv-loop μ-loop
+shared-slice-read-wide c = omega (arith, inside (c .before .before .before .before) 0 (some (c .before .before .before .before)), c .before .before .before .before .pre .1 .0 .2)
 
-byte-requires : tie.Need-byte-requires Inv-loop μ-loop
-byte-requires c κs = tt
+wide-requires : tie.Need-wide-requires Inv-loop μ-loop
+wide-requires c κs = tt
 
 -- what was read of the first reply
-first-byte : (c : tie.After-byte Inv-loop μ-loop) → c .byte .result ≡ entry (c .before .before .before .before .before .args .answers .now) (c .before .before .before .before .before .args .s) 0
-first-byte c = c .byte .ensures ∙ same-first (c .before .before .before .before .before .args .answers .now) (c .before .before .before .before .before .args .s)
+first-byte : (c : tie.After-wide Inv-loop μ-loop) → c .wide .result ≡ entry (c .before .before .before .before .before .args .answers .now) (c .before .before .before .before .before .args .s) 0
+first-byte c = c .wide .ensures .0 ∙ same-first (c .before .before .before .before .before .args .answers .now) (c .before .before .before .before .before .args .s)
 
 add-next : tie.Need-add-next Inv-loop μ-loop
 add-next c = record { fits = omega (arith, first-byte c, joint-fits (c .before .before .before .before .before) 0 (some (c .before .before .before .before .before))) }
@@ -96,31 +96,31 @@ returns c =
       λ small. small,
     )
 
-mul-byte-2 : tie.Need-mul-byte-2 Inv-loop μ-loop
-mul-byte-2 c = record { fits = omega (arith, inside (c .before .before .before .before .before .before .before .before .before .before .before) (c .before .before .before .loop .k) (c .before .before .loop-test .taken)) }
+mul-wide-2 : tie.Need-mul-wide-2 Inv-loop μ-loop
+mul-wide-2 c = record { fits = omega (arith, inside (c .before .before .before .before .before .before .before .before .before .before .before) (c .before .before .before .loop .k) (c .before .before .loop-test .taken)) }
 
-add-byte : tie.Need-add-byte Inv-loop μ-loop
-add-byte c = record { fits = omega (arith, inside (c .before .before .before .before .before .before .before .before .before .before .before) (c .before .before .before .loop .k) (c .before .before .loop-test .taken)) }
+add-wide : tie.Need-add-wide Inv-loop μ-loop
+add-wide c = record { fits = omega (arith, inside (c .before .before .before .before .before .before .before .before .before .before .before) (c .before .before .before .loop .k) (c .before .before .loop-test .taken)) }
 
-shared-slice-read-byte-2 : tie.Need-shared-slice-read-byte-2 Inv-loop μ-loop
-shared-slice-read-byte-2 c = omega (arith, inside (c .before .before .before .before .before .before .before .before .before .before .before .before) (c .before .before .before .before .loop .k) (c .before .before .before .loop-test .taken), c .before .before .before .before .before .before .before .before .before .before .before .before .pre .1 .0 .2)
+shared-slice-read-wide-2 : tie.Need-shared-slice-read-wide-2 Inv-loop μ-loop
+shared-slice-read-wide-2 c = omega (arith, inside (c .before .before .before .before .before .before .before .before .before .before .before .before) (c .before .before .before .before .loop .k) (c .before .before .before .loop-test .taken), c .before .before .before .before .before .before .before .before .before .before .before .before .pre .1 .0 .2)
 
-byte-requires-2 : tie.Need-byte-requires-2 Inv-loop μ-loop
-byte-requires-2 c κs = tt
+wide-requires-2 : tie.Need-wide-requires-2 Inv-loop μ-loop
+wide-requires-2 c κs = tt
 
 add-next-2 : tie.Need-add-next-2 Inv-loop μ-loop
-add-next-2 c = record { fits = omega (arith, c .byte2 .ensures, joint-fits (c .before .before .before .before .before .before .before .before .before .before .before .before .before) (c .before .before .before .before .before .loop .k) (c .before .before .before .before .loop-test .taken)) }
+add-next-2 c = record { fits = omega (arith, c .wide2 .ensures .0, joint-fits (c .before .before .before .before .before .before .before .before .before .before .before .before .before) (c .before .before .before .before .before .loop .k) (c .before .before .before .before .loop-test .taken)) }
 
 next-requires-2 : tie.Need-next-requires-2 Inv-loop μ-loop
 next-requires-2 c κs =
     let start = c .before .before .before .before .before .before .before .before .before .before .before .before .before in
-    (start .pre .0 .0 .sized .bytes, (omega (arith, start .pre .0 .1, start .pre .0 .0 .sized .states-fit), omega (arith, c .byte2 .ensures, joint-fits start (c .before .before .before .before .before .loop .k) (c .before .before .before .before .loop-test .taken))))
+    (start .pre .0 .0 .sized .bytes, (omega (arith, start .pre .0 .1, start .pre .0 .0 .sized .states-fit), omega (arith, c .wide2 .ensures .0, joint-fits start (c .before .before .before .before .before .loop .k) (c .before .before .before .before .loop-test .taken))))
 
 -- where the k-th reply leads
 leads : (c : tie.After-next2 Inv-loop μ-loop) → c .next2 .result * c .before .before .before .before .before .before .before .before .before .before .before .before .before .before .args .c + c .before .before .before .before .before .before .before .before .before .before .before .before .before .before .args .at ≡ leadsAt (c .before .before .before .before .before .before .before .before .before .before .before .before .before .before .args .block .now) (c .before .before .before .before .before .before .before .before .before .before .before .before .before .before .args .s) (c .before .before .before .before .before .before .before .before .before .before .before .before .before .before .args .m) (c .before .before .before .before .before .before .before .before .before .before .before .before .before .before .args .answers .now) (c .before .before .before .before .before .before .before .before .before .before .before .before .before .before .args .c) (c .before .before .before .before .before .before .before .before .before .before .before .before .before .before .args .at) (c .before .before .before .before .before .before .loop .k)
 leads c =
     let args = c .before .before .before .before .before .before .before .before .before .before .before .before .before .before .args in
-    ap (λ (q : ℕ). q * args .c + args .at) (c .next2 .ensures ∙ ap (λ (y : ℕ). L.next (args .block .now) (args .s) (args .m + y)) (c .before .byte2 .ensures))
+    ap (λ (q : ℕ). q * args .c + args .at) (c .next2 .ensures ∙ ap (λ (y : ℕ). L.next (args .block .now) (args .s) (args .m + y)) (c .before .wide2 .ensures .0))
 
 mul-rank-at-2 : tie.Need-mul-rank-at-2 Inv-loop μ-loop
 mul-rank-at-2 c = record { fits = omega (arith, leads c, rank-fits (c .before .before .before .before .before .before .before .before .before .before .before .before .before .before) (c .before .before .before .before .before .before .loop .k) (c .before .before .before .before .before .loop-test .taken), c .before .before .before .before .before .before .before .before .before .before .before .before .before .before .good .1 .1 .1 .1 .1 .1 .1 .0 .1) }
@@ -173,9 +173,9 @@ worst-at-spec =
     (tie.spec
     Inv-loop
     μ-loop
-    mul-byte
-    shared-slice-read-byte
-    byte-requires
+    mul-wide
+    shared-slice-read-wide
+    wide-requires
     add-next
     next-requires
     mul-rank-at
@@ -184,10 +184,10 @@ worst-at-spec =
     loop-holds
     beyond-requires
     returns
-    mul-byte-2
-    add-byte
-    shared-slice-read-byte-2
-    byte-requires-2
+    mul-wide-2
+    add-wide
+    shared-slice-read-wide-2
+    wide-requires-2
     add-next-2
     next-requires-2
     mul-rank-at-2

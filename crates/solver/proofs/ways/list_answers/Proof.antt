@@ -9,7 +9,7 @@ use Rattle.block.specs.Layout as L
 use Rattle.block.proofs.Decide as D
 use Rattle.game.specs.Model.{ReplyTo}
 use Rattle.game.proofs.Blocks.Replies.{reply-small}
-use Rattle.solver.proofs.Entries.{entry-lower, EntriesBelow, entries-none, entries-skip, entries-more}
+use Rattle.solver.proofs.Entries.{entry-lower, EntriesBelow, entries-none, entries-skip, entries-more, entries-each, entries-only}
 use Rattle.solver.proofs.ways.list_answers.Statement.{statement}
 use Rattle.solver.proofs.ways.list_answers.Tie as tie
 
@@ -66,7 +66,7 @@ loop-again c =
     (λ w. subst₂ After (sym (w .1)) (sym (w .2)) (
       small,
       entries-more P (args .s) (at .r) (at .n) (at .out) there (at .inv .1) (D.truth (c .before .is-reply .ensures) (w .0 .taken)),
-      (λ k l. entry-lower (at .out) (args .s) (at .n) (at .r) there k l ∙ at .inv .2 k l),
+      (λ k l. entry-lower (at .out) (args .s) (at .n) (at .r) k l ∙ at .inv .2 k l),
       length-set (at .out) (64 * args .s + at .n) (at .r) ∙ at .inv .3,
     ))
     (λ w. subst₂ After (sym (w .1)) (sym (w .2)) (small, entries-skip P (args .s) (at .r) (at .n) (at .out) (at .inv .1) (D.falsity (c .before .is-reply .ensures) (w .0 .left)), at .inv .2, at .inv .3))
@@ -80,12 +80,13 @@ returns c =
     let start = c .before .before .before .before in
     let b = start .args .block .now in
     let at = c .before .loop in
+    let P = ReplyTo b (start .args .i) (start .args .s) in
     let all : at .r ≡ 64 = omega (arith, at .inv .0, c .loop-test .left) in (
       record {
         each = λ r reply.
-            let (k, l, e) = at .inv .1 .each r (omega (arith, reply-small b (start .pre .0) (start .args .i) (start .pre .1 .0 .0) (start .pre .1 .0 .1) (start .args .s) r reply)) reply in
+            let (k, l, e) = entries-each P (start .args .s) (at .r) (at .n) (at .out) (at .inv .1) r (omega (arith, reply-small b (start .pre .0) (start .args .i) (start .pre .1 .0 .0) (start .pre .1 .0 .1) (start .args .s) r reply)) reply in
             (k, l, λ m _. ap (λ (y : ℕ). L.next b (start .args .s) (m + y)) e);
-        only = at .inv .1 .only;
+        only = entries-only P (start .args .s) (at .r) (at .n) (at .out) (at .inv .1);
         few = omega (arith, at .inv .1 .few);
       },
       (at .inv .2, at .inv .3),

@@ -14,7 +14,7 @@ use Rattle.game.proofs.Local.Offsets.{remains-number}
 use Rattle.game.proofs.Bridge.Truth.{full-fits}
 use Rattle.game.proofs.Blocks.Passing.{few-stocks}
 use Rattle.solver.proofs.Placing.{stocks-below}
-use Rattle.solver.proofs.Entries.{entry-lower, EntriesBelow, entries-none, entries-skip, entries-more, ValuesOf, values-next}
+use Rattle.solver.proofs.Entries.{entry-lower, EntriesBelow, entries-none, entries-skip, entries-more, entries-each, entries-only, ValuesOf, values-next}
 use Rattle.solver.proofs.ways.list_ways.Statement.{statement}
 use Rattle.solver.proofs.ways.list_ways.Tie as tie
 
@@ -123,8 +123,8 @@ loop-again c =
       entries = entries-more (P b (args .i) (args .s)) (args .s) (at .m) (at .n) (at .out) there (at .inv .entries) (D.truth (c .before .is-way .ensures) (w .0 .taken));
       values = values-next (off b (args .i) (args .s)) (args .s) (at .n) (at .m) (w .1 .result) (at .out) (at .takes) there there′ (at .inv .values) (w .1 .ensures);
       lower = (
-        (λ k l. entry-lower (at .out) (args .s) (at .n) (at .m) there k l ∙ at .inv .lower .0 k l),
-        λ k l. entry-lower (at .takes) (args .s) (at .n) (w .1 .result) there′ k l ∙ at .inv .lower .1 k l,
+        (λ k l. entry-lower (at .out) (args .s) (at .n) (at .m) k l ∙ at .inv .lower .0 k l),
+        λ k l. entry-lower (at .takes) (args .s) (at .n) (w .1 .result) k l ∙ at .inv .lower .1 k l,
       );
       long = (length-set (at .out) place (at .m) ∙ at .inv .long .0, length-set (at .takes) place (w .1 .result) ∙ at .inv .long .1);
       few = omega (arith, c .before .before .loop-test .taken);
@@ -151,8 +151,8 @@ returns c =
     let at = c .before .loop in
     let all : at .m ≡ 64 = omega (arith, at .inv .few, c .loop-test .left) in (
       record {
-        each = λ m allowed. at .inv .entries .each m (omega (arith, allowed .0 .0, pow-le-pow-right {n = 4} (omega arith) (start .pre .0 .sized .agents-fit .1))) allowed;
-        only = at .inv .entries .only;
+        each = λ m allowed. entries-each (P b (start .args .i) (start .args .s)) (start .args .s) (at .m) (at .n) (at .out) (at .inv .entries) m (omega (arith, allowed .0 .0, pow-le-pow-right {n = 4} (omega arith) (start .pre .0 .sized .agents-fit .1))) allowed;
+        only = entries-only (P b (start .args .i) (start .args .s)) (start .args .s) (at .m) (at .n) (at .out) (at .inv .entries);
         taken = at .inv .values;
         few = omega (arith, at .inv .entries .few);
       },

@@ -6,6 +6,7 @@ use native.Mathlib.Omega.{arith}
 use borrow.Author.Needs.{needs}
 use borrow.Fn.Kinds.{In}
 use borrow.Fn.PlainCycle.{Measures, is, falls, and}
+use Rattle.text.proofs.Adding.{untouched-later}
 use Rattle.text.proofs.Tens.{numerals-one, numerals-more, fewer}
 use Rattle.text.proofs.output.digits.Reads as digits
 use Rattle.text.proofs.output.digits.Kinds as digits-kinds
@@ -33,7 +34,7 @@ digits-same-length t c = search needs
 digits-returns : (t : ℕ) → digits-lts.Need-returns (digit-reads.Asked, digit-reads.Learnt, digits-below t, digits.Post) (digits-at t) digits.Post
 digits-returns t c =
     let call = c .before .before .digit .ensures in
-    (λ rest. rw (numerals-one _ (c .before .before .before .before .if1 .taken)) (call .0 rest), λ k some small. omega (arith, call .1))
+    (λ rest. rw (numerals-one _ (c .before .before .before .before .if1 .taken)) (call .0 rest), ((λ k some small. omega (arith, call .1)), call .2))
 
 digits-digits-requires : (t : ℕ) → digits-lts.Need-digits-requires (digit-reads.Asked, digit-reads.Learnt, digits-below t, digits.Post) (digits-at t) digits.Post
 digits-digits-requires t c κs =
@@ -45,19 +46,23 @@ digits-digit-requires-2 : (t : ℕ) → digits-lts.Need-digit-requires-2 (digit-
 digits-digit-requires-2 t c κs =
     let (k, (some, (small, room))) = c .before .before .before .before .before .before .before .pre .1 in
     let (j, (e, (more, less))) = fewer k _ (c .before .before .before .before .before .if1 .left) small in
-    (omega (arith, c .before .before .before .digits .ensures .1 j more less), omega arith)
+    (omega (arith, c .before .before .before .digits .ensures .1 .0 j more less), omega arith)
 
 digits-same-length-2 : (t : ℕ) → digits-lts.Need-same-length-2 (digit-reads.Asked, digit-reads.Learnt, digits-below t, digits.Post) (digits-at t) digits.Post
 digits-same-length-2 t c = search needs
 
 digits-returns-2 : (t : ℕ) → digits-lts.Need-returns-2 (digit-reads.Asked, digit-reads.Learnt, digits-below t, digits.Post) (digits-at t) digits.Post
 digits-returns-2 t c =
-    let front = c .before .before .before .before .before .before .digits .ensures in
-    let last = c .before .before .digit2 .ensures in (
-      λ rest. rw (numerals-more _ (c .before .before .before .before .before .before .before .before .if1 .left), append-assoc) (last .0 rest ∙ front .0 _),
-      λ k some small.
-          let (j, (e, (more, less))) = fewer k _ (c .before .before .before .before .before .before .before .before .if1 .left) small in
-          omega (arith, last .1, front .1 j more less),
+    let args = c .before .before .before .before .before .before .before .before .before .before .args in
+    let first = c .before .before .before .before .before .before .digits in
+    let front = first .ensures in
+    let last = c .before .before .digit2 .ensures in
+    let more = c .before .before .before .before .before .before .before .before .if1 .left in (
+      λ rest. rw (numerals-more _ more, append-assoc) (last .0 rest ∙ front .0 _),
+      (
+        (λ k some small. let (j, (e, (some, less))) = fewer k _ more small in omega (arith, last .1, front .1 .0 j some less)),
+        last .2 ∙ untouched-later (args .text .now) (first .last .0) (first .result) (c .before .before .digit2 .result) (omega (arith, last .1)) (front .1 .1),
+      ),
     )
 
 pub +digits-spec : {M : Type 1} → statement M

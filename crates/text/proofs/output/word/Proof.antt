@@ -41,7 +41,7 @@ same-length : tie.Need-same-length Inv-loop μ-loop
 same-length c = omega arith
 
 returns : tie.Need-returns Inv-loop μ-loop
-returns c = (begun-all (c .before .loop .inv .1 .1) (omega arith), omega arith)
+returns c = (begun-all (c .before .loop .inv .1 .1) (omega arith), omega arith, c .before .loop .inv .1 .1 .after)
 
 pub word-spec : {M : Type 1} → statement M
 word-spec =

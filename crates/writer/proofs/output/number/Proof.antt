@@ -16,7 +16,7 @@ returns c =
     let call = c .before .before .field .ensures in
     let n = c .before .before .before .before .before .args .n in (
       λ rest. rw (← numerals-decimal n (omega arith)) (call .0 rest),
-      (omega (arith, call .1 3 (omega arith) (omega arith)), (λ h. omega (arith, call .1 2 (omega arith) (omega arith)), λ h. omega (arith, call .1 1 (omega arith) (omega arith)))),
+      (omega (arith, call .1 .0 3 (omega arith) (omega arith)), (λ h. omega (arith, call .1 .0 2 (omega arith) (omega arith)), λ h. omega (arith, call .1 .0 1 (omega arith) (omega arith)))),
     )
 
 pub number-spec : {M : Type 1} → statement M
