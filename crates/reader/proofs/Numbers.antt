@@ -34,7 +34,7 @@ module _ (sep : ℕ) (text : List ℕ) (at : ℕ) where
   digits (D.three l x y z w) = three l (sym here ∙ x) (sym (ahead 1) ∙ y) (sym (ahead 2) ∙ z) (sym (ahead 3) ∙ w)
 
   pub number-missing : ((n : ℕ) → n < 256 → Digits sep n (getD text at 0) (getD text (at + 1) 0) (getD text (at + 2) 0) (getD text (at + 3) 0) → ⊥) → search (λ n. decimal n ++ sep ∷ []) 256 (drop at text) ≡ missing
-  number-missing none = search-missing (λ n. decimal n ++ sep ∷ []) (drop at text) 256 (λ n h s. none n h (digits (shape sep n (drop at text) s)))
+  number-missing none = search-missing (λ n. decimal n ++ sep ∷ []) (drop at text) 256 (λ n h s. none n h (digits (shape sep n (drop at text) (omega arith) s)))
 
   found-after : (k n : ℕ) → sep < 48 → n < 256 → drop at text ≡ (decimal n ++ sep ∷ []) ++ drop k (drop at text) → search (λ n. decimal n ++ sep ∷ []) 256 (drop at text) ≡ found n (drop (at + k) text)
   found-after k n p h e =
@@ -50,4 +50,4 @@ module _ (sep : ℕ) (text : List ℕ) (at : ℕ) where
     found-two l h x y z = found-after 3 n high (omega arith) (begins-two sep n (drop at text) low l h (here ∙ x) (ahead 1 ∙ y) (ahead 2 ∙ z))
 
     pub found-three : 100 ≤ n → n < 256 → getD text at 0 ≡ 48 + n / 100 → getD text (at + 1) 0 ≡ 48 + n / 10 % 10 → getD text (at + 2) 0 ≡ 48 + n % 10 → getD text (at + 3) 0 ≡ sep → search (λ n. decimal n ++ sep ∷ []) 256 (drop at text) ≡ found n (drop (at + 4) text)
-    found-three l h x y z w = found-after 4 n high h (begins-three sep n (drop at text) low l (here ∙ x) (ahead 1 ∙ y) (ahead 2 ∙ z) (ahead 3 ∙ w))
+    found-three l h x y z w = found-after 4 n high h (begins-three sep n (drop at text) low l (omega arith) (here ∙ x) (ahead 1 ∙ y) (ahead 2 ∙ z) (ahead 3 ∙ w))

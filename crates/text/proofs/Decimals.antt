@@ -1,4 +1,4 @@
--- Numbers in base ten (specs' decimal) and the byte after them, by the bytes of the text.
+-- Numbers in base ten (specs' decimal), digit by digit, and the byte after them, by the bytes of the text.
 --     Shape             the bytes of a text that begins with a number below 1000 and sep
 --     shape             a text that begins so has those bytes
 --     begins            a text with those bytes begins so
@@ -7,13 +7,14 @@
 use mathlib.Core.Bool.{Bool, true, false}
 use mathlib.Core.List.{List, [], _∷_, _++_}
 use mathlib.Core.Logic.{_⊎_, inl, inr, ⊎-elim}
-use mathlib.Core.Path.{_≡_, refl, sym, _∙_}
-use Prim.Native.Nat.{ℕ, zero, suc, _+_, _*_, _/_, _%_, _≤_, _<_}
+use mathlib.Core.Path.{_≡_, refl, sym, ap, _∙_}
+use Prim.Native.Nat.{ℕ, zero, suc, _+_, _*_, _/_, _%_, _^_, _≤_, _<_}
+use native.Mathlib.Nat.{pow-zero, pow-suc}
 use native.Mathlib.Omega.{arith}
 use lib.Dec.{ltb}
 use lib.ListN.{length, getD, drop, List·getD-eq-default}
 use borrow.Author.Tests.{lt-ltb, le-ltb, ltb-true, ltb-false}
-use Rattle.text.specs.Numeral.{numeral, decimal, Starts}
+use Rattle.text.specs.Numeral.{numeral, decimalTo, decimal, Starts}
 
 -- one number is below another, or not
 pub lt-or-ge : (a b : ℕ) → (a < b) ⊎ (b ≤ a)
@@ -23,17 +24,46 @@ lt-or-ge a b = go (ltb a b) refl
     go true e = inl (ltb-true a b e)
     go false e = inr (ltb-false a b e)
 
+to-one : (k n : ℕ) → n < 10 → decimalTo k n ≡ numeral n ∷ []
+unfolding decimalTo
+to-one zero n h = refl
+to-one (suc k) n h = simp (lt-ltb n 10 h)
+
+to-more : (k n : ℕ) → 10 ≤ n → decimalTo (suc k) n ≡ decimalTo k (n / 10) ++ numeral (n % 10) ∷ []
+unfolding decimalTo
+to-more k n h = simp (le-ltb n 10 h)
+
+-- any k that is large enough gives the same digits
+enough : (j k n : ℕ) → n ≤ j → n ≤ k → decimalTo j n ≡ decimalTo k n
+enough zero k n h l = to-one zero n (omega arith) ∙ sym (to-one k n (omega arith))
+enough (suc j) zero n h l = to-one (suc j) n (omega arith) ∙ sym (to-one zero n (omega arith))
+enough (suc j) (suc k) n h l = ⊎-elim
+    (λ small. to-one (suc j) n small ∙ sym (to-one (suc k) n small))
+    (λ large. to-more j n large ∙ ap (λ (w : List ℕ). w ++ numeral (n % 10) ∷ []) (enough j k (n / 10) (omega arith) (omega arith)) ∙ sym (to-more k n large))
+    (lt-or-ge n 10)
+
 pub decimal-one : (n : ℕ) → n < 10 → decimal n ≡ numeral n ∷ []
-unfolding decimal
-decimal-one n h = simp (lt-ltb n 10 h)
+decimal-one n h = to-one n n h
+
+pub decimal-more : (n : ℕ) → 10 ≤ n → decimal n ≡ decimal (n / 10) ++ numeral (n % 10) ∷ []
+decimal-more zero h = absurd (omega arith)
+decimal-more (suc n) h = to-more n (suc n) h ∙ ap (λ (w : List ℕ). w ++ numeral (suc n % 10) ∷ []) (enough n (suc n / 10) (suc n / 10) (omega arith) (omega arith))
 
 pub decimal-two : (n : ℕ) → 10 ≤ n → n < 100 → decimal n ≡ numeral (n / 10) ∷ numeral (n % 10) ∷ []
-unfolding decimal
-decimal-two n l h = simp (le-ltb n 10 l, lt-ltb n 100 h)
+decimal-two n l h = decimal-more n l ∙ ap (λ (w : List ℕ). w ++ numeral (n % 10) ∷ []) (decimal-one (n / 10) (omega arith))
 
-pub decimal-three : (n : ℕ) → 100 ≤ n → decimal n ≡ numeral (n / 100) ∷ numeral (n / 10 % 10) ∷ numeral (n % 10) ∷ []
-unfolding decimal
-decimal-three n l = simp (le-ltb n 10 (omega arith), le-ltb n 100 l)
+pub decimal-three : (n : ℕ) → 100 ≤ n → n < 1000 → decimal n ≡ numeral (n / 100) ∷ numeral (n / 10 % 10) ∷ numeral (n % 10) ∷ []
+decimal-three n l h =
+    let e : n / 10 / 10 ≡ n / 100 = omega arith in
+    decimal-more n (omega arith)
+    ∙ ap (λ (w : List ℕ). w ++ numeral (n % 10) ∷ []) (decimal-two (n / 10) (omega arith) (omega arith))
+    ∙ ap (λ (d : ℕ). numeral d ∷ numeral (n / 10 % 10) ∷ numeral (n % 10) ∷ []) e
+
+-- a number of several digits, without its last, has one digit less
+pub fewer : (k n : ℕ) → 10 ≤ n → n < 10 ^ k → (j : ℕ) × ((k ≡ j + 1) × ((0 < j) × (n / 10 < 10 ^ j)))
+fewer zero n h l = absurd (omega (arith, pow-zero 10))
+fewer (suc zero) n h l = absurd (omega (arith, pow-zero 10, pow-suc 10 0))
+fewer (suc (suc j)) n h l = (suc j, (omega arith, (omega arith, omega (arith, pow-suc 10 (suc j)))))
 
 -- a text with the word's bytes begins with the word
 pub prefix : (w t : List ℕ) → length w ≤ length t → ((i : ℕ) → i < length w → getD t i 0 ≡ getD w i 0) → t ≡ w ++ drop (length w) t
@@ -49,8 +79,8 @@ pub data Shape (sep n : ℕ) (t : List ℕ) : Type 0 where
   two : 10 ≤ n → n < 100 → getD t 0 0 ≡ 48 + n / 10 → getD t 1 0 ≡ 48 + n % 10 → getD t 2 0 ≡ sep → Shape sep n t
   three : 100 ≤ n → getD t 0 0 ≡ 48 + n / 100 → getD t 1 0 ≡ 48 + n / 10 % 10 → getD t 2 0 ≡ 48 + n % 10 → getD t 3 0 ≡ sep → Shape sep n t
 
-pub shape : (sep n : ℕ) (t : List ℕ) → Starts (decimal n ++ sep ∷ []) t → Shape sep n t
-shape sep n t s = ⊎-elim small (λ l. ⊎-elim (middle l) large (lt-or-ge n 100)) (lt-or-ge n 10)
+pub shape : (sep n : ℕ) (t : List ℕ) → n < 1000 → Starts (decimal n ++ sep ∷ []) t → Shape sep n t
+shape sep n t few s = ⊎-elim small (λ l. ⊎-elim (middle l) large (lt-or-ge n 100)) (lt-or-ge n 10)
   where
     small : n < 10 → Shape sep n t
     small h =
@@ -64,7 +94,7 @@ shape sep n t s = ⊎-elim small (λ l. ⊎-elim (middle l) large (lt-or-ge n 10
 
     large : 100 ≤ n → Shape sep n t
     large l =
-        let e : t ≡ numeral (n / 100) ∷ numeral (n / 10 % 10) ∷ numeral (n % 10) ∷ sep ∷ s .0 = rw (decimal-three n l) at (s .1) in
+        let e : t ≡ numeral (n / 100) ∷ numeral (n / 10 % 10) ∷ numeral (n % 10) ∷ sep ∷ s .0 = rw (decimal-three n l few) at (s .1) in
         rw e (three l refl refl refl refl)
 
 whole : (n : ℕ) → n ≡ 100 * (n / 100) + 10 * (n / 10 % 10) + n % 10
@@ -74,7 +104,7 @@ cancel : {a b : ℕ} → 48 + a ≡ 48 + b → a ≡ b
 cancel e = omega arith
 
 pub only-one : (sep : ℕ) → sep < 48 → (m n : ℕ) → m < 256 → n < 256 → (t : List ℕ) → Starts (decimal m ++ sep ∷ []) t → Starts (decimal n ++ sep ∷ []) t → m ≡ n
-only-one sep p m n hm hn t a b = same (shape sep m t a) (shape sep n t b)
+only-one sep p m n hm hn t a b = same (shape sep m t (omega arith) a) (shape sep n t (omega arith) b)
   where
     same : Shape sep m t → Shape sep n t → m ≡ n
     same (one h x y) (one h′ x′ y′) = omega arith
@@ -113,9 +143,9 @@ begins-two sep n t p l h x y z =
     bytes (suc (suc zero)) k = z
     bytes (suc (suc (suc i))) k = absurd (omega arith)
 
-pub begins-three : (sep n : ℕ) (t : List ℕ) → 0 < sep → 100 ≤ n → getD t 0 0 ≡ 48 + n / 100 → getD t 1 0 ≡ 48 + n / 10 % 10 → getD t 2 0 ≡ 48 + n % 10 → getD t 3 0 ≡ sep → t ≡ (decimal n ++ sep ∷ []) ++ drop 4 t
-begins-three sep n t p l x y z w =
-    rw (decimal-three n l) (prefix (numeral (n / 100) ∷ numeral (n / 10 % 10) ∷ numeral (n % 10) ∷ sep ∷ []) t (within t 3 (omega arith)) bytes)
+pub begins-three : (sep n : ℕ) (t : List ℕ) → 0 < sep → 100 ≤ n → n < 1000 → getD t 0 0 ≡ 48 + n / 100 → getD t 1 0 ≡ 48 + n / 10 % 10 → getD t 2 0 ≡ 48 + n % 10 → getD t 3 0 ≡ sep → t ≡ (decimal n ++ sep ∷ []) ++ drop 4 t
+begins-three sep n t p l few x y z w =
+    rw (decimal-three n l few) (prefix (numeral (n / 100) ∷ numeral (n / 10 % 10) ∷ numeral (n % 10) ∷ sep ∷ []) t (within t 3 (omega arith)) bytes)
   where
     bytes : (i : ℕ) → i < 4 → getD t i 0 ≡ getD (numeral (n / 100) ∷ numeral (n / 10 % 10) ∷ numeral (n % 10) ∷ sep ∷ []) i 0
     bytes zero k = x

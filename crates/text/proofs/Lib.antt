@@ -1,7 +1,6 @@
 -- Laws of the description: what a text of it says, and that reading accepts exactly the texts of passing blocks.
 pub mod Search
 pub mod Decimals
-pub mod Tens
 pub mod Adding
 pub mod Spellings
 pub mod Formats

@@ -95,7 +95,7 @@ bound-shape o t h s = ⊎-elim below (λ l. ⊎-elim (λ k. at-inf (omega arith)
     first l (three k x y z w) = omega arith
 
     below : o < 256 → BoundShape o t
-    below l = let d : Starts (decimal o ++ comma ∷ []) t = rw (bound-small o l) at s in let f = first l (shape comma o t d) in small l d (f .0) (f .1)
+    below l = let d : Starts (decimal o ++ comma ∷ []) t = rw (bound-small o l) at s in let f = first l (shape comma o t (omega arith) d) in small l d (f .0) (f .1)
 
     at-inf : o ≡ 256 → BoundShape o t
     at-inf e = let d : t ≡ (ascii "inf" ++ comma ∷ []) ++ s .0 = rw (e, bound-inf) at (s .1) in inf e (rw d)

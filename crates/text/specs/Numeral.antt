@@ -22,24 +22,17 @@ lineEnd = 10
 abbrev pub numeral : ℕ → ℕ
 numeral d = 48 + d
 
--- a number below 1000 in base ten, without leading zeros
-unfoldable pub decimal : ℕ → List ℕ
-decimal n =
-    cond (ltb n 10) (numeral n ∷ [])
-    (cond (ltb n 100) (numeral (n / 10) ∷ numeral (n % 10) ∷ [])
-    (numeral (n / 100) ∷ numeral (n / 10 % 10) ∷ numeral (n % 10) ∷ []))
-
 -- a number in base ten, without leading zeros; k bounds how many digits follow the first
-unfoldable pub numeralsTo : ℕ → ℕ → List ℕ
-numeralsTo zero n = numeral n ∷ []
-numeralsTo (suc k) n = cond (ltb n 10) (numeral n ∷ []) (numeralsTo k (n / 10) ++ numeral (n % 10) ∷ [])
+unfoldable pub decimalTo : ℕ → ℕ → List ℕ
+decimalTo zero n = numeral n ∷ []
+decimalTo (suc k) n = cond (ltb n 10) (numeral n ∷ []) (decimalTo k (n / 10) ++ numeral (n % 10) ∷ [])
 
-abbrev pub numerals : ℕ → List ℕ
-numerals n = numeralsTo n n
+abbrev pub decimal : ℕ → List ℕ
+decimal n = decimalTo n n
 
 -- a number and the byte after it
 abbrev pub field : ℕ → ℕ → List ℕ
-field n sep = numerals n ++ sep ∷ []
+field n sep = decimal n ++ sep ∷ []
 
 -- the text t begins with the word w
 abbrev pub Starts : List ℕ → List ℕ → Type 0

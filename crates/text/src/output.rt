@@ -4,7 +4,7 @@ ghost use mathlib.Core.Path.{_≡_};
 ghost use Prim.Native.Nat.{ℕ, _+_, _^_, _≤_, _<_};
 ghost use lib.ListN.{length};
 ghost use Rattle.text.specs.Adding.{Adds, Untouched};
-ghost use Rattle.text.specs.Numeral.{numeral, numerals, field};
+ghost use Rattle.text.specs.Numeral.{numeral, decimal, field};
 
 // Puts a byte at a place of the text.
 fn put(text: &mut [u8], at: usize, x: u8) -> usize
@@ -25,7 +25,7 @@ fn digit(text: &mut [u8], at: usize, d: usize) -> usize
 // The digits of a number, for which there is room.
 fn digits(text: &mut [u8], at: usize, n: usize) -> usize
     requires { ⌜ ((k : ℕ) × ((0 < k) × ((n < 10 ^ k) × (at + k ≤ length (now text))))) ⌝ }
-    ensures { λ r. ⌜ Adds (numerals n) (now (text .entry)) at (now (text .exit)) r ⌝ }
+    ensures { λ r. ⌜ Adds (decimal n) (now (text .entry)) at (now (text .exit)) r ⌝ }
     ensures { λ r. ⌜ ((k : ℕ) → 0 < k → n < 10 ^ k → r ≤ at + k) ⌝ }
     ensures { λ r. ⌜ Untouched (now (text .entry)) (now (text .exit)) r ⌝ }
 {

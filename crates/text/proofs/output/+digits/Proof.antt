@@ -7,7 +7,7 @@ use borrow.Author.Needs.{needs}
 use borrow.Fn.Kinds.{In}
 use borrow.Fn.PlainCycle.{Measures, is, falls, and}
 use Rattle.text.proofs.Adding.{untouched-later}
-use Rattle.text.proofs.Tens.{numerals-one, numerals-more, fewer}
+use Rattle.text.proofs.Decimals.{decimal-one, decimal-more, fewer}
 use Rattle.text.proofs.output.digits.Reads as digits
 use Rattle.text.proofs.output.digits.Kinds as digits-kinds
 use Rattle.text.proofs.output.+digits.Lts-digits as digits-lts
@@ -34,7 +34,7 @@ digits-same-length t c = search needs
 digits-returns : (t : ℕ) → digits-lts.Need-returns (digit-reads.Asked, digit-reads.Learnt, digits-below t, digits.Post) (digits-at t) digits.Post
 digits-returns t c =
     let call = c .before .before .digit .ensures in
-    (λ rest. rw (numerals-one _ (c .before .before .before .before .if1 .taken)) (call .0 rest), ((λ k some small. omega (arith, call .1)), call .2))
+    (λ rest. rw (decimal-one _ (c .before .before .before .before .if1 .taken)) (call .0 rest), ((λ k some small. omega (arith, call .1)), call .2))
 
 digits-digits-requires : (t : ℕ) → digits-lts.Need-digits-requires (digit-reads.Asked, digit-reads.Learnt, digits-below t, digits.Post) (digits-at t) digits.Post
 digits-digits-requires t c κs =
@@ -58,7 +58,7 @@ digits-returns-2 t c =
     let front = first .ensures in
     let last = c .before .before .digit2 .ensures in
     let more = c .before .before .before .before .before .before .before .before .if1 .left in (
-      λ rest. rw (numerals-more _ more, append-assoc) (last .0 rest ∙ front .0 _),
+      λ rest. rw (decimal-more _ more, append-assoc) (last .0 rest ∙ front .0 _),
       (
         (λ k some small. let (j, (e, (some, less))) = fewer k _ more small in omega (arith, last .1, front .1 .0 j some less)),
         last .2 ∙ untouched-later (args .text .now) (first .last .0) (first .result) (c .before .before .digit2 .result) (omega (arith, last .1)) (front .1 .1),
