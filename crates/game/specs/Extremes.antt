@@ -37,3 +37,11 @@ pub record ListsAt (P : ℕ → Type 0) (f : ℕ → ℕ) (at : ℕ → ℕ) (n 
 -- the first n places of a list hold them
 abbrev pub Lists : (ℕ → Type 0) → (ℕ → ℕ) → List ℕ → ℕ → Type 0
 Lists P f l n = ListsAt P f (λ k. getD l k 0) n
+
+-- they rise, so that each stands there once
+abbrev pub Rising : List ℕ → ℕ → Type 0
+Rising l n = (j k : ℕ) → j < k → k < n → getD l j 0 < getD l k 0
+
+-- from place n on the list l is as the list t was
+abbrev pub SameFrom : List ℕ → List ℕ → ℕ → Type 0
+SameFrom t l n = (k : ℕ) → n ≤ k → getD l k 0 ≡ getD t k 0

@@ -69,14 +69,6 @@ pub fn has_bit(w: usize, s: usize) -> bool
     (w >> s) % 2 == 1
 }
 
-// Whether state s is in the set of row i.
-pub fn holds(sets: &[u8], i: usize, s: usize) -> bool
-    requires { ⌜ (4 * i + 3 < length (now sets)) × (s < 32) ⌝ }
-    ensures { λ r. ⌜ Decides (Bit (wordIn (now (sets .entry)) i) s) r ⌝ }
-{
-    has_bit(word_at(sets, i), s)
-}
-
 // The word w with bit s besides, where w has no bit from s on.
 pub fn with_bit(w: usize, s: usize) -> usize
     requires { ⌜ (s < 32) × (w < 2 ^ s) ⌝ }

@@ -9,7 +9,7 @@ ghost use Rattle.block.specs.Decide.{Decides};
 ghost use Rattle.block.specs.Layout as L;
 ghost use Rattle.block.specs.Valid.{Valid};
 ghost use Rattle.game.specs.Buffers.{rankIn};
-ghost use Rattle.game.specs.Extremes.{Beyond, Further, BestOf, Lists};
+ghost use Rattle.game.specs.Extremes.{Beyond, Further, BestOf, Lists, Rising, SameFrom};
 ghost use Rattle.game.specs.Position.{MoveOf};
 ghost use Rattle.game.specs.Model.{structureOf, coalitionOf, ReplyTo};
 
@@ -75,13 +75,13 @@ pub fn is_reply(block: &[u8], i: usize, s: usize, r: usize) -> bool
     moves::is_move(block, s, 7 - layout::team(block, i), r)
 }
 
-// Lists the replies to row i's team in state s. Answers how many there are.
+// Lists the replies to row i's team in state s, in rising order. Answers how many there are.
 pub fn replies(block: &[u8], i: usize, s: usize, out: &mut [usize]) -> usize
     requires { ⌜ Valid (now block) ⌝ }
     requires { ⌜ (i < L.rows (now block)) × L.Strategic (L.kind (now block) i) × (s < L.states (now block)) ⌝ }
     requires { ⌜ 64 ≤ length (now out) ⌝ }
     ensures { λ n. ⌜ Lists (ReplyTo (now (block .entry)) i s) (λ (r : ℕ). r) (now (out .exit)) n ⌝ }
-    ensures { λ n. ⌜ (n ≤ 64) × (length (now (out .exit)) ≡ length (now (out .entry))) ⌝ }
+    ensures { λ n. ⌜ (n ≤ 64) × (length (now (out .exit)) ≡ length (now (out .entry))) × Rising (now (out .exit)) n × SameFrom (now (out .entry)) (now (out .exit)) n ⌝ }
 {
     let mut n = 0;
     let mut r = 0;
@@ -112,7 +112,7 @@ pub fn targets(
     requires { ⌜ Lists (ReplyTo (now block) i s) (λ (r : ℕ). r) (now answers) n ⌝ }
     requires { ⌜ (n ≤ length (now answers)) × (n ≤ length (now out)) × (c ≤ 256) ⌝ }
     ensures { λ _. ⌜ Lists (ReplyTo (now (block .entry)) i s) (λ (r : ℕ). L.next (now (block .entry)) s (m + r) * c) (now (out .exit)) n ⌝ }
-    ensures { λ _. ⌜ length (now (out .exit)) ≡ length (now (out .entry)) ⌝ }
+    ensures { λ _. ⌜ (length (now (out .exit)) ≡ length (now (out .entry))) × ((k : ℕ) → k < n → getD (now (out .exit)) k 0 ≡ L.next (now (block .entry)) s (m + getD (now (answers .entry)) k 0) * c) × SameFrom (now (out .entry)) (now (out .exit)) n ⌝ }
 {
     let mut k = 0;
     while k < n {

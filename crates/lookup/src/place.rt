@@ -64,7 +64,7 @@ pub fn no_position(block: &[u8], i: usize, s: usize, stocks: &[u8]) -> bool
 // Labels the rows below row i and stores its ranks in the room. Answers the sets of the rows that it names.
 fn prepare(block: &[u8], i: usize, room: &mut [u8]) -> Words
     requires { ⌜ Valid (now block) ⌝ }
-    requires { ⌜ (i < L.rows (now block)) × L.Strategic (L.kind (now block) i) × (12288 ≤ length (now room)) ⌝ }
+    requires { ⌜ (i < L.rows (now block)) × L.Strategic (L.kind (now block) i) × (length (now room) ≡ 12288) ⌝ }
     ensures { λ w. ⌜ Prepared (now (block .entry)) i (w .left) (w .right) (now (room .exit)) × (length (now (room .exit)) ≡ length (now (room .entry))) ⌝ }
 {
     let mut sets = [0u8; 128];
@@ -81,7 +81,7 @@ fn prepare(block: &[u8], i: usize, room: &mut [u8]) -> Words
 // Makes row i ready, with its ranks in the room, and looks at the rank of a position.
 pub fn look(block: &[u8], i: usize, s: usize, stocks: &[u8], room: &mut [u8]) -> Standing
     requires { ⌜ Valid (now block) ⌝ }
-    requires { ⌜ (i < L.rows (now block)) × L.Strategic (L.kind (now block) i) × (L.resources (now block) ≤ length (now stocks)) × (12288 ≤ length (now room)) ⌝ }
+    requires { ⌜ (i < L.rows (now block)) × L.Strategic (L.kind (now block) i) × (L.resources (now block) ≤ length (now stocks)) × (length (now room) ≡ 12288) ⌝ }
     requires { ⌜ P.IsPosition (arenaOf (now block) i) (P.position s (now stocks)) ⌝ }
     ensures { λ t. ⌜ Stands (now (block .entry)) i (P.position s (now (stocks .entry))) (t .left) (t .right) (t .own) (t .wins) (now (room .exit)) × (length (now (room .exit)) ≡ length (now (room .entry))) ⌝ }
 {

@@ -343,11 +343,11 @@ fn first_moves(soon: bool, ever: bool, count: usize, ranks: &[u8], moves: &mut [
     }
 }
 
-// The moves of row i, whose left row has the set left: for the coalition the smallest good move where it wins.
+// The moves of row i, whose left row has the set left, where its ranks are there: for the coalition the smallest good move where it wins.
 pub fn fill_moves(block: &[u8], i: usize, left: usize, ranks: &[u8], moves: &mut [u8])
     requires { ⌜ Valid (now block) ⌝ }
     requires { ⌜ (i < L.rows (now block)) × L.Strategic (L.kind (now block) i) ⌝ }
-    requires { ⌜ (12288 ≤ length (now ranks)) × (6144 ≤ length (now moves)) ⌝ }
+    requires { ⌜ (12288 ≤ length (now ranks)) × (length (now moves) ≡ 6144) × ((right : ℕ) × RanksOf (now block) i left right (now ranks)) ⌝ }
     ensures { λ _. ⌜ ((right : ℕ) → RanksOf (now (block .entry)) i left right (now (ranks .entry)) → MovesOf (now (block .entry)) i left right (now (ranks .entry)) (now (moves .exit))) ⌝ }
     ensures { λ _. ⌜ length (now (moves .exit)) ≡ length (now (moves .entry)) ⌝ }
 {

@@ -20,6 +20,7 @@ pub fn left_set(block: &[u8], sets: &[u8], i: usize) -> usize
     requires { ⌜ Valid (now block) ⌝ }
     requires { ⌜ (i < L.rows (now block)) × (128 ≤ length (now sets)) ⌝ }
     ensures { λ r. ⌜ (L.propKind < L.kind (now (block .entry)) i → r ≡ wordIn (now (sets .entry)) (L.left (now (block .entry)) i)) ⌝ }
+    ensures { λ r. ⌜ (L.kind (now (block .entry)) i ≡ L.propKind → r ≡ 0) ⌝ }
 {
     if layout::kind(block, i) == 0 {
         return 0;
@@ -32,6 +33,7 @@ pub fn right_set(block: &[u8], sets: &[u8], i: usize) -> usize
     requires { ⌜ Valid (now block) ⌝ }
     requires { ⌜ (i < L.rows (now block)) × (128 ≤ length (now sets)) ⌝ }
     ensures { λ r. ⌜ (L.Binary (L.kind (now (block .entry)) i) → r ≡ wordIn (now (sets .entry)) (L.right (now (block .entry)) i)) ⌝ }
+    ensures { λ r. ⌜ ((L.Binary (L.kind (now (block .entry)) i) → ⊥) → r ≡ 0) ⌝ }
 {
     let kind = layout::kind(block, i);
     if kind == 2 || kind == 5 {
@@ -43,7 +45,7 @@ pub fn right_set(block: &[u8], sets: &[u8], i: usize) -> usize
 // Stores the set of row i, where lower rows have theirs. The ranks become those of a strategic row, and stay as they are for any other.
 pub fn label_row(block: &[u8], i: usize, sets: &mut [u8], ranks: &mut [u8])
     requires { ⌜ Valid (now block) ⌝ }
-    requires { ⌜ (i < L.rows (now block)) × (128 ≤ length (now sets)) × (12288 ≤ length (now ranks)) ⌝ }
+    requires { ⌜ (i < L.rows (now block)) × (128 ≤ length (now sets)) × (length (now ranks) ≡ 12288) ⌝ }
     requires { ⌜ LowerSets (now block) i (now sets) ⌝ }
     ensures { λ _. ⌜ RowLabelled (now (block .entry)) i (now (sets .entry)) (now (sets .exit)) ⌝ }
     ensures { λ _. ⌜ Ranked (now (block .entry)) i (now (sets .exit)) (now (ranks .exit)) ⌝ }
@@ -59,10 +61,10 @@ pub fn label_row(block: &[u8], i: usize, sets: &mut [u8], ranks: &mut [u8])
     buffers::set_word(sets, i, w);
 }
 
-// Stores the sets of the first n rows. The ranks are working room.
+// Stores the sets of the first n rows. The ranks are working room: what they hold afterwards is the program's choice.
 pub fn label_rows(block: &[u8], n: usize, sets: &mut [u8], ranks: &mut [u8])
     requires { ⌜ Valid (now block) ⌝ }
-    requires { ⌜ (n ≤ L.rows (now block)) × (128 ≤ length (now sets)) × (12288 ≤ length (now ranks)) ⌝ }
+    requires { ⌜ (n ≤ L.rows (now block)) × (128 ≤ length (now sets)) × (length (now ranks) ≡ 12288) ⌝ }
     ensures { λ _. ⌜ LowerSets (now (block .entry)) n (now (sets .exit)) ⌝ }
     ensures { λ _. ⌜ ((j : ℕ) → n ≤ j → wordIn (now (sets .exit)) j ≡ wordIn (now (sets .entry)) j) ⌝ }
     ensures { λ _. ⌜ (length (now (sets .exit)) ≡ length (now (sets .entry))) × (length (now (ranks .exit)) ≡ length (now (ranks .entry))) ⌝ }

@@ -65,7 +65,7 @@ pub fn row_word(block: &[u8], i: usize, left: usize, right: usize, ranks: &[u8])
 }
 
 // The states outside a set.
-pub fn complement(block: &[u8], set: usize) -> usize
+fn complement(block: &[u8], set: usize) -> usize
     requires { ⌜ Valid (now block) ⌝ }
     ensures { λ r. ⌜ Says (now (block .entry)) r (λ (s : ℕ). (Bit set s → ⊥)) ⌝ }
 {
@@ -84,7 +84,7 @@ pub fn complement(block: &[u8], set: usize) -> usize
 // The ranks of row i, whose lower rows' sets are left and right.
 pub fn rank_row(block: &[u8], i: usize, left: usize, right: usize, ranks: &mut [u8])
     requires { ⌜ Valid (now block) ⌝ }
-    requires { ⌜ (i < L.rows (now block)) × L.Strategic (L.kind (now block) i) × (12288 ≤ length (now ranks)) ⌝ }
+    requires { ⌜ (i < L.rows (now block)) × L.Strategic (L.kind (now block) i) × (length (now ranks) ≡ 12288) ⌝ }
     ensures { λ _. ⌜ RanksOf (now (block .entry)) i left right (now (ranks .exit)) × (length (now (ranks .exit)) ≡ length (now (ranks .entry))) ⌝ }
 {
     let kind = layout::kind(block, i);

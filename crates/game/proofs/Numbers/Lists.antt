@@ -2,11 +2,11 @@
 -- The laws speak of the numbers that stand in places, so that they hold of a list, and of a part of one.
 use mathlib.Core.List.{List}
 use mathlib.Core.Path.{_≡_, sym, _∙_, ap, subst}
-use Prim.Native.Nat.{ℕ, _+_, _<_}
+use Prim.Native.Nat.{ℕ, _+_, _≤_, _<_}
 use native.Mathlib.Omega.{arith}
 use lib.ListN.{getD, length, set}
 use lib.Seq.{getD-set-same, getD-set-other}
-use Rattle.game.specs.Extremes.{ListsAt, Lists}
+use Rattle.game.specs.Extremes.{ListsAt, Lists, Rising, SameFrom}
 use Rattle.game.proofs.Numbers.Decide.{eq?}
 
 -- place n has the number v, and the places before it have what they had
@@ -16,6 +16,28 @@ pub record Puts (at : ℕ → ℕ) (n v : ℕ) (at′ : ℕ → ℕ) : Type 0 wh
 
 pub set-puts : (l : List ℕ) (n v : ℕ) → n < length l → Puts (λ k. getD l k 0) n v (λ k. getD (set l n v) k 0)
 set-puts l n v inside = record { here = getD-set-same l n v 0 inside; before = λ k below. getD-set-other l n k v 0 (λ e. omega arith) }
+
+-- what stands after place n
+pub same-later : (t l : List ℕ) (n v : ℕ) → SameFrom t l n → SameFrom t (set l n v) (n + 1)
+same-later t l n v same k after = getD-set-other l n k v 0 (λ e. omega arith) ∙ same k (omega arith)
+
+-- the first n places rise, to numbers below r
+abbrev pub RisingTo : List ℕ → ℕ → ℕ → Type 0
+RisingTo l n r = Rising l n × ((k : ℕ) → k < n → getD l k 0 < r)
+
+pub rising-more : (l : List ℕ) (n r : ℕ) → n < length l → RisingTo l n r → RisingTo (set l n r) (n + 1) (r + 1)
+rising-more l n r inside (rising, below) = (λ j k less small. goes j k less (eq? k n) small, λ k small. last k small (eq? k n))
+  where
+    put : Puts (λ k. getD l k 0) n r (λ k. getD (set l n r) k 0)
+    put = set-puts l n r inside
+
+    goes : (j k : ℕ) → j < k → Dec (k ≡ n) → k < n + 1 → getD (set l n r) j 0 < getD (set l n r) k 0
+    goes j k less (yes e) small = omega (arith, below j (omega arith), put .before j (omega arith), ap (λ (x : ℕ). getD (set l n r) x 0) e, put .here)
+    goes j k less (no ne) small = omega (arith, rising j k less (omega arith), put .before j (omega arith), put .before k (omega arith))
+
+    last : (k : ℕ) → k < n + 1 → Dec (k ≡ n) → getD (set l n r) k 0 < r + 1
+    last k small (yes e) = omega (arith, ap (λ (x : ℕ). getD (set l n r) x 0) e, put .here)
+    last k small (no ne) = omega (arith, below k (omega arith), put .before k (omega arith))
 
 -- the first n values are those of the numbers beside them
 abbrev pub ValuesBelow : (ℕ → ℕ) → ℕ → (ℕ → ℕ) → (ℕ → ℕ) → Type 0

@@ -6,8 +6,9 @@ use Prim.Native.Nat.{ℕ, _+_, _-_, _≤_, _<_}
 use native.Mathlib.Omega.{arith}
 use lib.ListN.{getD, length, set, length-set}
 use Rattle.block.proofs.Decide as D
+use Rattle.game.specs.Extremes.{SameFrom}
 use Rattle.game.specs.Model.{ReplyTo}
-use Rattle.game.proofs.Numbers.Lists.{set-puts, ListsBelow, lists-none, lists-skip, lists-more, lists-all}
+use Rattle.game.proofs.Numbers.Lists.{set-puts, same-later, RisingTo, rising-more, ListsBelow, lists-none, lists-skip, lists-more, lists-all}
 use Rattle.game.proofs.Blocks.Replies.{reply-small}
 use Rattle.game.proofs.replies.replies.Statement.{statement}
 use Rattle.game.proofs.replies.replies.Tie as tie
@@ -19,7 +20,7 @@ abbrev placed : List ℕ → ℕ → ℕ
 placed l k = getD l k 0
 
 abbrev Inv-loop : tie.InvT-loop
-Inv-loop block i s out₀ n₀ r₀ out n r = ((r ≤ 64) × (n ≤ r)) × (length out ≡ length out₀) × ListsBelow (ReplyTo block i s) itself r (placed out) n
+Inv-loop block i s out₀ n₀ r₀ out n r = ((r ≤ 64) × (n ≤ r)) × (length out ≡ length out₀) × ListsBelow (ReplyTo block i s) itself r (placed out) n × RisingTo out n r × SameFrom out₀ out n
 
 abbrev μ-loop : tie.MeasureT-loop
 μ-loop block i s out₀ n₀ r₀ out n r = 64 - r
@@ -27,7 +28,7 @@ abbrev μ-loop : tie.MeasureT-loop
 loop-holds : tie.Need-loop-holds Inv-loop μ-loop
 loop-holds c =
     let args = c .before .before .args in
-    ((omega arith, omega arith), refl, lists-none (ReplyTo (args .block .now) (args .i) (args .s)) itself (placed (args .out .now)))
+    ((omega arith, omega arith), refl, lists-none (ReplyTo (args .block .now) (args .i) (args .s)) itself (placed (args .out .now)), (λ j k _ l. absurd (omega arith), λ k l. absurd (omega arith)), λ k _. refl)
 
 is-reply-requires : tie.Need-is-reply-requires Inv-loop μ-loop
 is-reply-requires c κs = let pre = c .before .before .before .before .pre in (pre .0, pre .1 .0)
@@ -60,12 +61,16 @@ loop-again c =
       ap length (w .1) ∙ length-set (at .out) (at .n) (at .r) ∙ at .inv .1,
       subst₂ (λ (out : List ℕ) (n : ℕ). ListsBelow P itself (at .r + 1) (placed out) n) (sym (w .1)) (sym (w .2))
           (lists-more P itself (at .r) (at .n) (at .r) (placed (at .out)) (placed (set (at .out) (at .n) (at .r))) (set-puts (at .out) (at .n) (at .r) inside) (at .inv .2) (D.truth (c .before .is-reply .ensures) (w .0 .taken)) refl),
+      subst₂ (λ (out : List ℕ) (n : ℕ). RisingTo out n (at .r + 1)) (sym (w .1)) (sym (w .2)) (rising-more (at .out) (at .n) (at .r) inside (at .inv .3)),
+      subst₂ (λ (out : List ℕ) (n : ℕ). SameFrom (args .out .now) out n) (sym (w .1)) (sym (w .2)) (same-later (args .out .now) (at .out) (at .n) (at .r) (at .inv .4)),
     ))
     (λ w. (
       (omega arith, omega (arith, w .2, at .inv .0)),
       ap length (w .1) ∙ at .inv .1,
       subst₂ (λ (out : List ℕ) (n : ℕ). ListsBelow P itself (at .r + 1) (placed out) n) (sym (w .1)) (sym (w .2))
           (lists-skip P itself (at .r) (at .n) (placed (at .out)) (at .inv .2) (D.falsity (c .before .is-reply .ensures) (w .0 .left))),
+      subst₂ (λ (out : List ℕ) (n : ℕ). RisingTo out n (at .r + 1)) (sym (w .1)) (sym (w .2)) (at .inv .3 .0, λ k l. omega (arith, at .inv .3 .1 k l)),
+      subst₂ (λ (out : List ℕ) (n : ℕ). SameFrom (args .out .now) out n) (sym (w .1)) (sym (w .2)) (at .inv .4),
     ))
     (c .if1 .came)
 
@@ -81,7 +86,7 @@ returns c =
     let all : at .r ≡ 64 = omega (arith, at .inv .0, c .loop-test .left) in (
       lists-all P itself 64 (at .n) (placed (at .out)) (reply-small (args .block .now) (start .pre .0) (args .i) (start .pre .1 .0 .0) (start .pre .1 .0 .1) (args .s))
           (subst (λ (r : ℕ). ListsBelow P itself r (placed (at .out)) (at .n)) all (at .inv .2)),
-      (omega (arith, at .inv .0), at .inv .1),
+      (omega (arith, at .inv .0), at .inv .1, at .inv .3 .0, at .inv .4),
     )
 
 pub replies-spec : {M : Type 1} → statement M

@@ -6,8 +6,9 @@ use native.Mathlib.Omega.{arith}
 use lib.ListN.{getD, length, set, length-set}
 use Rattle.block.specs.Layout as L
 use Rattle.block.specs.Layout.{Block}
+use Rattle.game.specs.Extremes.{SameFrom}
 use Rattle.game.specs.Model.{ReplyTo}
-use Rattle.game.proofs.Numbers.Lists.{set-puts, ValuesBelow, values-more, lists-values}
+use Rattle.game.proofs.Numbers.Lists.{set-puts, same-later, ValuesBelow, values-more, lists-values}
 use Rattle.game.proofs.Blocks.Replies.{joint-small, next-small}
 use Rattle.game.proofs.replies.targets.Statement.{statement}
 use Rattle.game.proofs.replies.targets.Tie as tie
@@ -17,13 +18,13 @@ abbrev target : Block → ℕ → ℕ → ℕ → ℕ → ℕ
 target b s m c r = L.next b s (m + r) * c
 
 abbrev Inv-loop : tie.InvT-loop
-Inv-loop block i s m c answers n out₀ k₀ out k = (k ≤ n) × (length out ≡ length out₀) × ValuesBelow (target block s m c) k (λ j. getD answers j 0) (λ j. getD out j 0)
+Inv-loop block i s m c answers n out₀ k₀ out k = (k ≤ n) × (length out ≡ length out₀) × ValuesBelow (target block s m c) k (λ j. getD answers j 0) (λ j. getD out j 0) × SameFrom out₀ out k
 
 abbrev μ-loop : tie.MeasureT-loop
 μ-loop block i s m c answers n out₀ k₀ out k = n - k
 
 loop-holds : tie.Need-loop-holds Inv-loop μ-loop
-loop-holds c = (omega arith, refl, λ j l. absurd (omega arith))
+loop-holds c = (omega arith, refl, λ j l. absurd (omega arith), λ k _. refl)
 
 -- a listed number is a reply, and it leads to a state
 module _ (start : tie.Start Inv-loop μ-loop) (k : ℕ) (small : k < start .args .n) where
@@ -78,6 +79,7 @@ loop-again c =
       omega (arith, c .before .before .loop-test .taken),
       length-set (at .out) (at .k) (c .next .result * args .c) ∙ at .inv .1,
       values-more (target (args .block .now) (args .s) (args .m) (args .c)) (at .k) (c .next .result * args .c) (λ j. getD (args .answers .now) j 0) (λ j. getD (args .answers .now) j 0) (λ j. getD (at .out) j 0) (λ j. getD (set (at .out) (at .k) (c .next .result * args .c)) j 0) (λ j _. refl) (set-puts (at .out) (at .k) (c .next .result * args .c) inside) (at .inv .2) (ap (λ (q : ℕ). q * args .c) (c .next .ensures)),
+      same-later (args .out .now) (at .out) (at .k) (c .next .result * args .c) (at .inv .3),
     )
 
 same-length : tie.Need-same-length Inv-loop μ-loop
@@ -87,10 +89,11 @@ returns : tie.Need-returns Inv-loop μ-loop
 returns c =
     let start = c .before .before .before .before .before in
     let args = start .args in
-    let at = c .before .loop in (
-      lists-values (ReplyTo (args .block .now) (args .i) (args .s)) (target (args .block .now) (args .s) (args .m) (args .c)) (args .n) (args .answers .now) (at .out) (start .pre .1 .1 .1 .0)
-          (λ k l. at .inv .2 k (omega (arith, at .inv .0, c .loop-test .left))),
-      at .inv .1,
+    let at = c .before .loop in
+    let values : ValuesBelow (target (args .block .now) (args .s) (args .m) (args .c)) (args .n) (λ j. getD (args .answers .now) j 0) (λ j. getD (at .out) j 0) =
+    λ k l. at .inv .2 k (omega (arith, at .inv .0, c .loop-test .left)) in (
+      lists-values (ReplyTo (args .block .now) (args .i) (args .s)) (target (args .block .now) (args .s) (args .m) (args .c)) (args .n) (args .answers .now) (at .out) (start .pre .1 .1 .1 .0) values,
+      (at .inv .1, values, λ k l. at .inv .3 k (omega (arith, at .inv .0))),
     )
 
 pub targets-spec : {M : Type 1} → statement M

@@ -43,8 +43,8 @@ returns c =
     let right = c .before .before .before .before .right-set in
     let ranks = c .before .before .rank-row in (
       record {
-        left-set = λ uses. subst (RowSet b (L.left b (args .i))) (sym (left .ensures uses)) (sets .ensures .0 (L.left b (args .i)) (row .left-lower uses));
-        right-set = λ uses. subst (RowSet b (L.right b (args .i))) (sym (right .ensures uses)) (sets .ensures .0 (L.right b (args .i)) (row .right-lower uses));
+        left-set = λ uses. subst (RowSet b (L.left b (args .i))) (sym (left .ensures .0 uses)) (sets .ensures .0 (L.left b (args .i)) (row .left-lower uses));
+        right-set = λ uses. subst (RowSet b (L.right b (args .i))) (sym (right .ensures .0 uses)) (sets .ensures .0 (L.right b (args .i)) (row .right-lower uses));
         ranks-of = ranks .ensures .0;
       },
       ranks .ensures .1 ∙ sets .ensures .1 .1 .1,

@@ -58,13 +58,13 @@ left-told : (c : tie.Joined1) → L.propKind < L.kind (c .before .before .before
 left-told c uses =
     let start = c .before .before .before .before .before .before .before .before .before in
     let b = start .args .block .now in
-    subst (RowSet b (L.left b (start .args .i))) (sym (c .before .before .before .before .left-set .ensures uses)) (start .pre .1 .1 (L.left b (start .args .i)) (start .pre .0 .row-fits (start .args .i) (start .pre .1 .0 .0) .left-lower uses))
+    subst (RowSet b (L.left b (start .args .i))) (sym (c .before .before .before .before .left-set .ensures .0 uses)) (start .pre .1 .1 (L.left b (start .args .i)) (start .pre .0 .row-fits (start .args .i) (start .pre .1 .0 .0) .left-lower uses))
 
 right-told : (c : tie.Joined1) → L.Binary (L.kind (c .before .before .before .before .before .before .before .before .before .args .block .now) (c .before .before .before .before .before .before .before .before .before .args .i)) → RowSet (c .before .before .before .before .before .before .before .before .before .args .block .now) (L.right (c .before .before .before .before .before .before .before .before .before .args .block .now) (c .before .before .before .before .before .before .before .before .before .args .i)) (c .before .before .right-set .result)
 right-told c uses =
     let start = c .before .before .before .before .before .before .before .before .before in
     let b = start .args .block .now in
-    subst (RowSet b (L.right b (start .args .i))) (sym (c .before .before .right-set .ensures uses)) (start .pre .1 .1 (L.right b (start .args .i)) (start .pre .0 .row-fits (start .args .i) (start .pre .1 .0 .0) .right-lower uses))
+    subst (RowSet b (L.right b (start .args .i))) (sym (c .before .before .right-set .ensures .0 uses)) (start .pre .1 .1 (L.right b (start .args .i)) (start .pre .0 .row-fits (start .args .i) (start .pre .1 .0 .0) .right-lower uses))
 
 -- the ranks of any other row stay
 plain : (c : tie.Joined1) → (L.Strategic (L.kind (c .before .before .before .before .before .before .before .before .before .args .block .now) (c .before .before .before .before .before .before .before .before .before .args .i)) → ⊥) → c .if1 .ranks ≡ c .before .before .before .before .before .before .before .before .before .args .ranks .now
@@ -88,7 +88,7 @@ returns c =
         λ strategic.
             let uses : L.propKind < L.kind b (args .i) = omega (arith, strategic .0) in
             let lower = pre .0 .row-fits (args .i) (pre .1 .0 .0) .left-lower uses in
-            let same = c .before .before .before .before .before .before .before .before .before .before .left-set .ensures uses ∙ sym (stored .others (L.left b (args .i)) (λ e. omega arith)) in
+            let same = c .before .before .before .before .before .before .before .before .before .before .left-set .ensures .0 uses ∙ sym (stored .others (L.left b (args .i)) (λ e. omega arith)) in
             (c .before .before .before .before .before .before .before .before .right-set .result, subst (λ (w : ℕ). Prepared b (args .i) w (c .before .before .before .before .before .before .before .before .right-set .result) (at .if1 .ranks)) same (record { left-set = left-told at; right-set = right-told at; ranks-of = ranked at strategic })),
         (plain at, long at),
       ),

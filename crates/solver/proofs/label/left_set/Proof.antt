@@ -1,5 +1,5 @@
 -- `left_set` reads the word of a lower row. Assumes nothing.
-use mathlib.Core.Path.{_≡_, sym, _∙_, ap}
+use mathlib.Core.Path.{_≡_, refl, sym, _∙_, ap}
 use Prim.Native.Nat.{ℕ, _<_}
 use native.Mathlib.Omega.{arith}
 use borrow.Author.Needs.{needs}
@@ -11,7 +11,7 @@ kind-requires : tie.Need-kind-requires
 kind-requires c κs = search needs
 
 returns : tie.Need-returns
-returns c = λ uses. absurd (omega (arith, c .before .kind .ensures, c .if1 .taken))
+returns c = ((λ uses. absurd (omega (arith, c .before .kind .ensures, c .if1 .taken))), λ _. refl)
 
 left-requires : tie.Need-left-requires
 left-requires c κs = search needs
@@ -23,7 +23,10 @@ word-at-requires c κs =
     omega (arith, lower, c .left .ensures, start .pre .1, start .pre .0 .sized .rows-fit)
 
 returns-2 : tie.Need-returns-2
-returns-2 c = λ _. c .word-at .ensures .0 ∙ ap (wordIn (c .before .before .before .before .before .before .args .sets .now)) (c .before .left .ensures)
+returns-2 c = (
+  (λ _. c .word-at .ensures .0 ∙ ap (wordIn (c .before .before .before .before .before .before .args .sets .now)) (c .before .left .ensures)),
+  λ e. absurd (omega (arith, c .before .before .before .kind .ensures, c .before .before .if1 .left)),
+)
 
 pub left-set-spec : {M : Type 1} → statement M
 left-set-spec = tie.close (tie.spec kind-requires returns left-requires word-at-requires returns-2)

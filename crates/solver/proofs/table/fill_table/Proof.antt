@@ -24,7 +24,8 @@ rank-row-requires c κs = search needs
 fill-moves-requires : tie.Need-fill-moves-requires
 fill-moves-requires c κs =
     let pre = c .before .before .before .before .before .before .before .before .before .before .before .before .before .before .before .before .before .before .before .before .pre in
-    (pre .0, (pre .1 .0, (omega (arith, c .before .before .before .before .rank-row .ensures .1, c .before .before .before .before .before .before .before .before .before .before .before .before .before .before .label-rows .ensures .1 .1, pre .1 .1), omega (arith, c .before .before .before .before .before .before .before .before .before .before .before .before .before .before .label-rows .ensures .1 .1, pre .1 .1))))
+    let ranks = c .before .before .before .before .rank-row in
+    (pre .0, (pre .1 .0, (omega (arith, c .before .before .before .before .rank-row .ensures .1, c .before .before .before .before .before .before .before .before .before .before .before .before .before .before .label-rows .ensures .1 .1, pre .1 .1), omega (arith, c .before .before .before .before .before .before .before .before .before .before .before .before .before .before .label-rows .ensures .1 .1, pre .1 .1), (c .before .before .before .before .before .before .right-set .result, ranks .ensures .0))))
 
 same-length : tie.Need-same-length
 same-length c = search needs
@@ -45,8 +46,8 @@ returns c =
     let ranks = c .before .before .before .before .before .before .before .rank-row in
     let moves = c .before .before .fill-moves in
     row-table b (pre .0) (args .i) (pre .1 .0 .0) (pre .1 .0 .1) (left .result) (right .result)
-    (λ uses. subst (RowSet b (L.left b (args .i))) (sym (left .ensures uses)) (sets .ensures .0 (L.left b (args .i)) (row .left-lower uses)))
-    (λ uses. subst (RowSet b (L.right b (args .i))) (sym (right .ensures uses)) (sets .ensures .0 (L.right b (args .i)) (row .right-lower uses)))
+    (λ uses. subst (RowSet b (L.left b (args .i))) (sym (left .ensures .0 uses)) (sets .ensures .0 (L.left b (args .i)) (row .left-lower uses)))
+    (λ uses. subst (RowSet b (L.right b (args .i))) (sym (right .ensures .0 uses)) (sets .ensures .0 (L.right b (args .i)) (row .right-lower uses)))
     (ranks .last .1 .1 .1 .1 .0) (moves .last .1 .1 .1 .1 .0) (ranks .ensures .0) (moves .ensures .0 (right .result) (ranks .ensures .0))
     (omega (arith, ranks .ensures .1, sets .ensures .1 .1, pre .1 .1)) (omega (arith, moves .ensures .1, sets .ensures .1 .1, pre .1 .1))
 
