@@ -5,3 +5,4 @@ pub mod Offsets
 pub mod ByNumber
 pub mod Lower
 pub mod Aims
+pub mod Exist

@@ -1,5 +1,4 @@
 -- Ranks that have the local facts: what lowering in place keeps, that it comes to rest, and a solver over lists.
-pub mod Exist
 pub mod Sides
 pub mod Sweeping
 pub mod Solver

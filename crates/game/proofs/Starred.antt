@@ -8,16 +8,16 @@ use Rattle.block.specs.Layout as L
 use Rattle.block.specs.Layout.{Block}
 use Rattle.block.specs.Valid.{RowFits}
 use Rattle.game.specs.Position.{Position, IsPosition, positions, Allowed}
-use Rattle.game.specs.Play.{CoalitionWins}
+use Rattle.game.specs.Play.{CoalitionWins, OpponentsWin}
 use Rattle.game.specs.Table.{Table, never, RankIs, rankAt, ReplyIs, Decided}
-use Rattle.game.specs.Facts.{Facts}
+use Rattle.game.specs.Facts.{RowsDecided, Facts}
 use Rattle.game.specs.Model.{structureOf, RowSet, arenaOf, objectiveOf}
 use Rattle.game.specs.Catch.{catch, catch7, at, starred, AllHold}
-use Rattle.game.proofs.Numbers.Decide.{from-yes, isYes}
+use Rattle.game.proofs.Numbers.Decide.{from-yes, isYes, not?}
 use Rattle.game.proofs.Bridge.Proper.{Proper}
-use Rattle.game.proofs.Whole.Decided.{decided, rank-by-plays, reply-by-plays}
-use Rattle.game.proofs.Local.Decidable.{position?, allowed?}
-use Rattle.game.proofs.Local.Aims.{RowsDecided, reply-is?}
+use Rattle.game.proofs.Whole.Decided.{decided, unclaimed-opponents, rank-by-plays, reply-by-plays}
+use Rattle.game.proofs.Local.Decidable.{position?, allowed?, claims?}
+use Rattle.game.proofs.Local.Aims.{reply-is?}
 use Rattle.game.proofs.Solving.Solver.{lowering}
 use Rattle.game.proofs.Solving.Determined.{listed, solvedRanks, foundMoves, solvedTable, solved-facts}
 use Rattle.game.proofs.Blocks.Tests.{tests-proper, row-fits?, strategic?}
@@ -118,6 +118,11 @@ start = from-yes (position? (arenaOf catch 3) (at 0 5)) tt
 rows3 : RowsDecided (arenaOf catch 3) (objectiveOf catch 3)
 rows3 = decided-by-sets catch 3 7 4 set2 set0
 
+lost3 : OpponentsWin (arenaOf catch 3) (objectiveOf catch 3) (at 0 5)
+lost3 =
+    unclaimed-opponents (arenaOf catch 3) catch-proper table3 (objectiveOf catch 3) facts3 (at 0 5) start
+    (from-yes (not? (claims? (arenaOf catch 3) table3 (objectiveOf catch 3) (at 0 5))) tt)
+
 -- Catch with the seventh row
 catch7-proper : Proper (structureOf catch7)
 catch7-proper = tests-proper catch7 tt
@@ -164,12 +169,14 @@ starred-hold = (
                       (
                         table3,
                         decided-by-table catch catch-proper 3 table3 facts3,
+                        lost3,
                         reply-by-table catch catch-proper 3 table3 facts3 rows3 (at 0 5) start 1 4 (from-yes (allowed? (arenaOf catch 3) (at 0 5) 1) tt) tt,
                       ),
                       (
                         (
                           table3,
                           decided-by-table catch catch-proper 3 table3 facts3,
+                          lost3,
                           reply-by-table catch catch-proper 3 table3 facts3 rows3 (at 0 5) start 0 0 (from-yes (allowed? (arenaOf catch 3) (at 0 5) 0) tt) tt,
                         ),
                         (

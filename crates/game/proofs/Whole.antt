@@ -8,3 +8,4 @@ pub mod Losing
 pub mod Replies
 pub mod Decided
 pub mod Unique
+pub mod Demand

@@ -8,10 +8,11 @@ use Rattle.block.specs.Layout as L
 use Rattle.block.specs.Layout.{Block, blockBytes, placeOf}
 use Rattle.block.specs.declared.layout.Place.{Place}
 use Rattle.block.specs.declared.layout.Place.the-variants.{Header, Mask, Count, Cost, Next, Field}
-use Rattle.game.specs.Position.{Position, position, IsPosition}
-use Rattle.game.specs.Play.{CoalitionWins}
-use Rattle.game.specs.Table.{Table, RankIs, ReplyIs, Decided, moveAt}
+use Rattle.game.specs.Position.{Position, position}
+use Rattle.game.specs.Play.{CoalitionWins, OpponentsWin}
+use Rattle.game.specs.Table.{Table, RankIs, ReplyIs, moveAt}
 use Rattle.game.specs.Model.{RowSet, arenaOf, objectiveOf}
+use Rattle.game.specs.Demand.{TableOf}
 
 -- what a line of the text puts where
 abbrev pub Line : Type 0
@@ -95,14 +96,15 @@ pub data Case : Type 0 where
   reply : Block → ℕ → Position → ℕ → ℕ → Case
   both : Case → Case → Case
 
--- it holds of the meaning. Move and reply are those of a table that is decided at every position
+-- it holds of the meaning. Move and reply are those of a table that is decided at every position, and a reply stands where the opponents win
 abbrev pub Holds : Case → Type 0
 Holds (set b i w) = RowSet b i w
 Holds (rank b i p n) = RankIs (arenaOf b i) (objectiveOf b i) p n
-Holds (move b i p m) = (X : Table) × ((x : Position) → IsPosition (arenaOf b i) x → Decided (arenaOf b i) X (objectiveOf b i) x) × (moveAt (arenaOf b i) X p ≡ m)
+Holds (move b i p m) = (X : Table) × TableOf b i X × (moveAt (arenaOf b i) X p ≡ m)
 Holds (reply b i p m r) =
     (X : Table)
-    × ((x : Position) → IsPosition (arenaOf b i) x → Decided (arenaOf b i) X (objectiveOf b i) x)
+    × TableOf b i X
+    × OpponentsWin (arenaOf b i) (objectiveOf b i) p
     × ReplyIs (arenaOf b i) X (objectiveOf b i) (CoalitionWins (arenaOf b i) (objectiveOf b i)) p m r
 Holds (both c d) = Holds c × Holds d
 

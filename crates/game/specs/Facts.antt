@@ -44,10 +44,10 @@ module _ (G : Arena) where
       → ((rank p ≡ 1) × CanForce p (λ x. left (x .state))) ⊎ ((rank p ≡ never) × CanAnswer p (λ x. left (x .state) → ⊥))
 
   -- lower rows are decided in every state
-  abbrev pub LeftDecided : Objective → Type 0
-  LeftDecided (until left right) = (q : ℕ) → q < G .structure .states → Dec (left q)
-  LeftDecided (always left) = (q : ℕ) → q < G .structure .states → Dec (left q)
-  LeftDecided (next left) = Unit {0}
+  abbrev pub RowsDecided : Objective → Type 0
+  RowsDecided (until left right) = ((q : ℕ) → q < G .structure .states → Dec (left q)) × ((q : ℕ) → q < G .structure .states → Dec (right q))
+  RowsDecided (always left) = (q : ℕ) → q < G .structure .states → Dec (left q)
+  RowsDecided (next left) = (q : ℕ) → q < G .structure .states → Dec (left q)
 
   module _ (X : Table) where
     -- the table's rank says that the coalition wins
@@ -72,4 +72,4 @@ module _ (G : Arena) where
     pub record Facts (t : Objective) : Type 0 where
       pub ranks : RankFacts t (rankAt G X)
       pub moves : (p : Position) → IsPosition G p → MoveIs G X t (Claims t) p (moveAt G X p)
-      pub decided : LeftDecided t
+      pub decided : RowsDecided t

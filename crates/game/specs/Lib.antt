@@ -8,4 +8,5 @@ pub mod Extremes
 pub mod Sweep
 pub mod Buffers
 pub mod Model
+pub mod Demand
 pub mod Catch

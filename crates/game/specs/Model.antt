@@ -8,9 +8,9 @@ use Rattle.block.specs.Layout as L
 use Rattle.block.specs.Layout.{Block}
 use Rattle.game.specs.Rbatl as R
 use Rattle.game.specs.Rbatl.{Bound, limit, unlimited, Fits, Bounds, Coalition, Formula, Structure, moveCost, Sat}
-use Rattle.game.specs.Position.{Arena, MoveOf, joint, stockBound, opponents}
+use Rattle.game.specs.Position.{Arena, MoveOf, joint, stockBound, opponents, full}
 use Rattle.game.specs.Play as P
-use Rattle.game.specs.Play.{Objective}
+use Rattle.game.specs.Play.{Objective, CoalitionWins}
 
 -- bit i of a mask
 abbrev pub bit : ℕ → ℕ → Bool
@@ -86,7 +86,12 @@ objectiveOf b i =
     let right = RowTrue b (L.right b i) in
     cond (eqb (L.kind b i) L.nextKind) (P.next left) (cond (eqb (L.kind b i) L.alwaysKind) (P.always left) (P.until left right))
 
--- the same with lower rows told by their sets
+-- w has the states whose positions at full stock the coalition of the strategic row i wins
+abbrev pub WonSet : Block → ℕ → ℕ → Type 0
+WonSet b i w =
+    (w < 2 ^ 32) × ((s : ℕ) → Bit w s ↔ ((s < L.states b) × CoalitionWins (arenaOf b i) (objectiveOf b i) (full (arenaOf b i) s)))
+
+-- what the row asks of a play, with lower rows told by their sets
 abbrev pub objectiveBy : ℕ → ℕ → ℕ → Objective
 objectiveBy k left right = cond (eqb k L.nextKind) (P.next (Bit left)) (cond (eqb k L.alwaysKind) (P.always (Bit left)) (P.until (Bit left) (Bit right)))
 

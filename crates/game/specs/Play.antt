@@ -1,10 +1,11 @@
 -- Plays from a position, and who wins there (document 01, "When a row is true", from "In a play from a position" on).
 -- Document 01's team is the coalition, the others its opponents, a plan a strategy of document 003.
+use mathlib.Core.List.{List, [], _∷_}
 use mathlib.Core.Logic.{_⊎_}
 use mathlib.Core.Path.{_≡_}
 use Prim.Native.Nat.{ℕ, zero, suc, _+_, _≤_, _<_}
 use Rattle.game.specs.Rbatl.{Fits, Computation, Strategy, prefix, IsStrategy, Within, NextOn, AlwaysOn, UntilOn}
-use Rattle.game.specs.Position.{Arena, Position, IsPosition, joint, part, budget, Move, Reply, cost, Affordable, outcome}
+use Rattle.game.specs.Position.{Arena, Position, IsPosition, joint, part, budget, Move, Reply, cost, Affordable, Allowed, outcome}
 
 -- what a strategic row asks of a play; left and right say in which states the lower rows are true
 pub data Objective : Type 1 where
@@ -45,6 +46,19 @@ pub record Play (G : Arena) : Type 0 where
 abbrev pub CounterStrategy : Type 0
 CounterStrategy = Position → ℕ → ℕ
 
+-- a turn of a play: the position, the coalition's move and the reply to it
+pub record Turn : Type 0 where
+  pub at : Position
+  pub move : ℕ
+  pub reply : ℕ
+
+-- with perfect recall: picks a move, or a reply to the present move, from the whole play so far, its latest turn first, and the position
+abbrev pub RecallStrategy : Type 0
+RecallStrategy = List Turn → Position → ℕ
+
+abbrev pub RecallCounter : Type 0
+RecallCounter = List Turn → Position → ℕ → ℕ
+
 module _ (G : Arena) where
   abbrev pub states : Play G → Computation
   states P i = P .at i .state
@@ -67,11 +81,31 @@ module _ (G : Arena) where
   abbrev pub IsCounterStrategy : CounterStrategy → Type 0
   IsCounterStrategy ρ = (p : Position) (m : ℕ) → IsPosition G p → Move G p m → Reply G p (ρ p m)
 
-  -- every move can be paid when its turn comes, and each beginning of the play costs at most the first position's stock
+  -- the turns of a play before the n-th, the latest first
+  abbrev pub past : Play G → ℕ → List Turn
+  past P zero = []
+  past P (suc n) = record { at = P .at n; move = P .move n; reply = P .reply n } ∷ past P n
+
+  abbrev pub FollowsRecall : RecallStrategy → Play G → Type 0
+  FollowsRecall μ P = (i : ℕ) → P .move i ≡ μ (past P i) (P .at i)
+
+  abbrev pub AnswersRecall : RecallCounter → Play G → Type 0
+  AnswersRecall ρ P = (i : ℕ) → P .reply i ≡ ρ (past P i) (P .at i) (P .move i)
+
+  -- its moves are affordable, whatever happened before
+  abbrev pub IsRecallStrategy : RecallStrategy → Type 0
+  IsRecallStrategy μ = (h : List Turn) (p : Position) → IsPosition G p → Allowed G p (μ h p)
+
+  abbrev pub IsRecallCounter : RecallCounter → Type 0
+  IsRecallCounter ρ = (h : List Turn) (p : Position) (m : ℕ) → IsPosition G p → Move G p m → Reply G p (ρ h p m)
+
+  -- every move can be paid when its turn comes, whoever chose it
+  abbrev pub Afforded : Play G → Type 0
+  Afforded P = (i : ℕ) → Affordable G (P .at i) (P .move i)
+
+  -- and each beginning of the play costs at most the first position's stock
   abbrev pub Paid : Play G → Type 0
-  Paid P =
-      ((i : ℕ) → Affordable G (P .at i) (P .move i))
-      × ((n r : ℕ) → r < G .structure .resources → Fits (spentOn P n r) (budget G (P .at 0) r))
+  Paid P = Afforded P × ((n r : ℕ) → r < G .structure .resources → Fits (spentOn P n r) (budget G (P .at 0) r))
 
   -- the strategy keeps within the position's stock
   abbrev pub KeepsWithin : Position → Strategy → Type 0
@@ -87,6 +121,11 @@ module _ (G : Arena) where
       (ρ : CounterStrategy)
       × IsCounterStrategy ρ
       × ((F : Strategy) → KeepsWithin p F → (P : Play G) → From p P → Follows F P → Answers ρ P → property (states P))
+
+  -- the same on every play against it whose moves are affordable, whoever chose them and from whatever memory
+  abbrev pub ForcesAll : Position → (Computation → Type 0) → Type 0
+  ForcesAll p property =
+      (ρ : CounterStrategy) × IsCounterStrategy ρ × ((P : Play G) → From p P → Afforded P → Answers ρ P → property (states P))
 
   abbrev pub CoalitionWins : Objective → Position → Type 0
   CoalitionWins t p = Enforces p (True t)

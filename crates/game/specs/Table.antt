@@ -6,7 +6,7 @@ use Prim.Native.Nat.{ℕ, _<_}
 use lib.Dec.{eqb}
 use Rattle.game.specs.Rbatl.{Computation, Strategy}
 use Rattle.game.specs.Position.{Arena, Position, IsPosition, number, positions, Reply, Allowed, outcome}
-use Rattle.game.specs.Play.{Objective, next, always, until, True, MetWithin, FalseWithin, Settled, Play, CounterStrategy, states, From, Follows, Answers, IsCounterStrategy, Paid, KeepsWithin, CoalitionWins, OpponentsWin, EnforcesWithin, ForcesWithin}
+use Rattle.game.specs.Play.{Objective, next, always, until, True, MetWithin, FalseWithin, Settled, Play, CounterStrategy, RecallStrategy, RecallCounter, states, From, Follows, Answers, IsCounterStrategy, FollowsRecall, AnswersRecall, IsRecallStrategy, IsRecallCounter, Afforded, Paid, KeepsWithin, ForcesAll, CoalitionWins, OpponentsWin, EnforcesWithin, ForcesWithin}
 
 -- the rank where nothing is enforced or forced, and the move where the coalition does not win
 abbrev pub never : ℕ
@@ -32,6 +32,21 @@ Smallest property n = property n × ((k : ℕ) → k < n → property k → ⊥)
 abbrev pub Fewest : (ℕ → Type 0) → ℕ → Type 0
 Fewest property n = ((n < never) × Smallest property n) ⊎ ((n ≡ never) × ((k : ℕ) → property k → ⊥))
 
+-- what the side that wins gets on a play from a position of rank n: the row true or false, for until and always within n moves
+abbrev pub WonOn : Objective → ℕ → Computation → Type 0
+WonOn (until left right) n λs = MetWithin left right λs n
+WonOn (always left) n λs = True (always left) λs
+WonOn (next left) n λs = True (next left) λs
+
+abbrev pub LostOn : Objective → ℕ → Computation → Type 0
+LostOn (until left right) n λs = True (until left right) λs → ⊥
+LostOn (always left) n λs = FalseWithin left λs n
+LostOn (next left) n λs = True (next left) λs → ⊥
+
+-- an until row is not met in fewer than n moves
+abbrev pub Unmet : (ℕ → Type 0) → (ℕ → Type 0) → Computation → ℕ → Type 0
+Unmet left right λs n = (k : ℕ) → k < n → MetWithin left right λs k → ⊥
+
 module _ (G : Arena) where
   -- until: the fewest moves within which the coalition can enforce the row. Always: the fewest within which the opponents,
   -- knowing the coalition's present move each time, can make left false. Next: 1 if the coalition can
@@ -39,6 +54,17 @@ module _ (G : Arena) where
   RankIs (until left right) p n = Fewest (EnforcesWithin G left right p) n
   RankIs (always left) p n = Fewest (ForcesWithin G left p) n
   RankIs (next left) p n = ((n ≡ 1) × CoalitionWins G (next left) p) ⊎ ((n ≡ never) × (CoalitionWins G (next left) p → ⊥))
+
+  -- nobody gets there in fewer than n moves. Until: every strategy within the stock allows a play that is not met sooner, and some counter-strategy
+  -- keeps every play whose moves are affordable, whoever chose them, from being met sooner. Always: some strategy within the stock keeps left
+  -- true that long, whatever the replies
+  abbrev pub NoSooner : Objective → Position → ℕ → Type 0
+  NoSooner (until left right) p n =
+      ((F : Strategy) → KeepsWithin G p F → (P : Play G) × From G p P × Follows G F P × Unmet left right (states G P) n)
+      × ForcesAll G p (λ λs. Unmet left right λs n)
+  NoSooner (always left) p n =
+      (F : Strategy) × KeepsWithin G p F × ((P : Play G) → From G p P → Follows G F P → (k : ℕ) → k < n → left (states G P k))
+  NoSooner (next left) p n = Unit {0}
 
   module _ (X : Table) where
     abbrev pub rankAt : Position → ℕ
@@ -100,26 +126,6 @@ module _ (G : Arena) where
     RankBelow (always left) p = rankAt p < never → rankAt p < positions G
     RankBelow (next left) p = Unit {0}
 
-    -- what the side that wins at p gets on a play from there: the row true or false, for until and always within rank moves
-    abbrev pub WonOn : Objective → Position → Computation → Type 0
-    WonOn (until left right) p λs = MetWithin left right λs (rankAt p)
-    WonOn (always left) p λs = True (always left) λs
-    WonOn (next left) p λs = True (next left) λs
-
-    abbrev pub LostOn : Objective → Position → Computation → Type 0
-    LostOn (until left right) p λs = True (until left right) λs → ⊥
-    LostOn (always left) p λs = FalseWithin left λs (rankAt p)
-    LostOn (next left) p λs = True (next left) λs → ⊥
-
-    -- and not in fewer moves: until, on some play of every strategy; always, on every play of some strategy
-    abbrev pub NoSooner : Objective → Position → Type 0
-    NoSooner (until left right) p =
-        (F : Strategy) → KeepsWithin G p F
-        → (P : Play G) × From G p P × Follows G F P × ((k : ℕ) → k < rankAt p → MetWithin left right (states G P) k → ⊥)
-    NoSooner (always left) p =
-        (F : Strategy) × KeepsWithin G p F × ((P : Play G) → From G p P → Follows G F P → (k : ℕ) → k < rankAt p → left (states G P k))
-    NoSooner (next left) p = Unit {0}
-
     -- demand 3 at the position p, about whole plays from p without end
     pub record Decided (t : Objective) (p : Position) : Type 0 where
       -- exactly one side wins
@@ -128,20 +134,32 @@ module _ (G : Arena) where
       -- the table says what plays say
       pub rank-is : RankIs t p (rankAt p)
       pub rank-below : RankBelow t p
-      pub no-sooner : NoSooner t p
+      pub no-sooner : NoSooner t p (rankAt p)
       pub move-is : MoveIs t (CoalitionWins G t) p (moveAt p)
-      -- the table can be played whatever the replies, and its replies against every strategy within the stock
-      pub table-plays : (ρ : CounterStrategy) → IsCounterStrategy G ρ → (P : Play G) × From G p P × ByTable P × Answers G ρ P
+      -- some rule gives the table's replies, and some strategy keeps within the stock
+      pub some-replies : (ρ : CounterStrategy) × IsCounterStrategy G ρ × ReplyRule t (CoalitionWins G t) ρ
+      pub some-strategy : (F : Strategy) × KeepsWithin G p F
+      -- the table can be played whatever the replies, chosen from the whole play so far; and against the table's replies there is a play of
+      -- every strategy within the stock, and of affordable moves however they are chosen
+      pub table-plays : (ρ : RecallCounter) → IsRecallCounter G ρ → (P : Play G) × From G p P × ByTable P × AnswersRecall G ρ P
       pub reply-plays :
           (ρ : CounterStrategy) → ReplyRule t (CoalitionWins G t) ρ → (F : Strategy) → KeepsWithin G p F
           → (P : Play G) × From G p P × Follows G F P × Answers G ρ P
+      pub recall-plays :
+          (ρ : CounterStrategy) → ReplyRule t (CoalitionWins G t) ρ → (μ : RecallStrategy) → IsRecallStrategy G μ
+          → (P : Play G) × From G p P × FollowsRecall G μ P × Answers G ρ P
       -- where the coalition wins: every play by the table, whatever the replies, is paid and won; it idles only after the row is settled
-      pub by-table : CoalitionWins G t p → (P : Play G) → From G p P → ByTable P → Paid G P × WonOn t p (states G P)
+      pub by-table : CoalitionWins G t p → (P : Play G) → From G p P → ByTable P → Paid G P × WonOn t (rankAt p) (states G P)
       pub idles-settled :
           CoalitionWins G t p → (P : Play G) → From G p P → ByTable P
           → (n : ℕ) → moveAt (P .at n) ≡ noMove → Settled t (states G P) n
-      -- elsewhere: every strategy within the stock loses its play against the replies; a position that it wins comes only after the row is settled
+      -- elsewhere: every play against the replies whose moves are affordable, whoever chose them and from whatever memory, is lost; a position
+      -- that the coalition wins comes only after the row is settled. So every strategy within the stock loses its play
       pub by-replies :
           OpponentsWin G t p → (ρ : CounterStrategy) → ReplyRule t (CoalitionWins G t) ρ
+          → (P : Play G) → From G p P → Afforded G P → Answers G ρ P
+          → LostOn t (rankAt p) (states G P) × ((n : ℕ) → CoalitionWins G t (P .at n) → Settled t (states G P) n)
+      pub strategies-lose :
+          OpponentsWin G t p → (ρ : CounterStrategy) → ReplyRule t (CoalitionWins G t) ρ
           → (F : Strategy) → KeepsWithin G p F → (P : Play G) → From G p P → Follows G F P → Answers G ρ P
-          → LostOn t p (states G P) × ((n : ℕ) → CoalitionWins G t (P .at n) → Settled t (states G P) n)
+          → LostOn t (rankAt p) (states G P) × ((n : ℕ) → CoalitionWins G t (P .at n) → Settled t (states G P) n)

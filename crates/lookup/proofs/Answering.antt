@@ -23,14 +23,14 @@ use Rattle.game.specs.Model.{arenaOf, objectiveOf, objectiveBy}
 use Rattle.game.proofs.Blocks.Passing.{valid-proper}
 use Rattle.game.proofs.Blocks.Tables.{table-decided}
 use Rattle.game.proofs.Solving.Determined.{foundMoves, moves-found}
-use Rattle.game.proofs.Solving.Exist.{good-exists}
+use Rattle.game.proofs.Local.Exist.{good-exists}
 use Rattle.game.proofs.Whole.Decided.{claims-win, wins-claimed}
 use Rattle.game.proofs.Whole.Unique.{smallest-unique}
 use Rattle.solver.specs.Rows.{ClaimsBy}
 use Rattle.solver.proofs.Labelling.{words-decided, claims-by, retold-claims, row-retold, facts-told}
 use Rattle.lookup.specs.Aims.{Stands, AimBy, Aimed, GoodBy, FoundBelow}
 use Rattle.solver.specs.Labels.{Prepared}
-use Rattle.lookup.specs.Calls.{TableOf, CoalitionMove}
+use Rattle.game.specs.Demand.{TableOf, RowMove}
 
 -- until at rank 0, by the kind of the row
 pub met-by : (b : Block) (i left right : ℕ) (X : Table) (p : Position) → Strategic (L.kind b i) → Met (arenaOf b i) X (objectiveBy (L.kind b i) left right) p → (L.kind b i ≡ 5) × (rankAt (arenaOf b i) X p ≡ 0)
@@ -106,10 +106,10 @@ module _ {b : Block} (valid : Valid b) {i : ℕ} (inside : i < L.rows b) (strate
   told-claim : Claims (arenaOf b i) X told p
   told-claim = transport (claims-by b i left right X p) (wins-claimed-by valid inside strategic (at .ready) p fits (coalition-wins at told-wins))
 
-  chosen : (m : ℕ) → m < 64 → m ≡ moveAt (arenaOf b i) X p → CoalitionMove b i p m
-  chosen m small e = record { table = X; decided = ready-decided valid inside strategic (at .ready); wins = coalition-wins at told-wins; move = e; small = small }
+  chosen : (m : ℕ) → m < 64 → m ≡ moveAt (arenaOf b i) X p → RowMove b i p m
+  chosen m small e = record { table = X; is-table = ready-decided valid inside strategic (at .ready); wins = coalition-wins at told-wins; move = e; small = small }
 
-  pub coalition-met : L.kind b i ≡ 5 → own ≡ 0 → CoalitionMove b i p 0
+  pub coalition-met : L.kind b i ≡ 5 → own ≡ 0 → RowMove b i p 0
   coalition-met kind zero = chosen 0 (omega arith) (sym (facts .moves p fits .met told-claim (by-met b i left right X p kind (sym (at .rank) ∙ zero))))
 
   -- a good move by the rank that is known is one by the table's
@@ -122,7 +122,7 @@ module _ {b : Block} (valid : Valid b) {i : ℕ} (inside : i < L.rows b) (strate
   by-good : (m : ℕ) → Good (arenaOf b i) X told p m → GoodBy b i left own ranks p m
   by-good m (allowed, each) = (allowed, λ r reply. transport (sym (aims m r)) (each r reply))
 
-  pub coalition-found : (L.kind b i ≡ 5 → own ≡ 0 → ⊥) → (m : ℕ) → FoundBelow (GoodBy b i left own ranks p) m → CoalitionMove b i p m
+  pub coalition-found : (L.kind b i ≡ 5 → own ≡ 0 → ⊥) → (m : ℕ) → FoundBelow (GoodBy b i left own ranks p) m → RowMove b i p m
   coalition-found unmet m found = ⊎-elim
       (λ (small, least). chosen m small (smallest-unique (GoodBy b i left own ranks p) (Good (arenaOf b i) X told p) good by-good m (moveAt (arenaOf b i) X p) least
       (facts .moves p fits .best told-claim not-met)))

@@ -4,6 +4,5 @@ pub mod Searching
 pub mod Answering
 pub mod Refusing
 pub mod Replying
-pub mod Playing
 pub mod Listing
 pub mod Calls

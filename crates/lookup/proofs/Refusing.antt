@@ -19,7 +19,8 @@ use Rattle.game.specs.Model.{boundsOf, arenaOf, objectiveOf}
 use Rattle.game.proofs.Numbers.Decide.{lt?}
 use Rattle.solver.specs.Calls.{roomBytes, NoChoice}
 use Rattle.lookup.specs.Aims.{NoPosition}
-use Rattle.lookup.specs.Calls.{CoalitionMove, OpponentsReply, CoalitionAnswer, OpponentsAnswer, Unplaced, Found, MoveFound, ReplyFound, Call}
+use Rattle.game.specs.Demand.{RowMove, RowReply}
+use Rattle.lookup.specs.Calls.{CoalitionAnswer, OpponentsAnswer, Unplaced, Found, MoveFound, ReplyFound, Call}
 use Rattle.lookup.specs.declared.answer.Answer.{Answer}
 use Rattle.lookup.specs.declared.answer.Answer.the-variants as answer
 
@@ -155,29 +156,29 @@ module _ (b : Block) (i s : ℕ) (stocks : List ℕ) where
 
     pub move-answered : (a : Answer) → CoalitionAnswer b i (position s stocks) a → MoveFound b i s stocks room a
     move-answered (answer.Value m) found = record {
-      number = decided-late b i s stocks room LateMove late-move (refusal.WrongSide ∷ []) (CoalitionMove b i (position s stocks)) room-long passed chosen fits
+      number = decided-late b i s stocks room LateMove late-move (refusal.WrongSide ∷ []) (RowMove b i (position s stocks)) room-long passed chosen fits
           (later (only-late refusal.WrongSide LateMove (λ h. h) (omega arith) (λ (_, loses). loses (found .wins))) (none refl));
       value = found;
     }
     move-answered (answer.Refused r) (e, loses) = record {
-      number = decided-late b i s stocks room LateMove late-move (refusal.WrongSide ∷ []) (CoalitionMove b i (position s stocks)) room-long passed chosen fits (here (inr (refl, loses)) (ap numberOf e));
+      number = decided-late b i s stocks room LateMove late-move (refusal.WrongSide ∷ []) (RowMove b i (position s stocks)) room-long passed chosen fits (here (inr (refl, loses)) (ap numberOf e));
       value = tt;
     }
 
     pub reply-answered : (m : ℕ) → (OpponentsWin (arenaOf b i) (objectiveOf b i) (position s stocks) → CoalitionWins (arenaOf b i) (objectiveOf b i) (position s stocks) → ⊥)
         → (a : Answer) → OpponentsAnswer b i (position s stocks) m a → ReplyFound b i s stocks m room a
     reply-answered m not-both (answer.Value r) (found, allowed) = record {
-      number = decided-late b i s stocks room (LateReply m) (late-reply m) (refusal.WrongSide ∷ refusal.Move ∷ []) (OpponentsReply b i (position s stocks) m) room-long passed chosen fits
+      number = decided-late b i s stocks room (LateReply m) (late-reply m) (refusal.WrongSide ∷ refusal.Move ∷ []) (RowReply b i (position s stocks) m) room-long passed chosen fits
           (later (only-late refusal.WrongSide (LateReply m) (λ h. h) (omega arith) (⊎-elim (λ (_, wins). not-both (found .loses) wins) (λ (e, _). omega (arith, ap numberOf e))))
           (later (only-late refusal.Move (LateReply m) (λ h. h) (omega arith) (⊎-elim (λ (e, _). omega (arith, ap numberOf e)) (λ (_, fails). fails allowed))) (none refl)));
       value = found;
     }
     reply-answered m not-both (answer.Refused r) (inl (e, wins)) = record {
-      number = decided-late b i s stocks room (LateReply m) (late-reply m) (refusal.WrongSide ∷ refusal.Move ∷ []) (OpponentsReply b i (position s stocks) m) room-long passed chosen fits (here (inr (inl (refl, wins))) (ap numberOf e));
+      number = decided-late b i s stocks room (LateReply m) (late-reply m) (refusal.WrongSide ∷ refusal.Move ∷ []) (RowReply b i (position s stocks) m) room-long passed chosen fits (here (inr (inl (refl, wins))) (ap numberOf e));
       value = tt;
     }
     reply-answered m not-both (answer.Refused r) (inr (e, (loses, fails))) = record {
-      number = decided-late b i s stocks room (LateReply m) (late-reply m) (refusal.WrongSide ∷ refusal.Move ∷ []) (OpponentsReply b i (position s stocks) m) room-long passed chosen fits
+      number = decided-late b i s stocks room (LateReply m) (late-reply m) (refusal.WrongSide ∷ refusal.Move ∷ []) (RowReply b i (position s stocks) m) room-long passed chosen fits
           (later (only-late refusal.WrongSide (LateReply m) (λ h. h) (omega arith) (⊎-elim (λ (_, wins). loses wins) (λ (e, _). omega (arith, ap numberOf e)))) (here (inr (inr (refl, fails))) (ap numberOf e)));
       value = tt;
     }

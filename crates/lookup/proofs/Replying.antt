@@ -21,11 +21,11 @@ use Rattle.game.proofs.Bridge.Plays.{outcome-fits}
 use Rattle.game.proofs.Local.Lower.{Retold, same-next, same-always, same-until}
 use Rattle.game.proofs.Blocks.Passing.{valid-proper}
 use Rattle.game.proofs.Blocks.Rowwise.{row-determined}
-use Rattle.game.proofs.Solving.Exist.{counter-exists}
+use Rattle.game.proofs.Local.Exist.{counter-exists}
 use Rattle.game.proofs.Whole.Decided.{unclaimed-opponents, reply-by-plays}
 use Rattle.solver.proofs.Labelling.{claims-by, retold-claims, row-retold}
 use Rattle.lookup.specs.Aims.{Stands, CounterBy, FailedBy, Aimed, CountersBy, FoundBelow}
-use Rattle.lookup.specs.Calls.{OpponentsReply}
+use Rattle.game.specs.Demand.{RowReply}
 use Rattle.lookup.proofs.Answering.{ready-table, ready-facts, row-facts, ready-decided, claimed-wins, coalition-loses}
 
 -- a reply that is right over lower rows' sets is right over their truth
@@ -94,10 +94,10 @@ module _ {b : Block} (valid : Valid b) {i : ℕ} (inside : i < L.rows b) (strate
   facts : Facts (arenaOf b i) X (objectiveOf b i)
   facts = row-facts valid inside strategic (at .ready)
 
-  replied : (r : ℕ) → r < 64 → ReplyIs (arenaOf b i) X told (Claims (arenaOf b i) X told) p m r → OpponentsReply b i p m r
+  replied : (r : ℕ) → r < 64 → ReplyIs (arenaOf b i) X told (Claims (arenaOf b i) X told) p m r → RowReply b i p m r
   replied r small right-one = record {
     table = X;
-    decided = ready-decided valid inside strategic (at .ready);
+    is-table = ready-decided valid inside strategic (at .ready);
     loses = unclaimed-opponents (arenaOf b i) (valid-proper b valid) X (objectiveOf b i) facts p fits row-unclaimed;
     reply = reply-by-plays (arenaOf b i) (valid-proper b valid) X (objectiveOf b i) facts p fits m r allowed (retold-reply (arenaOf b i) (valid-proper b valid) X p fits m allowed r row-told right-one);
     small = small;
@@ -106,7 +106,7 @@ module _ {b : Block} (valid : Valid b) {i : ℕ} (inside : i < L.rows b) (strate
   fails : FailedBy (L.kind b i) left right own (p .state) ≡ Failed (arenaOf b i) X told p
   fails = ap (λ (x : ℕ). FailedBy (L.kind b i) left right x (p .state)) (at .rank) ∙ failed-by b i left right X p
 
-  pub opponents-failed : FailedBy (L.kind b i) left right own (p .state) → OpponentsReply b i p m 0
+  pub opponents-failed : FailedBy (L.kind b i) left right own (p .state) → RowReply b i p m 0
   opponents-failed over = replied 0 (omega arith) (record { won = λ claim. absurd (told-unclaimed claim); failed = λ _. refl; best = λ _ unfailed. absurd (unfailed (transport fails over)) })
 
   -- a counter by the rank that is known is one by the table's
@@ -119,7 +119,7 @@ module _ {b : Block} (valid : Valid b) {i : ℕ} (inside : i < L.rows b) (strate
   by-counter : (r : ℕ) → Reply (arenaOf b i) p r × CounterAim (arenaOf b i) X told (Claims (arenaOf b i) X told) p (outcome (arenaOf b i) p m r) → CountersBy b i left own ranks p m r
   by-counter r (reply, aim) = (reply, transport (sym (aims r)) aim)
 
-  pub opponents-found : (FailedBy (L.kind b i) left right own (p .state) → ⊥) → (r : ℕ) → FoundBelow (CountersBy b i left own ranks p m) r → OpponentsReply b i p m r
+  pub opponents-found : (FailedBy (L.kind b i) left right own (p .state) → ⊥) → (r : ℕ) → FoundBelow (CountersBy b i left own ranks p m) r → RowReply b i p m r
   opponents-found unfailed r found = ⊎-elim
       (λ (small, (h, none)). replied r small (record {
         won = λ claim. absurd (told-unclaimed claim);

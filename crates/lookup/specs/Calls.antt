@@ -4,16 +4,15 @@ use mathlib.Core.Logic.{_⊎_}
 use mathlib.Core.Path.{_≡_}
 use Prim.Native.Nat.{ℕ, _<_}
 use lib.ListN.{length}
-use Rattle.block.specs.Layout as L
 use Rattle.block.specs.Layout.{Block}
 use Rattle.block.specs.Refusal.{numberOf, First}
 use Rattle.block.specs.Check.{Broken, blockOrder}
 use Rattle.block.specs.declared.refusal.Refusal.{Refusal}
 use Rattle.block.specs.declared.refusal.Refusal.the-variants as refusal
-use Rattle.game.specs.Position.{Position, position, IsPosition, Allowed}
-use Rattle.game.specs.Play.{CoalitionWins, OpponentsWin}
-use Rattle.game.specs.Table.{Table, moveAt, ReplyIs, Decided}
+use Rattle.game.specs.Position.{Position, position, Allowed}
+use Rattle.game.specs.Play.{CoalitionWins}
 use Rattle.game.specs.Model.{arenaOf, objectiveOf}
+use Rattle.game.specs.Demand.{RowMove, RowReply}
 use Rattle.solver.specs.Calls.{roomBytes, RoomAfter, NoChoice}
 use Rattle.lookup.specs.Aims.{NoPosition}
 use Rattle.lookup.specs.declared.answer.Answer.{Answer}
@@ -23,26 +22,6 @@ use Rattle.lookup.specs.declared.answer.Answer.the-variants as answer
 abbrev pub answerNumber : Answer → ℕ
 answerNumber (answer.Value n) = 0
 answerNumber (answer.Refused r) = numberOf r
-
--- a table that is decided at every position, of which there is one only (game's proofs/Whole/Unique)
-abbrev pub TableOf : Block → ℕ → Table → Type 0
-TableOf b i X = (y : Position) → IsPosition (arenaOf b i) y → Decided (arenaOf b i) X (objectiveOf b i) y
-
--- m is the team's move at p: the table's, where the team wins
-pub record CoalitionMove (b : Block) (i : ℕ) (p : Position) (m : ℕ) : Type 0 where
-  pub table : Table
-  pub decided : TableOf b i table
-  pub wins : CoalitionWins (arenaOf b i) (objectiveOf b i) p
-  pub move : m ≡ moveAt (arenaOf b i) table p
-  pub small : m < L.maxJoint
-
--- r is the reply at p to the move m, where the others win
-pub record OpponentsReply (b : Block) (i : ℕ) (p : Position) (m r : ℕ) : Type 0 where
-  pub table : Table
-  pub decided : TableOf b i table
-  pub loses : OpponentsWin (arenaOf b i) (objectiveOf b i) p
-  pub reply : ReplyIs (arenaOf b i) table (objectiveOf b i) (CoalitionWins (arenaOf b i) (objectiveOf b i)) p m r
-  pub small : r < L.maxJoint
 
 -- the conditions that both calls refuse: those of the block and the room, 8 and 9
 abbrev pub Unplaced : Block → ℕ → ℕ → List ℕ → List ℕ → Refusal → Type 0
@@ -81,10 +60,10 @@ pub record Found (Refuses : Refusal → Type 0) (order : List Refusal) (right : 
   pub value : ValueIs right a
 
 abbrev pub MoveFound : Block → ℕ → ℕ → List ℕ → List ℕ → Answer → Type 0
-MoveFound b i s stocks room = Found (Unmoved b i s stocks room) moveOrder (CoalitionMove b i (position s stocks))
+MoveFound b i s stocks room = Found (Unmoved b i s stocks room) moveOrder (RowMove b i (position s stocks))
 
 abbrev pub ReplyFound : Block → ℕ → ℕ → List ℕ → ℕ → List ℕ → Answer → Type 0
-ReplyFound b i s stocks m room = Found (Unanswered b i s stocks m room) replyOrder (OpponentsReply b i (position s stocks) m)
+ReplyFound b i s stocks m room = Found (Unanswered b i s stocks m room) replyOrder (RowReply b i (position s stocks) m)
 
 -- and the room, before and after the call
 pub record Call (Refuses : Refusal → Type 0) (order : List Refusal) (right : ℕ → Type 0) (room room′ : List ℕ) (a : Answer) : Type 0 where
@@ -92,19 +71,19 @@ pub record Call (Refuses : Refusal → Type 0) (order : List Refusal) (right : �
   pub room-after : RoomAfter room room′ (answerNumber a)
 
 abbrev pub MoveCall : Block → ℕ → ℕ → List ℕ → List ℕ → List ℕ → Answer → Type 0
-MoveCall b i s stocks room = Call (Unmoved b i s stocks room) moveOrder (CoalitionMove b i (position s stocks)) room
+MoveCall b i s stocks room = Call (Unmoved b i s stocks room) moveOrder (RowMove b i (position s stocks)) room
 
 abbrev pub ReplyCall : Block → ℕ → ℕ → List ℕ → ℕ → List ℕ → List ℕ → Answer → Type 0
-ReplyCall b i s stocks m room = Call (Unanswered b i s stocks m room) replyOrder (OpponentsReply b i (position s stocks) m) room
+ReplyCall b i s stocks m room = Call (Unanswered b i s stocks m room) replyOrder (RowReply b i (position s stocks) m) room
 
 -- the same of a position that exists in a row that is chosen: 10, or a value
 abbrev pub CoalitionAnswer : Block → ℕ → Position → Answer → Type 0
-CoalitionAnswer b i p (answer.Value m) = CoalitionMove b i p m
+CoalitionAnswer b i p (answer.Value m) = RowMove b i p m
 CoalitionAnswer b i p (answer.Refused r) = (r ≡ refusal.WrongSide) × (CoalitionWins (arenaOf b i) (objectiveOf b i) p → ⊥)
 
 -- 10, 11, or a reply
 abbrev pub OpponentsAnswer : Block → ℕ → Position → ℕ → Answer → Type 0
-OpponentsAnswer b i p m (answer.Value r) = OpponentsReply b i p m r × Allowed (arenaOf b i) p m
+OpponentsAnswer b i p m (answer.Value r) = RowReply b i p m r × Allowed (arenaOf b i) p m
 OpponentsAnswer b i p m (answer.Refused r) =
     ((r ≡ refusal.WrongSide) × CoalitionWins (arenaOf b i) (objectiveOf b i) p)
     ⊎ ((r ≡ refusal.Move) × ((CoalitionWins (arenaOf b i) (objectiveOf b i) p → ⊥) × (Allowed (arenaOf b i) p m → ⊥)))

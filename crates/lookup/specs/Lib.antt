@@ -1,6 +1,5 @@
 -- What the calls about one position or one row promise.
 pub mod Aims
 pub mod Calls
-pub mod Plays
 pub mod Sets
 pub mod States

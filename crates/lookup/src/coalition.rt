@@ -16,13 +16,13 @@ ghost use Rattle.block.specs.Layout as L;
 ghost use Rattle.block.specs.Valid.{Valid};
 ghost use Rattle.game.specs.Position.{position, IsPosition};
 ghost use Rattle.game.specs.Model.{arenaOf};
+ghost use Rattle.game.specs.Demand.{Demand3};
 ghost use Rattle.lookup.specs.Calls.{CoalitionAnswer, MoveFound, MoveCall};
-ghost use Rattle.lookup.specs.Plays.{CoalitionDemand};
 
 // The team's move at a position of a strategic row.
-pub fn coalition_at(block: &[u8], i: usize, s: usize, stocks: &[u8], room: &mut [u8]) -> Answer
+fn coalition_at(block: &[u8], i: usize, s: usize, stocks: &[u8], room: &mut [u8]) -> Answer
     requires { ⌜ Valid (now block) ⌝ }
-    requires { ⌜ (i < L.rows (now block)) × L.Strategic (L.kind (now block) i) × (L.resources (now block) ≤ length (now stocks)) × (12288 ≤ length (now room)) ⌝ }
+    requires { ⌜ (i < L.rows (now block)) × L.Strategic (L.kind (now block) i) × (L.resources (now block) ≤ length (now stocks)) × (length (now room) ≡ 12288) ⌝ }
     requires { ⌜ IsPosition (arenaOf (now block) i) (position s (now stocks)) ⌝ }
     ensures { λ a. ⌜ CoalitionAnswer (now (block .entry)) i (position s (now (stocks .entry))) a ⌝ }
     ensures { λ _. ⌜ length (now (room .exit)) ≡ length (now (room .entry)) ⌝ }
@@ -68,7 +68,7 @@ pub fn coalition_move(
     room: &mut [u8],
 ) -> Answer
     ensures { λ a. ⌜ MoveCall (now (block .entry)) i s (stock0 ∷ stock1 ∷ []) (now (room .entry)) (now (room .exit)) a ⌝ }
-    ensures { λ _. ⌜ CoalitionDemand (now (block .entry)) i ⌝ }
+    ensures { λ _. ⌜ Demand3 (now (block .entry)) i ⌝ }
 {
     if block.len() != layout::BLOCK_BYTES {
         return Answer::Refused(Refusal::Length);

@@ -18,9 +18,9 @@ ghost use Rattle.block.specs.Layout as L;
 ghost use Rattle.block.specs.Valid.{Valid};
 ghost use Rattle.game.specs.Position.{position, IsPosition};
 ghost use Rattle.game.specs.Model.{arenaOf};
+ghost use Rattle.game.specs.Demand.{Demand3};
 ghost use Rattle.lookup.specs.Aims.{FailedBy};
 ghost use Rattle.lookup.specs.Calls.{OpponentsAnswer, ReplyFound, ReplyCall};
-ghost use Rattle.lookup.specs.Plays.{OpponentsDemand};
 
 // Whether the row has failed already in state s, at a position of rank own.
 fn failed(kind: usize, left: usize, right: usize, own: usize, s: usize) -> bool
@@ -40,7 +40,7 @@ fn failed(kind: usize, left: usize, right: usize, own: usize, s: usize) -> bool
 }
 
 // The reply to the move m at a position of a strategic row.
-pub fn opponents_at(
+fn opponents_at(
     block: &[u8],
     i: usize,
     s: usize,
@@ -49,7 +49,7 @@ pub fn opponents_at(
     room: &mut [u8],
 ) -> Answer
     requires { ⌜ Valid (now block) ⌝ }
-    requires { ⌜ (i < L.rows (now block)) × L.Strategic (L.kind (now block) i) × (L.resources (now block) ≤ length (now stocks)) × (12288 ≤ length (now room)) ⌝ }
+    requires { ⌜ (i < L.rows (now block)) × L.Strategic (L.kind (now block) i) × (L.resources (now block) ≤ length (now stocks)) × (length (now room) ≡ 12288) ⌝ }
     requires { ⌜ IsPosition (arenaOf (now block) i) (position s (now stocks)) ⌝ }
     ensures { λ a. ⌜ OpponentsAnswer (now (block .entry)) i (position s (now (stocks .entry))) m a ⌝ }
     ensures { λ _. ⌜ length (now (room .exit)) ≡ length (now (room .entry)) ⌝ }
@@ -106,7 +106,7 @@ pub fn reply(
     room: &mut [u8],
 ) -> Answer
     ensures { λ a. ⌜ ReplyCall (now (block .entry)) i s (stock0 ∷ stock1 ∷ []) m (now (room .entry)) (now (room .exit)) a ⌝ }
-    ensures { λ _. ⌜ OpponentsDemand (now (block .entry)) i ⌝ }
+    ensures { λ _. ⌜ Demand3 (now (block .entry)) i ⌝ }
 {
     if block.len() != layout::BLOCK_BYTES {
         return Answer::Refused(Refusal::Length);

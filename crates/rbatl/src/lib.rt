@@ -7,7 +7,7 @@ ghost use mathlib.Core.List.{[], _∷_};
 ghost use mathlib.Core.Path.{_≡_};
 ghost use Rattle.block.specs.Refusal.{numberOf, answerOf};
 ghost use Rattle.text.specs.Text.{readCall, blockAfter, Exact};
-ghost use Rattle.lookup.specs.Plays.{CoalitionDemand, OpponentsDemand};
+ghost use Rattle.game.specs.Demand.{Demand3};
 ghost use Rattle.rbatl.specs.Answer.{minus, CheckAnswer, readAnswer, WriteAnswer, LabelAnswer, TableAnswer, Small, answerCode, MoveAnswer, ReplyAnswer, StatesAnswer};
 
 fn refused(r: Refusal) -> i32
@@ -85,6 +85,7 @@ pub extern "C" fn rbatl_label(block: &[u8], sets: &mut [u8], room: &mut [u8]) ->
 #[no_mangle]
 pub extern "C" fn rbatl_table(block: &[u8], row: u8, ranks: &mut [u8], moves: &mut [u8]) -> i32
     ensures { λ r. ⌜ TableAnswer (now (block .entry)) row (now (ranks .entry)) (now (moves .entry)) (now (ranks .exit)) (now (moves .exit)) r ⌝ }
+    ensures { λ _. ⌜ Demand3 (now (block .entry)) row ⌝ }
 {
     answer(solver::table::table(block, row as usize, ranks, moves))
 }
@@ -99,7 +100,7 @@ pub extern "C" fn rbatl_move(
     room: &mut [u8],
 ) -> i32
     ensures { λ r. ⌜ MoveAnswer (now (block .entry)) row state (stock0 ∷ stock1 ∷ []) (now (room .entry)) (now (room .exit)) r ⌝ }
-    ensures { λ _. ⌜ CoalitionDemand (now (block .entry)) row ⌝ }
+    ensures { λ _. ⌜ Demand3 (now (block .entry)) row ⌝ }
 {
     value(lookup::coalition::coalition_move(
         block,
@@ -122,7 +123,7 @@ pub extern "C" fn rbatl_reply(
     room: &mut [u8],
 ) -> i32
     ensures { λ r. ⌜ ReplyAnswer (now (block .entry)) row state (stock0 ∷ stock1 ∷ []) mv (now (room .entry)) (now (room .exit)) r ⌝ }
-    ensures { λ _. ⌜ OpponentsDemand (now (block .entry)) row ⌝ }
+    ensures { λ _. ⌜ Demand3 (now (block .entry)) row ⌝ }
 {
     value(lookup::opponents::reply(
         block,

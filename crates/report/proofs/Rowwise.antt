@@ -10,7 +10,7 @@ use Rattle.block.specs.Layout as L
 use Rattle.block.specs.Layout.{Block}
 use Rattle.game.specs.Table.{Table}
 use Rattle.game.specs.Model.{RowSet}
-use Rattle.lookup.specs.Calls.{TableOf}
+use Rattle.game.specs.Demand.{TableOf}
 use Rattle.report.specs.Listing.{setLine, planLines, RowListed}
 
 module _ (b : Block) (i w : ℕ) (told : RowSet b i w) where

@@ -14,7 +14,7 @@ use Rattle.text.specs.Text.{blank, readCall}
 use Rattle.game.specs.Position.{full}
 use Rattle.game.specs.Table.{Table, rankAt, moveAt}
 use Rattle.game.specs.Model.{bit, arenaOf, RowSet}
-use Rattle.lookup.specs.Calls.{TableOf}
+use Rattle.game.specs.Demand.{TableOf}
 
 -- the lines
 abbrev pub listLine : ℕ → List ℕ

@@ -13,9 +13,11 @@ use Rattle.block.specs.Check.{Broken, Verdict, blockOrder}
 use Rattle.block.specs.declared.refusal.Refusal.{Refusal}
 use Rattle.block.specs.declared.refusal.Refusal.the-variants.{Length, Sizes, State, Next, Row, Unused, RowChoice}
 use Rattle.block.specs.declared.refusal.Checked.the-variants as checked
+use Rattle.block.proofs.Passing.{passing}
 use Rattle.block.proofs.Refusals.{Each, first-same, first-same-in, block-numbers, first-before, first-after, not-first, number-some}
 use Rattle.game.specs.Buffers.{wordIn}
 use Rattle.game.proofs.Numbers.Decide.{lt?}
+use Rattle.game.proofs.Blocks.Tables.{set-won}
 use Rattle.solver.specs.Calls.{setsBytes, roomBytes, movesBytes, rowOrder, Unlabelled, RoomAfter, LabelCall, NoChoice, RowTable, TableCall}
 use Rattle.solver.specs.Labels.{LowerSets}
 
@@ -58,7 +60,12 @@ module _ (b : Block) (sets room : List ℕ) where
     pub label-passed : (sets′ room′ : List ℕ) → Verdict b 0 → LowerSets b (L.rows b) sets′ → ((j : ℕ) → L.rows b ≤ j → wordIn sets′ j ≡ 0) → length sets′ ≡ setsBytes → room′ ≡ replicate roomBytes 0 → LabelCall b sets room sets′ room′ checked.Passed
     label-passed sets′ room′ v each past long zeros = record {
       number = sets-verdict v;
-      labelled = record { each = each; past = λ i l _. past i l; long = long };
+      labelled = record {
+        each = each;
+        won = λ i inside strategic. set-won b (passing v) i (wordIn sets′ i) inside strategic (each i inside);
+        past = λ i l _. past i l;
+        long = long;
+      };
       room-after = after room′ v zeros;
     }
 

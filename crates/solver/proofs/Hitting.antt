@@ -27,7 +27,7 @@ use Rattle.game.proofs.Blocks.Passing.{valid-proper, few-positions}
 use Rattle.game.proofs.Blocks.Reading.{outcome-state}
 use Rattle.game.proofs.Solving.Moving.{outcome-at}
 use Rattle.game.proofs.Solving.Sweeping.{same-by-number}
-use Rattle.game.proofs.Solving.Exist.{good-exists}
+use Rattle.game.proofs.Local.Exist.{good-exists}
 use Rattle.solver.specs.Places.{PlacedAt, PaysAt}
 use Rattle.solver.specs.Next.{LeadsInto}
 use Rattle.solver.specs.Tables.{RanksOf, MovesOf}

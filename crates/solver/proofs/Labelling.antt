@@ -14,11 +14,10 @@ use Rattle.block.specs.Valid.{Valid}
 use Rattle.game.specs.Position.{Position, number, full}
 use Rattle.game.specs.Play.{Objective, next, always, until}
 use Rattle.game.specs.Table.{Table, never, rankAt}
-use Rattle.game.specs.Facts.{Claims, Facts}
+use Rattle.game.specs.Facts.{RowsDecided, Claims, Facts}
 use Rattle.game.specs.Buffers.{rankIn, wordIn}
 use Rattle.game.specs.Model.{bit, byKind, RowTrue, RowSet, Says, arenaOf, objectiveOf, objectiveBy}
 use Rattle.game.proofs.Numbers.Decide.{eq?, eq-test}
-use Rattle.game.proofs.Local.Aims.{RowsDecided}
 use Rattle.game.proofs.Local.Lower.{Retold, same-next, same-always, same-until, retold}
 use Rattle.game.proofs.Blocks.Passing.{valid-proper}
 use Rattle.game.proofs.Blocks.Formulas.{next-objective, always-objective, until-objective}

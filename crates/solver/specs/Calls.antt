@@ -12,10 +12,10 @@ use Rattle.block.specs.declared.refusal.Refusal.{Refusal}
 use Rattle.block.specs.declared.refusal.Refusal.the-variants.{Length, RowChoice}
 use Rattle.block.specs.declared.refusal.Checked.{Checked}
 use Rattle.block.specs.declared.refusal.Checked.the-variants as checked
-use Rattle.game.specs.Position.{Position, IsPosition, positions}
-use Rattle.game.specs.Table.{Decided}
+use Rattle.game.specs.Position.{positions}
 use Rattle.game.specs.Buffers.{rankIn, wordIn}
-use Rattle.game.specs.Model.{RowSet, arenaOf, objectiveOf}
+use Rattle.game.specs.Model.{RowSet, WonSet, arenaOf}
+use Rattle.game.specs.Demand.{TableOf}
 use Rattle.solver.specs.Tables.{tableIn}
 
 -- the bytes of 32 sets, of a row's ranks (and of the working room), and of its moves
@@ -32,9 +32,10 @@ movesBytes = 6144
 abbrev pub Unlabelled : Block → List ℕ → List ℕ → Refusal → Type 0
 Unlabelled b sets room r = Broken b r ⊎ ((r ≡ Length) × ((length sets ≡ setsBytes → ⊥) ⊎ (length room ≡ roomBytes → ⊥)))
 
--- the set of each row, and 0 past the last
+-- the set of each row, and 0 past the last. A strategic row's set is also what its coalition wins at full stock
 pub record SetsIn (b : Block) (sets : List ℕ) : Type 0 where
   pub each : (i : ℕ) → i < L.rows b → RowSet b i (wordIn sets i)
+  pub won : (i : ℕ) → i < L.rows b → L.Strategic (L.kind b i) → WonSet b i (wordIn sets i)
   pub past : (i : ℕ) → L.rows b ≤ i → i < L.maxRows → wordIn sets i ≡ 0
   pub long : length sets ≡ setsBytes
 
@@ -70,7 +71,7 @@ rowOrder = blockOrder ++ (RowChoice ∷ [])
 
 -- rank and move of each position are those that plays give, and demand 3 holds at each; past the last position both are 0
 pub record RowTable (b : Block) (i : ℕ) (ranks moves : List ℕ) : Type 0 where
-  pub decided : (p : Position) → IsPosition (arenaOf b i) p → Decided (arenaOf b i) (tableIn ranks moves) (objectiveOf b i) p
+  pub decided : TableOf b i (tableIn ranks moves)
   pub past : (n : ℕ) → positions (arenaOf b i) ≤ n → n < movesBytes → (rankIn ranks n ≡ 0) × (getD moves n 0 ≡ 0)
   pub long : (length ranks ≡ roomBytes) × (length moves ≡ movesBytes)
 

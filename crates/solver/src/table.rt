@@ -12,6 +12,7 @@ ghost use lib.ListN.{length};
 ghost use Rattle.block.specs.Decide.{Decides};
 ghost use Rattle.block.specs.Layout as L;
 ghost use Rattle.block.specs.Valid.{Valid};
+ghost use Rattle.game.specs.Demand.{Demand3};
 ghost use Rattle.solver.specs.Calls.{NoChoice, RowTable, TableCall};
 
 // Whether row i does not exist, or is of kind prop, not or or.
@@ -26,7 +27,7 @@ pub fn no_choice(block: &[u8], i: usize) -> bool
 }
 
 // Fills the table of row i. The moves' buffer holds the lower rows' sets until the ranks are there.
-pub fn fill_table(block: &[u8], i: usize, ranks: &mut [u8], moves: &mut [u8])
+fn fill_table(block: &[u8], i: usize, ranks: &mut [u8], moves: &mut [u8])
     requires { ⌜ Valid (now block) ⌝ }
     requires { ⌜ (i < L.rows (now block)) × L.Strategic (L.kind (now block) i) ⌝ }
     requires { ⌜ (length (now ranks) ≡ 12288) × (length (now moves) ≡ 6144) ⌝ }
@@ -42,6 +43,7 @@ pub fn fill_table(block: &[u8], i: usize, ranks: &mut [u8], moves: &mut [u8])
 // The table of row i of a block that passes the check.
 pub fn table(block: &[u8], i: usize, ranks: &mut [u8], moves: &mut [u8]) -> Checked
     ensures { λ r. ⌜ TableCall (now (block .entry)) i (now (ranks .entry)) (now (moves .entry)) (now (ranks .exit)) (now (moves .exit)) r ⌝ }
+    ensures { λ _. ⌜ Demand3 (now (block .entry)) i ⌝ }
 {
     if ranks.len() != sizes::ROOM_BYTES {
         return Checked::Refused(Refusal::Length);

@@ -7,20 +7,21 @@ use native.Mathlib.Omega.{arith}
 use Rattle.block.specs.Layout as L
 use Rattle.block.specs.Layout.{Block, Strategic}
 use Rattle.block.specs.Valid.{Valid}
+use Rattle.block.proofs.Passing.{passing}
 use Rattle.game.specs.Rbatl.{Formula, Sat}
 use Rattle.game.specs.Position.{Position, IsPosition, full}
-use Rattle.game.specs.Play.{Objective, CounterStrategy, IsCounterStrategy, CoalitionWins}
-use Rattle.game.specs.Table.{Table, ReplyRule, Decided}
-use Rattle.game.specs.Facts.{Facts}
+use Rattle.game.specs.Play.{Objective}
+use Rattle.game.specs.Table.{Table, Decided}
+use Rattle.game.specs.Facts.{RowsDecided, Facts}
 use Rattle.game.specs.Model.{bit, structureOf, formulaOf, RowTrue, arenaOf, objectiveOf}
+use Rattle.game.specs.Demand.{TableOf, Demand3}
 use Rattle.game.proofs.Numbers.Decide.{by-test, either?, eq?, not?}
 use Rattle.game.proofs.Blocks.Passing.{valid-proper, few-positions}
 use Rattle.game.proofs.Local.Decidable.{claims?}
-use Rattle.game.proofs.Local.Aims.{RowsDecided}
 use Rattle.game.proofs.Blocks.Formulas.{prop-formula, not-formula, or-formula, next-objective, always-objective, until-objective}
 use Rattle.game.proofs.Blocks.Tables.{table-decided, table-set}
 use Rattle.game.proofs.Solving.Determined.{solvedTable, solved-facts}
-use Rattle.game.proofs.Solving.Exist.{reply-rule}
+use Rattle.game.proofs.Whole.Demand.{demanded}
 
 decided-by : {P Q : Type 0} → P ↔ Q → Dec Q → Dec P
 decided-by e (yes q) = yes (e .1 q)
@@ -77,14 +78,13 @@ module _ (b : Block) (valid : Valid b) where
   pub row-decidable : (i : ℕ) → i < L.rows b → (q : ℕ) → q < L.states b → Dec (RowTrue b i q)
   row-decidable i inside = rows-below (suc i) i (omega arith) inside
 
-  -- every strategic row has a table that is decided at every position, and replies by it
-  pub row-replies : (i : ℕ) → i < L.rows b → Strategic (L.kind b i)
-      → (X : Table) × ((p : Position) → IsPosition (arenaOf b i) p → Decided (arenaOf b i) X (objectiveOf b i) p)
-      × ((ρ : CounterStrategy) × IsCounterStrategy (arenaOf b i) ρ × ReplyRule (arenaOf b i) X (objectiveOf b i) (CoalitionWins (arenaOf b i) (objectiveOf b i)) ρ)
-  row-replies i inside strategic =
-      let lower : (j : ℕ) → j < i → (q : ℕ) → q < L.states b → Dec (RowTrue b j q) = λ j h. row-decidable j (omega arith) in
-      let (X, facts) = strategic-table i inside lower strategic in
-      (X, table-decided b valid i X facts, reply-rule (arenaOf b i) X (valid-proper b valid) (objectiveOf b i) facts (strategic-rows i inside lower strategic))
+  -- every strategic row has a table that is decided at every position
+  pub row-determined : (i : ℕ) → i < L.rows b → Strategic (L.kind b i) → (X : Table) × TableOf b i X
+  row-determined i inside strategic =
+      let (X, facts) = strategic-table i inside (λ j h. row-decidable j (omega arith)) strategic in
+      (X, table-decided b valid i X facts)
 
-  pub row-determined : (i : ℕ) → i < L.rows b → Strategic (L.kind b i) → (X : Table) × ((p : Position) → IsPosition (arenaOf b i) p → Decided (arenaOf b i) X (objectiveOf b i) p)
-  row-determined i inside strategic = let (X, decided, _) = row-replies i inside strategic in (X, decided)
+pub row-demanded : (b : Block) (i : ℕ) → Demand3 b i
+row-demanded b i passed inside strategic =
+    let (X, decided) = row-determined b (passing passed) i inside strategic in
+    demanded (arenaOf b i) (valid-proper b (passing passed)) (objectiveOf b i) X decided

@@ -5,18 +5,27 @@ use Prim.Native.Nat.{ℕ, _<_}
 use Rattle.block.specs.Layout as L
 use Rattle.block.specs.Layout.{Block, Strategic}
 use Rattle.block.specs.Valid.{Valid}
-use Rattle.game.specs.Position.{Position, IsPosition, full}
-use Rattle.game.specs.Table.{Table, Decided}
+use Rattle.game.specs.Position.{full}
+use Rattle.game.specs.Play.{CoalitionWins}
+use Rattle.game.specs.Table.{Table}
 use Rattle.game.specs.Facts.{Claims, Facts}
-use Rattle.game.specs.Model.{RowTrue, arenaOf, objectiveOf}
+use Rattle.game.specs.Model.{RowTrue, RowSet, WonSet, arenaOf, objectiveOf}
+use Rattle.game.specs.Demand.{TableOf}
 use Rattle.game.proofs.Blocks.Passing.{valid-proper}
 use Rattle.game.proofs.Whole.Decided.{decided, claims-win, wins-claimed}
 use Rattle.game.proofs.Blocks.Formulas.{row-wins}
 use Rattle.game.proofs.Bridge.Truth.{full-fits}
 
+-- a strategic row's set is its states whose positions at full stock the coalition wins
+pub set-won : (b : Block) → Valid b → (i w : ℕ) → i < L.rows b → Strategic (L.kind b i) → RowSet b i w → WonSet b i w
+set-won b valid i w inside strategic (small, told) = (small, λ s. ((λ set. let (l, true) = told s .0 set in (l, wins s l .0 true)), λ (l, won). told s .1 (l, wins s l .1 won)))
+  where
+    wins : (s : ℕ) → s < L.states b → RowTrue b i s ↔ CoalitionWins (arenaOf b i) (objectiveOf b i) (full (arenaOf b i) s)
+    wins s l = row-wins b (valid-proper b valid) i (valid .row-fits i inside) strategic s l
+
 module _ (b : Block) (valid : Valid b) (i : ℕ) (X : Table) (facts : Facts (arenaOf b i) X (objectiveOf b i)) where
   -- demand 3 for the table of a row
-  pub table-decided : (p : Position) → IsPosition (arenaOf b i) p → Decided (arenaOf b i) X (objectiveOf b i) p
+  pub table-decided : TableOf b i X
   table-decided = decided (arenaOf b i) (valid-proper b valid) X (objectiveOf b i) facts
 
   -- the states of a strategic row are those that the table claims at full stock

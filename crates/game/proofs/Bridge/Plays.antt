@@ -8,8 +8,8 @@ use native.Mathlib.Omega.{arith}
 use lib.Dec.{T}
 use Rattle.block.specs.Layout.{digit}
 use Rattle.game.specs.Rbatl.{Fits, Joint, Coalition, Structure, Strategy, Computation, prefix, IsMove, IsStrategy, Agree, Consistent, moveCost, spent}
-use Rattle.game.specs.Position.{Arena, Position, joint, part, opponents, MoveOf, IsPosition, budget, Move, Reply, cost, Affordable, outcome}
-use Rattle.game.specs.Play.{Play, CounterStrategy, states, spentOn, From, Follows, Answers, IsCounterStrategy, KeepsWithin}
+use Rattle.game.specs.Position.{Arena, Position, joint, part, opponents, MoveOf, IsPosition, budget, Move, Reply, cost, outcome}
+use Rattle.game.specs.Play.{Play, CounterStrategy, Turn, RecallStrategy, RecallCounter, states, spentOn, From, Follows, Answers, IsCounterStrategy, past, FollowsRecall, AnswersRecall, IsRecallCounter, Afforded, KeepsWithin}
 use Rattle.game.proofs.Numbers.Joint.{joint-cong, joint-parts, digit-joint}
 use Rattle.game.proofs.Bridge.Proper.{Proper}
 use Rattle.game.proofs.Bridge.Moves.{together-digit, together-available, number-move, number-agrees, number-cost}
@@ -97,14 +97,14 @@ module _ (G : Arena) (proper : Proper (G .structure)) where
   ledger P r = record { left = λ i. ap (λ (x : Position). x .stock r) (P .step i); none = refl; adds = λ i. refl }
 
   -- each beginning within the first stock: every move affordable when its turn comes; and the other way round
-  pub affordable-along : (P : Play G) → ((n r : ℕ) → r < G .structure .resources → Fits (spentOn G P n r) (budget G (P .at 0) r)) → (i : ℕ) → Affordable G (P .at i) (P .move i)
+  pub affordable-along : (P : Play G) → ((n r : ℕ) → r < G .structure .resources → Fits (spentOn G P n r) (budget G (P .at 0) r)) → Afforded G P
   affordable-along P within i r l = within-affordable (G .bounds r) _ _ _ (ledger P r) (λ n. within n r l) i
 
-  pub within-along : (P : Play G) → ((i : ℕ) → Affordable G (P .at i) (P .move i)) → (n r : ℕ) → r < G .structure .resources → Fits (spentOn G P n r) (budget G (P .at 0) r)
+  pub within-along : (P : Play G) → Afforded G P → (n r : ℕ) → r < G .structure .resources → Fits (spentOn G P n r) (budget G (P .at 0) r)
   within-along P paid n r l = affordable-within (G .bounds r) _ _ _ (ledger P r) (λ i. paid i r l) n
 
   -- a strategy within the stock pays for every move of its plays
-  pub strategy-paid : (p : Position) (F : Strategy) → KeepsWithin G p F → (P : Play G) → From G p P → Follows G F P → (i : ℕ) → Affordable G (P .at i) (P .move i)
+  pub strategy-paid : (p : Position) (F : Strategy) → KeepsWithin G p F → (P : Play G) → From G p P → Follows G F P → Afforded G P
   strategy-paid p F keeps P from follows = affordable-along P λ n r l.
       rw (← same-cost F (keeps .0) P follows n r) (rw from (keeps .1 (states G P) (at-fits P 0 .0) (play-consistent F (keeps .0) P follows) n r l))
 
@@ -176,45 +176,59 @@ module _ (G : Arena) (proper : Proper (G .structure)) where
         follows : Follows G F P
         follows i = ap (λ (μs : Computation). moveBy F (prefix μs i)) (sym same)
 
-  -- the play of a strategy against a counter-strategy
-  module _ (F : Strategy) (strategy : IsStrategy (G .structure) (G .coalition) F) (ρ : CounterStrategy) (counter : IsCounterStrategy G ρ) (p : Position) (fits : IsPosition G p) where
-    -- the position and the history so far
-    stage : ℕ → Position × List ℕ
-    stage zero = (p, p .state ∷ [])
+  -- the play of moves and replies that are chosen from the whole play so far
+  module _ (μ : RecallStrategy) (legal : (h : List Turn) (x : Position) → IsPosition G x → Move G x (μ h x)) (ρ : RecallCounter) (counter : IsRecallCounter G ρ) (p : Position) (fits : IsPosition G p) where
+    -- the position and the turns so far
+    stage : ℕ → Position × List Turn
+    stage zero = (p, [])
     stage (suc i) =
         let (x, h) = stage i in
-        let y = outcome G x (moveBy F h) (ρ x (moveBy F h)) in
-        (y, y .state ∷ h)
-
-    history-is : (i : ℕ) → stage i .1 ≡ prefix (λ j. stage j .0 .state) i
-    unfolding stage
-    history-is zero = refl
-    history-is (suc i) = ap (λ (h : List ℕ). stage (suc i) .0 .state ∷ h) (history-is i)
-
-    stage-move : (i : ℕ) → IsPosition G (stage i .0) → Move G (stage i .0) (moveBy F (stage i .1))
-    stage-move i inside =
-        let λs : Computation = λ j. stage j .0 .state in
-        rw (history-is i)
-        (number-move (G .structure) proper (G .coalition) (λs i) (inside .0) (F (prefix λs i)) (moves (G .structure) (G .coalition) F strategy λs i (inside .0)))
+        let r = ρ h x (μ h x) in
+        (outcome G x (μ h x) r, record { at = x; move = μ h x; reply = r } ∷ h)
 
     stage-fits : (i : ℕ) → IsPosition G (stage i .0)
     unfolding stage
     stage-fits zero = fits
     stage-fits (suc i) =
-        let move = stage-move i (stage-fits i) in
-        outcome-fits (stage i .0) _ _ (stage-fits i) move (counter (stage i .0) _ (stage-fits i) move)
+        let (x, h) = stage i in
+        let move = legal h x (stage-fits i) in
+        outcome-fits x (μ h x) (ρ h x (μ h x)) (stage-fits i) move (counter h x (μ h x) (stage-fits i) move)
 
-    pub play-against : (P : Play G) × From G p P × Follows G F P × Answers G ρ P
+    pub recall-play : (P : Play G) × From G p P × FollowsRecall G μ P × AnswersRecall G ρ P
     unfolding stage
-    play-against = (P, refl, λ i. ap (moveBy F) (history-is i), λ i. refl)
+    recall-play = (P, refl, λ i. ap (λ (h : List Turn). μ h (P .at i)) (turns i), λ i. ap (λ (h : List Turn). ρ h (P .at i) (P .move i)) (turns i))
       where
         P : Play G
         P = record {
           at = λ i. stage i .0;
-          move = λ i. moveBy F (stage i .1);
-          reply = λ i. ρ (stage i .0) (moveBy F (stage i .1));
+          move = λ i. μ (stage i .1) (stage i .0);
+          reply = λ i. ρ (stage i .1) (stage i .0) (μ (stage i .1) (stage i .0));
           start = fits;
-          moved = λ i. stage-move i (stage-fits i);
-          replied = λ i. counter (stage i .0) _ (stage-fits i) (stage-move i (stage-fits i));
+          moved = λ i. legal (stage i .1) (stage i .0) (stage-fits i);
+          replied = λ i. counter (stage i .1) (stage i .0) _ (stage-fits i) (legal (stage i .1) (stage i .0) (stage-fits i));
           step = λ i. refl;
         }
+
+        turns : (i : ℕ) → stage i .1 ≡ past G P i
+        turns zero = refl
+        turns (suc i) = ap (λ (h : List Turn). record { at = P .at i; move = P .move i; reply = P .reply i } ∷ h) (turns i)
+
+  -- the states of the turns so far
+  stateHistory : List Turn → List ℕ
+  stateHistory [] = []
+  stateHistory (turn ∷ h) = turn .at .state ∷ stateHistory h
+
+  past-states : (P : Play G) (i : ℕ) → P .at i .state ∷ stateHistory (past G P i) ≡ prefix (states G P) i
+  unfolding stateHistory
+  past-states P zero = refl
+  past-states P (suc i) = ap (λ (h : List ℕ). P .at (suc i) .state ∷ h) (past-states P i)
+
+  -- the play of a strategy against a counter-strategy
+  pub play-against : (F : Strategy) → IsStrategy (G .structure) (G .coalition) F → (ρ : CounterStrategy) → IsCounterStrategy G ρ → (p : Position) → IsPosition G p → (P : Play G) × From G p P × Follows G F P × Answers G ρ P
+  play-against F strategy ρ counter p fits =
+      let (P, from, follows, answers) = recall-play (λ h x. moveBy F (x .state ∷ stateHistory h)) legal (λ _. ρ) (λ _. counter) p fits in
+      (P, from, λ i. follows i ∙ ap (moveBy F) (past-states P i), answers)
+    where
+      legal : (h : List Turn) (x : Position) → IsPosition G x → Move G x (moveBy F (x .state ∷ stateHistory h))
+      legal h x inside =
+          number-move (G .structure) proper (G .coalition) (x .state) (inside .0) (F (x .state ∷ stateHistory h)) (strategy (x .state) (stateHistory h) (inside .0))

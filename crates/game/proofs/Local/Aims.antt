@@ -5,22 +5,11 @@ use Prim.Native.Nat.{ℕ, _<_}
 use Rattle.game.specs.Position.{Arena, Position, IsPosition, Reply, Allowed, outcome}
 use Rattle.game.specs.Play.{Objective, next, always, until}
 use Rattle.game.specs.Table.{Table, never, rankAt, Aim, Good, Met, Smallest, Failed, CounterAim, ReplyIs}
-use Rattle.game.specs.Facts.{LeftDecided, Claims}
+use Rattle.game.specs.Facts.{RowsDecided, Claims}
 use Rattle.game.proofs.Numbers.Decide.{all-below, both?, eq?, implies?, lt?, not?}
 use Rattle.game.proofs.Bridge.Proper.{Proper}
 use Rattle.game.proofs.Bridge.Plays.{outcome-fits}
 use Rattle.game.proofs.Local.Decidable.{allowed?, reply?, every?, claims?}
-
--- left and right are decided in every state
-abbrev pub RowsDecided : Arena → Objective → Type 0
-RowsDecided G (until left right) = ((q : ℕ) → q < G .structure .states → Dec (left q)) × ((q : ℕ) → q < G .structure .states → Dec (right q))
-RowsDecided G (always left) = (q : ℕ) → q < G .structure .states → Dec (left q)
-RowsDecided G (next left) = (q : ℕ) → q < G .structure .states → Dec (left q)
-
-pub left-decided : (G : Arena) (t : Objective) → RowsDecided G t → LeftDecided G t
-left-decided G (until left right) rows = rows .0
-left-decided G (always left) rows = rows
-left-decided G (next left) rows = tt
 
 module _ (G : Arena) (proper : Proper (G .structure)) (X : Table) where
   abbrev pub met? : (t : Objective) (p : Position) → Dec (Met G X t p)

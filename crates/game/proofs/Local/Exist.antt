@@ -1,20 +1,19 @@
 -- What a search for a move or a reply finds: where the ranks claim a position a good move exists, and elsewhere a reply to each move
--- that is aimed right, unless the row has failed already. So there is a reply rule. Assumes nothing.
+-- that is aimed right, unless the row has failed already. Assumes nothing.
 use mathlib.Core.Logic.{_⊎_, inl, inr}
 use mathlib.Core.Path.{_≡_, refl}
 use Prim.Native.Nat.{ℕ, zero, suc, _<_}
 use native.Mathlib.Omega.{arith}
 use Rattle.game.specs.Position.{Arena, Position, IsPosition, Reply, Allowed, outcome}
-use Rattle.game.specs.Play.{Objective, next, always, until, CounterStrategy, IsCounterStrategy, CoalitionWins}
-use Rattle.game.specs.Table.{Table, never, rankAt, Good, Met, Failed, CounterAim, Smallest, ReplyIs, ReplyRule}
-use Rattle.game.specs.Facts.{CanForce, CanAnswer, RankFacts, LeftDecided, Claims, Facts}
+use Rattle.game.specs.Play.{Objective, next, always, until}
+use Rattle.game.specs.Table.{Table, never, rankAt, Good, Met, Failed, CounterAim, Smallest, ReplyIs}
+use Rattle.game.specs.Facts.{CanForce, CanAnswer, RankFacts, RowsDecided, Claims, Facts}
 use Rattle.game.proofs.Numbers.Decide.{both?}
 use Rattle.game.proofs.Bridge.Proper.{Proper}
 use Rattle.game.proofs.Numbers.Ranks.{below-suc}
-use Rattle.game.proofs.Local.Decidable.{position?, allowed?, reply?, claims?}
-use Rattle.game.proofs.Local.Aims.{RowsDecided, failed?, counter-aim?}
+use Rattle.game.proofs.Local.Decidable.{reply?, claims?}
+use Rattle.game.proofs.Local.Aims.{failed?, counter-aim?}
 use Rattle.game.proofs.Whole.Choices.{idle-reply}
-use Rattle.game.proofs.Whole.Decided.{reply-by-plays}
 
 -- of the numbers below n the first with a property
 abbrev pub first-below : (P : ℕ → Type 0) → ((i : ℕ) → Dec (P i)) → (n : ℕ) → ((i : ℕ) × Smallest P i) ⊎ ((i : ℕ) → i < n → P i → ⊥)
@@ -46,26 +45,26 @@ module _ (G : Arena) (X : Table) where
       go (inl (_, (m, a, f))) = (m, (a, f))
       go (inr (e, _)) = absurd (omega arith)
 
-  pub counter-exists : (t : Objective) → RankFacts G t (rankAt G X) → LeftDecided G t → (p : Position) → IsPosition G p → (Claims G X t p → ⊥) → (Failed G X t p → ⊥) → CanAnswer G p (CounterAim G X t (Claims G X t) p)
-  counter-exists (until left right) ranks left? p fits unclaimed unsettled = λ m a.
-      let (r, reply, kept) = ranks .stable p fits (safe (left? (p .state) (fits .0))) (omega (arith, unclaimed)) m a in
+  pub counter-exists : (t : Objective) → RankFacts G t (rankAt G X) → RowsDecided G t → (p : Position) → IsPosition G p → (Claims G X t p → ⊥) → (Failed G X t p → ⊥) → CanAnswer G p (CounterAim G X t (Claims G X t) p)
+  counter-exists (until left right) ranks rows p fits unclaimed unsettled = λ m a.
+      let (r, reply, kept) = ranks .stable p fits (safe (rows .0 (p .state) (fits .0))) (omega (arith, unclaimed)) m a in
       (r, reply, λ claim. omega (arith, kept .1 (omega (arith, unclaimed, ranks .sound .bounded p fits)), claim))
     where
       safe : Dec (left (p .state)) → left (p .state)
       safe (yes h) = h
       safe (no fails) = absurd (unsettled (fails, λ r. omega (arith, unclaimed, ranks .sound .goal p fits r)))
-  counter-exists (always left) ranks left? p fits unclaimed unsettled =
+  counter-exists (always left) ranks rows p fits unclaimed unsettled =
       ranks .sound .attack p fits (omega (arith, unsettled)) (omega (arith, unclaimed, ranks .sound .bounded p fits))
-  counter-exists (next left) ranks left? p fits unclaimed unsettled = go (ranks p fits)
+  counter-exists (next left) ranks rows p fits unclaimed unsettled = go (ranks p fits)
     where
       go : ((rankAt G X p ≡ 1) × CanForce G p (λ x. left (x .state))) ⊎ ((rankAt G X p ≡ never) × CanAnswer G p (λ x. left (x .state) → ⊥)) → CanAnswer G p (λ x. left (x .state) → ⊥)
       go (inl (e, _)) = absurd (unclaimed e)
       go (inr (_, can)) = can
 
-  module _ (proper : Proper (G .structure)) (t : Objective) (facts : Facts G X t) (rows : RowsDecided G t) where
+  module _ (proper : Proper (G .structure)) (t : Objective) (facts : Facts G X t) where
     -- the smallest reply, where one is asked for
     pub reply-exists : (p : Position) → IsPosition G p → (m : ℕ) → Allowed G p m → (r : ℕ) × Reply G p r × ReplyIs G X t (Claims G X t) p m r
-    reply-exists p fits m a = go (claims? G X t p) (failed? G proper X p fits t rows)
+    reply-exists p fits m a = go (claims? G X t p) (failed? G proper X p fits t (facts .decided))
       where
         Best : ℕ → Type 0
         Best k = Reply G p k × CounterAim G X t (Claims G X t) p (outcome G p m k)
@@ -75,33 +74,5 @@ module _ (G : Arena) (X : Table) where
         go (no unclaimed) (yes over) = (0, idle-reply G proper p fits, record { won = λ _. refl; failed = λ _. refl; best = λ _ unsettled. absurd (unsettled over) })
         go (no unclaimed) (no unsettled) =
             let (r, reply, aims) = counter-exists t (facts .ranks) (facts .decided) p fits unclaimed unsettled m a in
-            let (k, least) = smallest Best (λ k. both? (reply? G p k) (counter-aim? G proper X p fits t rows m k a)) r (reply, aims) in
+            let (k, least) = smallest Best (λ k. both? (reply? G p k) (counter-aim? G proper X p fits t (facts .decided) m k a)) r (reply, aims) in
             (k, least .0 .0, record { won = λ claim. absurd (unclaimed claim); failed = λ over. absurd (unsettled over); best = λ _ _. least })
-
-    -- so there is a reply rule, and it is a counter-strategy
-    pub reply-rule : (ρ : CounterStrategy) × IsCounterStrategy G ρ × ReplyRule G X t (CoalitionWins G t) ρ
-    reply-rule = (ρ, counter, rule)
-      where
-        answered : (p : Position) (m : ℕ) → Dec (IsPosition G p) → Dec (Allowed G p m) → ℕ
-        answered p m (yes fits) (yes a) = reply-exists p fits m a .0
-        answered p m (yes fits) (no _) = 0
-        answered p m (no _) d = 0
-
-        ρ : CounterStrategy
-        ρ p m = answered p m (position? G p) (allowed? G p m)
-
-        counter : IsCounterStrategy G ρ
-        counter p m fits _ = go (position? G p) (allowed? G p m)
-          where
-            go : (d : Dec (IsPosition G p)) (e : Dec (Allowed G p m)) → Reply G p (answered p m d e)
-            go (yes fits′) (yes a) = reply-exists p fits′ m a .1
-            go (yes _) (no _) = idle-reply G proper p fits
-            go (no _) e = idle-reply G proper p fits
-
-        rule : ReplyRule G X t (CoalitionWins G t) ρ
-        rule p m fits a = go (position? G p) (allowed? G p m)
-          where
-            go : (d : Dec (IsPosition G p)) (e : Dec (Allowed G p m)) → ReplyIs G X t (CoalitionWins G t) p m (answered p m d e)
-            go (yes fits′) (yes a′) = reply-by-plays G proper X t facts p fits m (reply-exists p fits′ m a′ .0) a (reply-exists p fits′ m a′ .2)
-            go (yes _) (no fails) = absurd (fails a)
-            go (no fails) e = absurd (fails fits)

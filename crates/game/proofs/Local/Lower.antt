@@ -38,7 +38,7 @@ module _ (G : Arena) (proper : Proper (G .structure)) (X : Table) where
         stable = λ p fits h. facts .ranks .stable p fits (l (p .state) (fits .0) .1 h);
       };
       moves = λ p fits. record { lost = facts .moves p fits .lost; met = facts .moves p fits .met; best = facts .moves p fits .best };
-      decided = λ q inside. decided-again (l q inside) (facts .decided q inside);
+      decided = ((λ q inside. decided-again (l q inside) (facts .decided .0 q inside)), λ q inside. decided-again (r q inside) (facts .decided .1 q inside));
     }
 
   module _ (left left′ : ℕ → Type 0) (l : Tells G left left′) where
@@ -70,7 +70,7 @@ module _ (G : Arena) (proper : Proper (G .structure)) (X : Table) where
               λ k less (a, f). none k less (a, λ r reply. at p fits k r a reply .1 (f r reply)),
             );
       };
-      decided = tt;
+      decided = λ q inside. decided-again (l q inside) (facts .decided q inside);
     }
       where
         at : (p : Position) → IsPosition G p → (m r : ℕ) → Allowed G p m → Reply G p r → left (outcome G p m r .state) ↔ left′ (outcome G p m r .state)

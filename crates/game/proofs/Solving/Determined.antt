@@ -9,15 +9,15 @@ use lib.ListN.{getD}
 use Rattle.game.specs.Position.{Arena, Position, IsPosition, number, positions}
 use Rattle.game.specs.Play.{Objective, next, always, until}
 use Rattle.game.specs.Table.{Table, never, noMove, moveAt, Smallest, Good, Met, MoveIs}
-use Rattle.game.specs.Facts.{CanForce, CanAnswer, RankFacts, Claims, Facts}
+use Rattle.game.specs.Facts.{CanForce, CanAnswer, RankFacts, RowsDecided, Claims, Facts}
 use Rattle.game.proofs.Numbers.Decide.{lt?, not?}
 use Rattle.game.proofs.Numbers.Values.{values, value-at}
 use Rattle.game.proofs.Bridge.Proper.{Proper}
 use Rattle.game.proofs.Local.Decidable.{position?, claims?}
 use Rattle.game.proofs.Local.Same.{Same, same-sym, same-number, positionOf, position-same, position-fits, number-below}
 use Rattle.game.proofs.Local.ByNumber.{force-transfers, answer-transfers, move-same}
-use Rattle.game.proofs.Local.Aims.{RowsDecided, left-decided, met?, good?}
-use Rattle.game.proofs.Solving.Exist.{first-below, good-exists}
+use Rattle.game.proofs.Local.Aims.{met?, good?}
+use Rattle.game.proofs.Local.Exist.{first-below, good-exists}
 use Rattle.game.proofs.Solving.Sides.{leastLargest, force-attained, answer-defended, coalition-attacks, opponents-attack}
 use Rattle.game.proofs.Solving.Sweeping.{force-weakens, answer-weakens}
 use Rattle.game.proofs.Solving.Solver.{rankOf, firstRanks, lowered, Starts, starts-at, solved}
@@ -124,7 +124,7 @@ module _ (G : Arena) (proper : Proper (G .structure)) where
 
       pub moves-found : Facts G (record { rank = rank; move = λ n. getD foundMoves n 0 }) t
       unfolding foundMoves
-      moves-found = record { ranks = facts; moves = moves; decided = left-decided G t rows }
+      moves-found = record { ranks = facts; moves = moves; decided = rows }
         where
           X : Table
           X = record { rank = rank; move = λ n. getD foundMoves n 0 }

@@ -5,19 +5,22 @@ use mathlib.Core.Path.{_≡_, sym, subst}
 use Prim.Native.Nat.{ℕ, _<_}
 use native.Mathlib.Decide.{decLt, ℕ-discrete}
 use native.Mathlib.Omega.{arith}
-use Rattle.game.specs.Rbatl.{Computation}
+use Rattle.game.specs.Rbatl.{Computation, Strategy}
 use Rattle.game.specs.Position.{Arena, Position, IsPosition, Reply, Allowed, outcome}
-use Rattle.game.specs.Play.{Objective, next, always, until, True, MetWithin, FalseWithin, Play, states, From, Enforces, Forces, CoalitionWins, OpponentsWin}
-use Rattle.game.specs.Table.{Table, never, rankAt, moveAt, RankIs, RankBelow, MoveIs, Failed, CounterAim, ReplyIs, WonOn, LostOn, Decided}
-use Rattle.game.specs.Facts.{CanForce, CanAnswer, RankFacts, LeftDecided, Claims, Backed, WinningFacts, Facts}
-use Rattle.game.proofs.Numbers.Decide.{eq?, both?, not?}
+use Rattle.game.specs.Play.{Objective, next, always, until, True, MetWithin, FalseWithin, Settled, Play, CounterStrategy, states, From, Answers, IsCounterStrategy, Afforded, KeepsWithin, Enforces, Forces, CoalitionWins, OpponentsWin}
+use Rattle.game.specs.Table.{Table, never, rankAt, moveAt, RankIs, RankBelow, MoveIs, Failed, CounterAim, ReplyIs, ReplyRule, WonOn, LostOn, Decided}
+use Rattle.game.specs.Facts.{CanForce, CanAnswer, RankFacts, Claims, Backed, WinningFacts, Facts}
 use Rattle.game.proofs.Bridge.Proper.{Proper}
 use Rattle.game.proofs.Bridge.Plays.{outcome-fits, strategy-paid, play-against}
+use Rattle.game.proofs.Bridge.Strategies.{asStrategy, keeps}
+use Rattle.game.proofs.Whole.Choices.{idle-allowed, idle-reply}
 use Rattle.game.proofs.Whole.Bounded.{force-answer, answer-force, rank-below}
 use Rattle.game.proofs.Whole.Winning.{won-true, table-won, table-paid, table-idles-settled, table-against, claimed-won}
-use Rattle.game.proofs.Local.Decidable.{claims?}
-use Rattle.game.proofs.Whole.Losing.{unclaimed-lost, no-sooner}
-use Rattle.game.proofs.Whole.Replies.{replies-win, replies-against}
+use Rattle.game.proofs.Local.Decidable.{position?, allowed?, claims?}
+use Rattle.game.proofs.Local.Aims.{failed?}
+use Rattle.game.proofs.Local.Exist.{reply-exists}
+use Rattle.game.proofs.Whole.Losing.{forces-strategies, unclaimed-lost, no-sooner}
+use Rattle.game.proofs.Whole.Replies.{replies-win, replies-against, replies-recall}
 
 -- a strategy and a counter-strategy have a play, so their claims cannot contradict each other
 pub clash : (G : Arena) → Proper (G .structure) → (p : Position) → IsPosition G p → (U W : Computation → Type 0) → ((λs : Computation) → U λs → W λs → ⊥) → Enforces G p U → Forces G p W → ⊥
@@ -26,10 +29,10 @@ clash G proper p fits U W apart (F, keeps, u) (ρ, counter, w) =
     apart (states G P) (u P from follows) (w F keeps P from follows answers)
 
 -- what the losing side gets makes the row false
-pub lost-false : (G : Arena) (X : Table) (t : Objective) (p : Position) (λs : Computation) → LostOn G X t p λs → True t λs → ⊥
-lost-false G X (until left right) p λs lost = lost
-lost-false G X (always left) p λs (k, _, fails) = λ all. fails (all k)
-lost-false G X (next left) p λs lost = lost
+pub lost-false : (t : Objective) (n : ℕ) (λs : Computation) → LostOn t n λs → True t λs → ⊥
+lost-false (until left right) n λs lost = lost
+lost-false (always left) n λs (k, _, fails) = λ all. fails (all k)
+lost-false (next left) n λs lost = lost
 
 module _ (G : Arena) (proper : Proper (G .structure)) (X : Table) where
   -- the winning half of the facts
@@ -52,12 +55,12 @@ module _ (G : Arena) (proper : Proper (G .structure)) (X : Table) where
     pub claims-win : (p : Position) → IsPosition G p → Claims G X t p → CoalitionWins G t p
     claims-win p fits claim =
         let (F, keeps, won) = claimed-won G X proper t (facts-winning t facts) p fits claim in
-        (F, keeps, λ P from follows. won-true G X t p (states G P) (won P from follows))
+        (F, keeps, λ P from follows. won-true t (rankAt G X p) (states G P) (won P from follows))
 
     pub unclaimed-opponents : (p : Position) → IsPosition G p → (Claims G X t p → ⊥) → OpponentsWin G t p
     unclaimed-opponents p fits unclaimed =
         let (ρ, counter, lost) = unclaimed-lost G proper X t (facts .ranks) (facts .decided) p fits unclaimed in
-        (ρ, counter, λ F keeps P from follows answers. lost-false G X t p (states G P) (lost F keeps P from follows answers))
+        forces-strategies G proper p (λ λs. True t λs → ⊥) (ρ, counter, λ P from paid answers. lost-false t (rankAt G X p) (states G P) (lost P from paid answers))
 
     pub not-both-win : (p : Position) → IsPosition G p → CoalitionWins G t p → OpponentsWin G t p → ⊥
     not-both-win p fits = clash G proper p fits (True t) (λ λs. True t λs → ⊥) (λ λs h fails. fails h)
@@ -69,16 +72,6 @@ module _ (G : Arena) (proper : Proper (G .structure)) (X : Table) where
         go : Dec (Claims G X t p) → Claims G X t p
         go (yes claim) = claim
         go (no unclaimed) = absurd (not-both-win p fits wins (unclaimed-opponents p fits unclaimed))
-
-  -- whether a row has failed is read off the rank too
-  has-failed : (t : Objective) → RankFacts G t (rankAt G X) → LeftDecided G t → (x : Position) → IsPosition G x → Dec (Failed G X t x)
-  has-failed (until left right) ranks left? x fits = both? (not? (left? (x .state) (fits .0))) (λ _. go (eq? (rankAt G X x) 0))
-    where
-      go : Dec (rankAt G X x ≡ 0) → Dec (right (x .state) → ⊥)
-      go (yes e) = no (λ fails. fails (ranks .sound .reached x fits e))
-      go (no ne) = yes (λ r. ne (ranks .sound .goal x fits r))
-  has-failed (always left) ranks left? x fits = eq? (rankAt G X x) 0
-  has-failed (next left) ranks left? x fits = no (λ e. e)
 
   -- the rank is what plays say
   until-rank : (left right : ℕ → Type 0) → Facts G X (until left right) → (p : Position) → IsPosition G p → RankIs G (until left right) p (rankAt G X p)
@@ -94,7 +87,7 @@ module _ (G : Arena) (proper : Proper (G .structure)) (X : Table) where
             (
               claimed-won G X proper t (facts-winning t facts) p fits finite,
               λ k less (F, keeps, met).
-                  let (P, from, follows, slow) = no-sooner G proper X t (facts .ranks) (facts .decided) p fits F keeps in
+                  let (P, from, follows, slow) = no-sooner G proper X t (facts .ranks) (facts .decided) p fits .0 F keeps in
                   slow k less (met P from follows),
             ),
           )
@@ -102,8 +95,8 @@ module _ (G : Arena) (proper : Proper (G .structure)) (X : Table) where
           inr (
             omega (arith, facts .ranks .sound .bounded p fits),
             λ k enforces.
-                clash G proper p fits (λ λs. MetWithin left right λs k) (LostOn G X t p) (λ λs (j, _, r, before) lost. lost (j, r, before)) enforces
-                (unclaimed-lost G proper X t (facts .ranks) (facts .decided) p fits unclaimed),
+                clash G proper p fits (λ λs. MetWithin left right λs k) (LostOn t (rankAt G X p)) (λ λs (j, _, r, before) lost. lost (j, r, before)) enforces
+                (forces-strategies G proper p (LostOn t (rankAt G X p)) (unclaimed-lost G proper X t (facts .ranks) (facts .decided) p fits unclaimed)),
           )
 
   always-rank : (left : ℕ → Type 0) → Facts G X (always left) → (p : Position) → IsPosition G p → RankIs G (always left) p (rankAt G X p)
@@ -124,7 +117,7 @@ module _ (G : Arena) (proper : Proper (G .structure)) (X : Table) where
           inl (
             omega (arith, facts .ranks .sound .bounded p fits),
             (
-              unclaimed-lost G proper X t (facts .ranks) (facts .decided) p fits unclaimed,
+              forces-strategies G proper p (LostOn t (rankAt G X p)) (unclaimed-lost G proper X t (facts .ranks) (facts .decided) p fits unclaimed),
               λ k less forces.
                   clash G proper p fits (λ λs. (j : ℕ) → j < rankAt G X p → left (λs j)) (λ λs. FalseWithin left λs k) (λ λs slow (j, l, fails). fails (slow j (omega arith)))
                   (no-sooner G proper X t (facts .ranks) (facts .decided) p fits) forces,
@@ -187,6 +180,50 @@ module _ (G : Arena) (proper : Proper (G .structure)) (X : Table) where
         go (yes claim) = inl (claims-win t facts p fits claim)
         go (no unclaimed) = inr (unclaimed-opponents t facts p fits unclaimed)
 
+    -- so there is a reply rule, and it is a counter-strategy
+    reply-rule : (ρ : CounterStrategy) × IsCounterStrategy G ρ × ReplyRule G X t (CoalitionWins G t) ρ
+    reply-rule = (ρ, counter, rule)
+      where
+        answered : (p : Position) (m : ℕ) → Dec (IsPosition G p) → Dec (Allowed G p m) → ℕ
+        answered p m (yes fits) (yes a) = reply-exists G X proper t facts p fits m a .0
+        answered p m (yes fits) (no _) = 0
+        answered p m (no _) d = 0
+
+        ρ : CounterStrategy
+        ρ p m = answered p m (position? G p) (allowed? G p m)
+
+        counter : IsCounterStrategy G ρ
+        counter p m fits _ = go (position? G p) (allowed? G p m)
+          where
+            go : (d : Dec (IsPosition G p)) (e : Dec (Allowed G p m)) → Reply G p (answered p m d e)
+            go (yes fits′) (yes a) = reply-exists G X proper t facts p fits′ m a .1
+            go (yes _) (no _) = idle-reply G proper p fits
+            go (no _) e = idle-reply G proper p fits
+
+        rule : ReplyRule G X t (CoalitionWins G t) ρ
+        rule p m fits a = go (position? G p) (allowed? G p m)
+          where
+            go : (d : Dec (IsPosition G p)) (e : Dec (Allowed G p m)) → ReplyIs G X t (CoalitionWins G t) p m (answered p m d e)
+            go (yes fits′) (yes a′) =
+                let (r, _, at) = reply-exists G X proper t facts p fits′ m a′ in
+                reply-by-plays p fits m r a at
+            go (yes _) (no fails) = absurd (fails a)
+            go (no fails) e = absurd (fails fits)
+
+    -- to idle keeps within every stock
+    idle-strategy : (p : Position) → IsPosition G p → (F : Strategy) × KeepsWithin G p F
+    idle-strategy p fits =
+        let allowed = idle-allowed G proper in
+        (asStrategy G proper (λ _. 0) allowed (p .stock), keeps G proper (λ _. 0) allowed (p .stock) (p .state) fits)
+
+    -- against the rule, every play whose moves are affordable is lost
+    replies-beat : (p : Position) → IsPosition G p → OpponentsWin G t p → (ρ : CounterStrategy) → ReplyRule G X t (CoalitionWins G t) ρ → (P : Play G) → From G p P → Afforded G P → Answers G ρ P
+        → LostOn t (rankAt G X p) (states G P) × ((n : ℕ) → CoalitionWins G t (P .at n) → Settled t (states G P) n)
+    replies-beat p fits loses ρ rule P from paid answers =
+        let (lost, settled) = replies-win G proper X (CoalitionWins G t) ρ P answers paid t (facts .ranks) (facts .decided) rule (wins-claimed t facts) (claims-win t facts)
+        (λ claim. not-both-win t facts p fits (claims-win t facts p fits (subst (Claims G X t) from claim)) loses) in
+        (subst (λ (x : Position). LostOn t (rankAt G X x) (states G P)) from lost, settled)
+
     -- demand 3
     pub decided : (p : Position) → IsPosition G p → Decided G X t p
     decided p fits = record {
@@ -196,17 +233,18 @@ module _ (G : Arena) (proper : Proper (G .structure)) (X : Table) where
       rank-below = rank-small t (facts .ranks) p fits;
       no-sooner = no-sooner G proper X t (facts .ranks) (facts .decided) p fits;
       move-is = move-by-plays p fits;
+      some-replies = reply-rule;
+      some-strategy = idle-strategy p fits;
       table-plays = table-against G X proper t (facts-winning t facts) p fits;
-      reply-plays = λ ρ rule. replies-against G proper X t (CoalitionWins G t) ρ rule wins? failed? p fits;
+      reply-plays = λ ρ rule. replies-against G proper X t (CoalitionWins G t) ρ rule wins? over? p fits;
+      recall-plays = λ ρ rule. replies-recall G proper X t (CoalitionWins G t) ρ rule wins? over? p fits;
       by-table = λ wins P from by. (
         table-paid G X proper t (facts-winning t facts) P by,
-        subst (λ (x : Position). WonOn G X t x (states G P)) from (table-won G X proper t (facts-winning t facts) P by (claimed P from wins)),
+        subst (λ (x : Position). WonOn t (rankAt G X x) (states G P)) from (table-won G X proper t (facts-winning t facts) P by (claimed P from wins)),
       );
       idles-settled = λ wins P from by. table-idles-settled G X proper t (facts-winning t facts) P by (claimed P from wins);
-      by-replies = λ loses ρ rule F keeps P from follows answers.
-          let (lost, settled) = replies-win G proper X (CoalitionWins G t) ρ P answers (strategy-paid G proper p F keeps P from follows) t (facts .ranks) (facts .decided) rule (wins-claimed t facts) (claims-win t facts)
-          (λ claim. not-both-win t facts p fits (claims-win t facts p fits (subst (Claims G X t) from claim)) loses) in
-          (subst (λ (x : Position). LostOn G X t x (states G P)) from lost, settled);
+      by-replies = replies-beat p fits;
+      strategies-lose = λ loses ρ rule F keeps P from follows. replies-beat p fits loses ρ rule P from (strategy-paid G proper p F keeps P from follows);
     }
       where
         wins? : (x : Position) → IsPosition G x → Dec (CoalitionWins G t x)
@@ -216,8 +254,8 @@ module _ (G : Arena) (proper : Proper (G .structure)) (X : Table) where
             go (yes claim) = yes (claims-win t facts x inside claim)
             go (no unclaimed) = no (λ wins. unclaimed (wins-claimed t facts x inside wins))
 
-        failed? : (x : Position) → IsPosition G x → Dec (Failed G X t x)
-        failed? x inside = has-failed t (facts .ranks) (facts .decided) x inside
+        over? : (x : Position) → IsPosition G x → Dec (Failed G X t x)
+        over? x inside = failed? G proper X x inside t (facts .decided)
 
         claimed : (P : Play G) → From G p P → CoalitionWins G t p → Claims G X t (P .at 0)
         claimed P from wins = subst (Claims G X t) (sym from) (wins-claimed t facts p fits wins)

@@ -3,8 +3,8 @@
 use mathlib.Core.Path.{_≡_, sym, _∙_, ap, subst}
 use Prim.Native.Nat.{ℕ, suc}
 use Rattle.game.specs.Rbatl.{Strategy}
-use Rattle.game.specs.Position.{Arena, Position, IsPosition, Affordable, Allowed, outcome}
-use Rattle.game.specs.Play.{Play, CounterStrategy, From, Follows, Answers, IsCounterStrategy, KeepsWithin}
+use Rattle.game.specs.Position.{Arena, Position, IsPosition, Allowed, outcome}
+use Rattle.game.specs.Play.{Play, CounterStrategy, From, Follows, Answers, IsCounterStrategy, Afforded, KeepsWithin}
 use Rattle.game.specs.Facts.{CanForce, CanAnswer}
 use Rattle.game.proofs.Bridge.Proper.{Proper}
 use Rattle.game.proofs.Bridge.Plays.{at-fits}
@@ -31,13 +31,13 @@ module _ (G : Arena) (proper : Proper (G .structure)) (Region : Position → Typ
 
   pub answered-along : ((p : Position) → IsPosition G p → Region p → CanAnswer G p (Result p))
       → (ρ : CounterStrategy) × IsCounterStrategy G ρ
-      × ((P : Play G) → Answers G ρ P → ((i : ℕ) → Affordable G (P .at i) (P .move i)) → (i : ℕ) → Region (P .at i) → Result (P .at i) (P .at (suc i)))
+      × ((P : Play G) → Answers G ρ P → Afforded G P → (i : ℕ) → Region (P .at i) → Result (P .at i) (P .at (suc i)))
   answered-along can = (ρ, λ p m fits _. answer G proper Region region? Result can p m .available fits, along)
     where
       ρ : CounterStrategy
       ρ p m = answer G proper Region region? Result can p m .reply
 
-      along : (P : Play G) → Answers G ρ P → ((i : ℕ) → Affordable G (P .at i) (P .move i)) → (i : ℕ) → Region (P .at i) → Result (P .at i) (P .at (suc i))
+      along : (P : Play G) → Answers G ρ P → Afforded G P → (i : ℕ) → Region (P .at i) → Result (P .at i) (P .at (suc i))
       along P answers paid i region =
           subst (Result (P .at i))
           (ap (outcome G (P .at i) (P .move i)) (sym (answers i)) ∙ sym (P .step i))

@@ -5,18 +5,18 @@ use Prim.Native.Nat.{ℕ, zero, suc, _<_}
 use native.Mathlib.Decide.{decLt}
 use native.Mathlib.Omega.{arith}
 use Rattle.game.specs.Rbatl.{Strategy}
-use Rattle.game.specs.Position.{Arena, Position, IsPosition, Reply, Affordable, Allowed, outcome}
-use Rattle.game.specs.Play.{Objective, next, always, until, Settled, Play, CounterStrategy, states, From, Follows, Answers, IsCounterStrategy, KeepsWithin}
+use Rattle.game.specs.Position.{Arena, Position, IsPosition, Reply, Allowed, outcome}
+use Rattle.game.specs.Play.{Objective, next, always, until, Settled, Play, CounterStrategy, RecallStrategy, states, From, Follows, Answers, IsCounterStrategy, past, FollowsRecall, IsRecallStrategy, Afforded, KeepsWithin}
 use Rattle.game.specs.Table.{Table, never, rankAt, Failed, CounterAim, ReplyRule, LostOn}
-use Rattle.game.specs.Facts.{Claims, RankFacts, LeftDecided}
+use Rattle.game.specs.Facts.{Claims, RankFacts, RowsDecided}
 use Rattle.game.proofs.Bridge.Proper.{Proper}
 use Rattle.game.proofs.Numbers.Ranks.{reaches, unranked-reached, never-reaches, ranked-spoilt}
 use Rattle.game.proofs.Whole.Settled.{spoilt-settled, false-settled, next-false-settled}
-use Rattle.game.proofs.Bridge.Plays.{at-fits, strategy-paid, play-against}
+use Rattle.game.proofs.Bridge.Plays.{at-fits, strategy-paid, recall-play, play-against}
 use Rattle.game.proofs.Local.Decidable.{allowed?}
 use Rattle.game.proofs.Whole.Choices.{idle-reply}
 
-module _ (G : Arena) (proper : Proper (G .structure)) (X : Table) (Won : Position → Type 0) (ρ : CounterStrategy) (P : Play G) (answers : Answers G ρ P) (paid : (i : ℕ) → Affordable G (P .at i) (P .move i)) where
+module _ (G : Arena) (proper : Proper (G .structure)) (X : Table) (Won : Position → Type 0) (ρ : CounterStrategy) (P : Play G) (answers : Answers G ρ P) (paid : Afforded G P) where
   abbrev rankOf : ℕ → ℕ
   rankOf i = rankAt G X (P .at i)
 
@@ -45,12 +45,12 @@ module _ (G : Arena) (proper : Proper (G .structure)) (X : Table) (Won : Positio
         go (yes h) = absurd (still (claims-won (P .at (suc i)) (at-fits G proper P (suc i)) h))
         go (no h) = omega (arith, ranks .sound .bounded (P .at (suc i)) (at-fits G proper P (suc i)))
 
-    until-replies : LeftDecided G (until left right) → LostOn G X (until left right) (P .at 0) (states G P) × ((n : ℕ) → Won (P .at n) → Settled (until left right) (states G P) n)
-    until-replies left? = (
+    until-replies : RowsDecided G (until left right) → LostOn (until left right) (rankOf 0) (states G P) × ((n : ℕ) → Won (P .at n) → Settled (until left right) (states G P) n)
+    until-replies rows = (
       (λ (k, r, before). never-reaches never (λ i. left (states G P i)) (λ i. right (states G P i)) rankOf goal (omega arith) start stays k (k, omega arith, r, before)),
       λ n w. spoilt-settled left (states G P) n right
           (ranked-spoilt never (λ i. left (states G P i)) (λ i. right (states G P i)) rankOf goal (omega arith) start stays
-          (λ i. left? (states G P i) (at-fits G proper P i .0)) n (won-claims (P .at n) (at-fits G proper P n) w)),
+          (λ i. rows .0 (states G P i) (at-fits G proper P i .0)) n (won-claims (P .at n) (at-fits G proper P n) w)),
     )
 
   module _ (left : ℕ → Type 0) (ranks : RankFacts G (always left) (rankAt G X)) (rule : ReplyRule G X (always left) Won ρ)
@@ -66,7 +66,7 @@ module _ (G : Arena) (proper : Proper (G .structure)) (X : Table) (Won : Positio
     finite : rankOf 0 < never
     finite = omega (arith, ranks .sound .bounded (P .at 0) (P .start))
 
-    always-replies : LostOn G X (always left) (P .at 0) (states G P) × ((n : ℕ) → Won (P .at n) → Settled (always left) (states G P) n)
+    always-replies : LostOn (always left) (rankOf 0) (states G P) × ((n : ℕ) → Won (P .at n) → Settled (always left) (states G P) n)
     always-replies =
         let found = reaches never (λ _. Unit {0}) (λ i. left (states G P i) → ⊥) rankOf reached falls finite in (
           (found .0, found .1, found .2),
@@ -85,15 +85,15 @@ module _ (G : Arena) (proper : Proper (G .structure)) (X : Table) (Won : Positio
     next-settled zero w = absurd (unclaimed (won-claims (P .at 0) (P .start) w))
     next-settled (suc n) w = next-false-settled left (states G P) n fails
 
-  pub replies-win : (t : Objective) → RankFacts G t (rankAt G X) → LeftDecided G t → ReplyRule G X t Won ρ
+  pub replies-win : (t : Objective) → RankFacts G t (rankAt G X) → RowsDecided G t → ReplyRule G X t Won ρ
       → ((x : Position) → IsPosition G x → Won x → Claims G X t x) → ((x : Position) → IsPosition G x → Claims G X t x → Won x)
       → (Claims G X t (P .at 0) → ⊥)
-      → LostOn G X t (P .at 0) (states G P) × ((n : ℕ) → Won (P .at n) → Settled t (states G P) n)
-  replies-win (until left right) ranks left? rule won-claims claims-won unclaimed = until-replies left right ranks rule won-claims claims-won unclaimed left?
-  replies-win (always left) ranks left? rule won-claims claims-won unclaimed = always-replies left ranks rule won-claims unclaimed
-  replies-win (next left) ranks left? rule won-claims claims-won unclaimed = (fails left rule won-claims unclaimed, next-settled left rule won-claims unclaimed)
+      → LostOn t (rankOf 0) (states G P) × ((n : ℕ) → Won (P .at n) → Settled t (states G P) n)
+  replies-win (until left right) ranks rows rule won-claims claims-won unclaimed = until-replies left right ranks rule won-claims claims-won unclaimed rows
+  replies-win (always left) ranks rows rule won-claims claims-won unclaimed = always-replies left ranks rule won-claims unclaimed
+  replies-win (next left) ranks rows rule won-claims claims-won unclaimed = (fails left rule won-claims unclaimed, next-settled left rule won-claims unclaimed)
 
--- the reply rule has a play against every strategy within the stock
+-- the reply rule has a play against every strategy within the stock, and against affordable moves however they are chosen
 module _ (G : Arena) (proper : Proper (G .structure)) (X : Table) (t : Objective) (Won : Position → Type 0) (ρ : CounterStrategy) (rule : ReplyRule G X t Won ρ)
     (won? : (p : Position) → IsPosition G p → Dec (Won p)) (failed? : (p : Position) → IsPosition G p → Dec (Failed G X t p)) where
   reply-available : (p : Position) (m : ℕ) → IsPosition G p → Allowed G p m → Reply G p (ρ p m)
@@ -128,7 +128,17 @@ module _ (G : Arena) (proper : Proper (G .structure)) (X : Table) (t : Objective
       go (yes _) = refl
       go (no fails) = absurd (fails a)
 
+  -- replies as patched are the rule's on a play whose moves are affordable
+  rule-answers : (P : Play G) → Answers G patched P → Afforded G P → Answers G ρ P
+  rule-answers P answers paid i = answers i ∙ patched-is (P .at i) (P .move i) (P .moved i, paid i)
+
   pub replies-against : (p : Position) → IsPosition G p → (F : Strategy) → KeepsWithin G p F → (P : Play G) × From G p P × Follows G F P × Answers G ρ P
   replies-against p fits F keeps =
       let (P, from, follows, answers) = play-against G proper F (keeps .0) patched patched-counter p fits in
-      (P, from, follows, λ i. answers i ∙ patched-is (P .at i) (P .move i) (P .moved i, strategy-paid G proper p F keeps P from follows i))
+      (P, from, follows, rule-answers P answers (strategy-paid G proper p F keeps P from follows))
+
+  -- and against affordable moves, however they are chosen
+  pub replies-recall : (p : Position) → IsPosition G p → (μ : RecallStrategy) → IsRecallStrategy G μ → (P : Play G) × From G p P × FollowsRecall G μ P × Answers G ρ P
+  replies-recall p fits μ allowed =
+      let (P, from, follows, answers) = recall-play G proper μ (λ h x inside. allowed h x inside .0) (λ _. patched) (λ _. patched-counter) p fits in
+      (P, from, follows, rule-answers P answers (λ i. rw (follows i) (allowed (past G P i) (P .at i) (at-fits G proper P i) .1)))

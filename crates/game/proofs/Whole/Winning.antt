@@ -8,33 +8,33 @@ use native.Mathlib.Nat.{pow-le-pow-right}
 use native.Mathlib.Omega.{arith}
 use lib.Dec.{T, eqb, eqb→eq}
 use Rattle.game.specs.Rbatl.{Computation, Strategy, Coalition, Structure}
-use Rattle.game.specs.Position.{Arena, Position, MoveOf, IsPosition, Allowed, Affordable, outcome}
-use Rattle.game.specs.Play.{Objective, next, always, until, True, Settled, Play, CounterStrategy, states, From, Follows, Answers, IsCounterStrategy, Paid, KeepsWithin, Enforces}
+use Rattle.game.specs.Position.{Arena, Position, MoveOf, IsPosition, Allowed, outcome}
+use Rattle.game.specs.Play.{Objective, next, always, until, True, Settled, Play, RecallCounter, states, From, Follows, AnswersRecall, IsRecallCounter, Afforded, Paid, KeepsWithin, Enforces}
 use Rattle.game.specs.Table.{Table, never, noMove, shown, rankAt, moveAt, Aim, Good, ByTable, WonOn}
 use Rattle.game.specs.Facts.{Claims, Backed, WinningFacts}
 use Rattle.game.proofs.Bridge.Proper.{Proper}
 use Rattle.game.proofs.Numbers.Ranks.{reaches, unranked-reached}
 use Rattle.game.proofs.Whole.Settled.{met-settled, next-true-settled}
-use Rattle.game.proofs.Bridge.Plays.{at-fits, within-along, play-against}
+use Rattle.game.proofs.Bridge.Plays.{at-fits, within-along, recall-play}
 use Rattle.game.proofs.Bridge.Strategies.{asStrategy, keeps, picks}
 use Rattle.game.proofs.Local.Decidable.{claims?}
 use Rattle.game.proofs.Whole.Choices.{idle-allowed}
 
--- a move that exists is shown as it is
-move-small : (S : Structure) → Proper S → (A : Coalition) (q m : ℕ) → MoveOf S A q m → m < 64
+-- a move or a reply is a small number, and a small number is shown as it is
+pub move-small : (S : Structure) → Proper S → (A : Coalition) (q m : ℕ) → MoveOf S A q m → m < 64
 move-small S proper A q m move = omega (arith, move .0, pow-le-pow-right {n = 4} (omega arith) (proper .few-agents))
 
-shown-small : (m : ℕ) → m < 64 → shown m ≡ m
+pub shown-small : (m : ℕ) → m < 64 → shown m ≡ m
 shown-small m l = go (eqb m noMove) (eqb→eq m noMove)
   where
     go : (t : Bool) → (T t → m ≡ noMove) → cond t 0 m ≡ m
     go true e = absurd (omega (arith, e tt))
     go false e = refl
 
-pub won-true : (G : Arena) (X : Table) (t : Objective) (p : Position) (λs : Computation) → WonOn G X t p λs → True t λs
-won-true G X (until left right) p λs (k, _, r, before) = (k, r, before)
-won-true G X (always left) p λs w = w
-won-true G X (next left) p λs w = w
+pub won-true : (t : Objective) (n : ℕ) (λs : Computation) → WonOn t n λs → True t λs
+won-true (until left right) n λs (k, _, r, before) = (k, r, before)
+won-true (always left) n λs w = w
+won-true (next left) n λs w = w
 
 module _ (G : Arena) (X : Table) where
   module _ (proper : Proper (G .structure)) where
@@ -85,11 +85,11 @@ module _ (G : Arena) (X : Table) where
       pub table-paid : (P : Play G) → ByTable G X P → Paid G P
       table-paid P by = (paid, within-along G proper P paid)
         where
-          paid : (i : ℕ) → Affordable G (P .at i) (P .move i)
+          paid : Afforded G P
           paid i = rw (by i) (shown-allowed (P .at i) (at-fits G proper P i) .1)
 
     -- every play by the table from a claimed position is won
-    pub table-won : (t : Objective) → WinningFacts G X t → (P : Play G) → ByTable G X P → Claims G X t (P .at 0) → WonOn G X t (P .at 0) (states G P)
+    pub table-won : (t : Objective) → WinningFacts G X t → (P : Play G) → ByTable G X P → Claims G X t (P .at 0) → WonOn t (rankAt G X (P .at 0)) (states G P)
     table-won (until left right) facts P by claim = reaches never _ _ (λ i. rankAt G X (P .at i)) (until-reached left right facts P) (until-falls left right facts P by) claim
     table-won (always left) facts P by claim = λ i. always-left left facts P by claim i .1
     table-won (next left) facts P by claim = aimed (next left) P by 0 (facts .claimed (P .at 0) (P .start) claim)
@@ -133,17 +133,15 @@ module _ (G : Arena) (X : Table) where
       unfolding tableStrategy
       table-follows P from follows = picks G proper (λ x. shown (moveAt G X x)) (shown-allowed t facts) (p .stock) (fits .1) P (ap (λ (x : Position). x .stock) from) follows
 
-      pub table-against : (ρ : CounterStrategy) → IsCounterStrategy G ρ → (P : Play G) × From G p P × ByTable G X P × Answers G ρ P
-      table-against ρ counter =
-          let (P, from, follows, answers) = play-against G proper tableStrategy (table-keeps .0) ρ counter p fits in
-          (P, from, table-follows P from follows, answers)
+      pub table-against : (ρ : RecallCounter) → IsRecallCounter G ρ → (P : Play G) × From G p P × ByTable G X P × AnswersRecall G ρ P
+      table-against ρ counter = recall-play G proper (λ _ x. shown (moveAt G X x)) (λ _ x inside. shown-allowed t facts x inside .0) ρ counter p fits
 
       -- a claimed position is won by the table's moves, and an until row within the rank that it shows
-      pub claimed-won : Claims G X t p → Enforces G p (WonOn G X t p)
+      pub claimed-won : Claims G X t p → Enforces G p (WonOn t (rankAt G X p))
       claimed-won claim = (
         tableStrategy,
         table-keeps,
         λ P from follows.
-            subst (λ (x : Position). WonOn G X t x (states G P)) from
+            subst (λ (x : Position). WonOn t (rankAt G X x) (states G P)) from
             (table-won t facts P (table-follows P from follows) (subst (Claims G X t) (sym from) claim)),
       )

@@ -4,7 +4,7 @@ use mathlib.Core.Path.{_∙_}
 use mir.Facts.{toZ-ofZ}
 use borrow.Author.Needs.{needs}
 use Rattle.game.specs.Position.{position}
-use Rattle.lookup.specs.Calls.{CoalitionMove}
+use Rattle.game.specs.Demand.{RowMove}
 use Rattle.rbatl.proofs.Values.{small-value}
 use Rattle.rbatl.proofs.rbatl_move.Statement.{statement}
 use Rattle.rbatl.proofs.rbatl_move.Tie as tie
@@ -15,7 +15,7 @@ coalition-move-requires c κs = search needs
 value-requires : tie.Need-value-requires
 value-requires c κs =
     let args = c .before .before .before .before .before .before .args in
-    small-value (CoalitionMove (args .block .now) (args .row) (position (args .state) (args .stock0 ∷ args .stock1 ∷ []))) (λ n h. h .small) (c .before .before .coalition-move .result) (c .before .before .coalition-move .ensures .0 .found .value)
+    small-value (RowMove (args .block .now) (args .row) (position (args .state) (args .stock0 ∷ args .stock1 ∷ []))) (λ n h. h .small) (c .before .before .coalition-move .result) (c .before .before .coalition-move .ensures .0 .found .value)
 
 same-length : tie.Need-same-length
 same-length c = search needs

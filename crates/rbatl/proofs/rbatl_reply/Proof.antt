@@ -4,7 +4,7 @@ use mathlib.Core.Path.{_∙_}
 use mir.Facts.{toZ-ofZ}
 use borrow.Author.Needs.{needs}
 use Rattle.game.specs.Position.{position}
-use Rattle.lookup.specs.Calls.{OpponentsReply}
+use Rattle.game.specs.Demand.{RowReply}
 use Rattle.rbatl.proofs.Values.{small-value}
 use Rattle.rbatl.proofs.rbatl_reply.Statement.{statement}
 use Rattle.rbatl.proofs.rbatl_reply.Tie as tie
@@ -15,7 +15,7 @@ reply-requires c κs = search needs
 value-requires : tie.Need-value-requires
 value-requires c κs =
     let args = c .before .before .before .before .before .before .args in
-    small-value (OpponentsReply (args .block .now) (args .row) (position (args .state) (args .stock0 ∷ args .stock1 ∷ [])) (args .mv)) (λ n h. h .small) (c .before .before .reply .result) (c .before .before .reply .ensures .0 .found .value)
+    small-value (RowReply (args .block .now) (args .row) (position (args .state) (args .stock0 ∷ args .stock1 ∷ [])) (args .mv)) (λ n h. h .small) (c .before .before .reply .result) (c .before .before .reply .ensures .0 .found .value)
 
 same-length : tie.Need-same-length
 same-length c = search needs

@@ -6,17 +6,17 @@ use borrow.Author.Needs.{needs}
 use Rattle.solver.proofs.Calls.{cleared}
 use Rattle.block.specs.declared.refusal.Refusal.the-variants as refusal
 use Rattle.game.specs.Position.{position}
-use Rattle.lookup.specs.Calls.{CoalitionMove}
-use Rattle.lookup.proofs.Playing.{coalition-demand}
+use Rattle.game.specs.Demand.{RowMove}
+use Rattle.game.proofs.Blocks.Rowwise.{row-demanded}
 use Rattle.lookup.proofs.Refusing.{clears, another-length, LateMove, late-move}
 use Rattle.lookup.proofs.coalition.coalition_move.Statement.{statement}
 use Rattle.lookup.proofs.coalition.coalition_move.Tie as tie
 
 returns : tie.Need-returns
-returns c = let args = c .before .before .before .args in (another-length (args .block .now) (args .i) (args .s) (args .stock0 ∷ args .stock1 ∷ []) (args .room .now) (LateMove (args .block .now) (args .i) (args .s) (args .stock0 ∷ args .stock1 ∷ [])) (late-move (args .block .now) (args .i) (args .s) (args .stock0 ∷ args .stock1 ∷ [])) (refusal.WrongSide ∷ []) (CoalitionMove (args .block .now) (args .i) (position (args .s) (args .stock0 ∷ args .stock1 ∷ []))) (inl (c .if1 .taken)), coalition-demand (args .block .now) (args .i))
+returns c = let args = c .before .before .before .args in (another-length (args .block .now) (args .i) (args .s) (args .stock0 ∷ args .stock1 ∷ []) (args .room .now) (LateMove (args .block .now) (args .i) (args .s) (args .stock0 ∷ args .stock1 ∷ [])) (late-move (args .block .now) (args .i) (args .s) (args .stock0 ∷ args .stock1 ∷ [])) (refusal.WrongSide ∷ []) (RowMove (args .block .now) (args .i) (position (args .s) (args .stock0 ∷ args .stock1 ∷ []))) (inl (c .if1 .taken)), row-demanded (args .block .now) (args .i))
 
 returns-2 : tie.Need-returns-2
-returns-2 c = let args = c .before .before .before .before .args in (another-length (args .block .now) (args .i) (args .s) (args .stock0 ∷ args .stock1 ∷ []) (args .room .now) (LateMove (args .block .now) (args .i) (args .s) (args .stock0 ∷ args .stock1 ∷ [])) (late-move (args .block .now) (args .i) (args .s) (args .stock0 ∷ args .stock1 ∷ [])) (refusal.WrongSide ∷ []) (CoalitionMove (args .block .now) (args .i) (position (args .s) (args .stock0 ∷ args .stock1 ∷ []))) (inr (c .if2 .taken)), coalition-demand (args .block .now) (args .i))
+returns-2 c = let args = c .before .before .before .before .args in (another-length (args .block .now) (args .i) (args .s) (args .stock0 ∷ args .stock1 ∷ []) (args .room .now) (LateMove (args .block .now) (args .i) (args .s) (args .stock0 ∷ args .stock1 ∷ [])) (late-move (args .block .now) (args .i) (args .s) (args .stock0 ∷ args .stock1 ∷ [])) (refusal.WrongSide ∷ []) (RowMove (args .block .now) (args .i) (position (args .s) (args .stock0 ∷ args .stock1 ∷ []))) (inr (c .if2 .taken)), row-demanded (args .block .now) (args .i))
 
 slice-aggregate-coalition-answer : tie.Need-slice-aggregate-coalition-answer
 slice-aggregate-coalition-answer c = search needs
@@ -34,9 +34,9 @@ returns-3 : tie.Need-returns-3
 returns-3 c =
     let args = c .before .before .before .before .before .before .before .before .before .before .before .before .before .args in
     let found = c .before .before .before .before .before .before .coalition-answer in (
-      clears (args .block .now) (args .i) (args .s) (args .stock0 ∷ args .stock1 ∷ []) (args .room .now) (LateMove (args .block .now) (args .i) (args .s) (args .stock0 ∷ args .stock1 ∷ [])) (late-move (args .block .now) (args .i) (args .s) (args .stock0 ∷ args .stock1 ∷ [])) (refusal.WrongSide ∷ []) (CoalitionMove (args .block .now) (args .i) (position (args .s) (args .stock0 ∷ args .stock1 ∷ []))) (c .before .before .before .before .before .before .before .before .before .if2 .left) (c .before .before .before .before .before .before .before .before .before .before .if1 .left) (omega arith, tt) (c .before .before .zeros .last .0) (found .result) (found .ensures .0)
+      clears (args .block .now) (args .i) (args .s) (args .stock0 ∷ args .stock1 ∷ []) (args .room .now) (LateMove (args .block .now) (args .i) (args .s) (args .stock0 ∷ args .stock1 ∷ [])) (late-move (args .block .now) (args .i) (args .s) (args .stock0 ∷ args .stock1 ∷ [])) (refusal.WrongSide ∷ []) (RowMove (args .block .now) (args .i) (position (args .s) (args .stock0 ∷ args .stock1 ∷ []))) (c .before .before .before .before .before .before .before .before .before .if2 .left) (c .before .before .before .before .before .before .before .before .before .before .if1 .left) (omega arith, tt) (c .before .before .zeros .last .0) (found .result) (found .ensures .0)
           (cleared (found .last .1 .1 .1 .1 .0) (c .before .before .zeros .last .0) 12288 (c .before .before .zeros .ensures) (omega (arith, found .ensures .1, c .before .before .before .before .before .before .before .before .before .if2 .left))),
-      coalition-demand (args .block .now) (args .i),
+      row-demanded (args .block .now) (args .i),
     )
 
 pub coalition-move-spec : {M : Type 1} → statement M

@@ -7,7 +7,7 @@ use Rattle.solver.proofs.Calls.{row-chosen}
 use mathlib.Core.List.{[], _∷_}
 use Rattle.block.specs.declared.refusal.Refusal.the-variants as refusal
 use Rattle.game.specs.Position.{position}
-use Rattle.lookup.specs.Calls.{OpponentsReply}
+use Rattle.game.specs.Demand.{RowReply}
 use Rattle.lookup.proofs.Replying.{not-both}
 use Rattle.lookup.proofs.Refusing.{placed, refused, no-choice, no-position, LateReply, late-reply, reply-answered}
 use Rattle.lookup.proofs.opponents.opponents_answer.Statement.{statement}
@@ -25,7 +25,7 @@ no-choice-requires c κs = passing (rw (c .enum-told .given .1) at (c .before .b
 returns : tie.Need-returns
 returns c =
     let args = c .before .before .before .before .before .before .before .before .args in (
-      no-choice (args .block .now) (args .i) (args .s) (args .stocks .now) (args .room .now) (LateReply (args .block .now) (args .i) (args .s) (args .stocks .now) (args .m)) (late-reply (args .block .now) (args .i) (args .s) (args .stocks .now) (args .m)) (refusal.WrongSide ∷ refusal.Move ∷ []) (OpponentsReply (args .block .now) (args .i) (position (args .s) (args .stocks .now)) (args .m)) (c .before .before .before .before .before .before .before .before .pre .1) (rw (c .before .before .enum-told .given .1) at (c .before .before .before .before .check .ensures)) (D.truth (c .before .no-choice .ensures) (c .if1 .taken)),
+      no-choice (args .block .now) (args .i) (args .s) (args .stocks .now) (args .room .now) (LateReply (args .block .now) (args .i) (args .s) (args .stocks .now) (args .m)) (late-reply (args .block .now) (args .i) (args .s) (args .stocks .now) (args .m)) (refusal.WrongSide ∷ refusal.Move ∷ []) (RowReply (args .block .now) (args .i) (position (args .s) (args .stocks .now)) (args .m)) (c .before .before .before .before .before .before .before .before .pre .1) (rw (c .before .before .enum-told .given .1) at (c .before .before .before .before .check .ensures)) (D.truth (c .before .no-choice .ensures) (c .if1 .taken)),
       omega arith,
     )
 
@@ -38,7 +38,7 @@ no-position-requires c κs =
 returns-2 : tie.Need-returns-2
 returns-2 c =
     let args = c .before .before .before .before .before .before .before .before .before .before .args in (
-      no-position (args .block .now) (args .i) (args .s) (args .stocks .now) (args .room .now) (LateReply (args .block .now) (args .i) (args .s) (args .stocks .now) (args .m)) (late-reply (args .block .now) (args .i) (args .s) (args .stocks .now) (args .m)) (refusal.WrongSide ∷ refusal.Move ∷ []) (OpponentsReply (args .block .now) (args .i) (position (args .s) (args .stocks .now)) (args .m)) (c .before .before .before .before .before .before .before .before .before .before .pre .1) (rw (c .before .before .before .before .enum-told .given .1) at (c .before .before .before .before .before .before .check .ensures)) (D.falsity (c .before .before .before .no-choice .ensures) (c .before .before .if1 .left))
+      no-position (args .block .now) (args .i) (args .s) (args .stocks .now) (args .room .now) (LateReply (args .block .now) (args .i) (args .s) (args .stocks .now) (args .m)) (late-reply (args .block .now) (args .i) (args .s) (args .stocks .now) (args .m)) (refusal.WrongSide ∷ refusal.Move ∷ []) (RowReply (args .block .now) (args .i) (position (args .s) (args .stocks .now)) (args .m)) (c .before .before .before .before .before .before .before .before .before .before .pre .1) (rw (c .before .before .before .before .enum-told .given .1) at (c .before .before .before .before .before .before .check .ensures)) (D.falsity (c .before .before .before .no-choice .ensures) (c .before .before .if1 .left))
           (D.truth (c .before .no-position .ensures) (c .if2 .taken)),
       omega arith,
     )
@@ -70,7 +70,7 @@ returns-3 c =
 returns-4 : tie.Need-returns-4
 returns-4 c =
     let args = c .before .before .before .before .before .before .before .args in
-    (refused (args .block .now) (args .i) (args .s) (args .stocks .now) (args .room .now) (LateReply (args .block .now) (args .i) (args .s) (args .stocks .now) (args .m)) (late-reply (args .block .now) (args .i) (args .s) (args .stocks .now) (args .m)) (refusal.WrongSide ∷ refusal.Move ∷ []) (OpponentsReply (args .block .now) (args .i) (position (args .s) (args .stocks .now)) (args .m)) (c .before .before .before .before .before .before .before .pre .1) (c .before .r .given .0 .0) (rw (c .before .r .given .1) at (c .before .before .before .check .ensures)), omega arith)
+    (refused (args .block .now) (args .i) (args .s) (args .stocks .now) (args .room .now) (LateReply (args .block .now) (args .i) (args .s) (args .stocks .now) (args .m)) (late-reply (args .block .now) (args .i) (args .s) (args .stocks .now) (args .m)) (refusal.WrongSide ∷ refusal.Move ∷ []) (RowReply (args .block .now) (args .i) (position (args .s) (args .stocks .now)) (args .m)) (c .before .before .before .before .before .before .before .pre .1) (c .before .r .given .0 .0) (rw (c .before .r .given .1) at (c .before .before .before .check .ensures)), omega arith)
 
 pub opponents-answer-spec : {M : Type 1} → statement M
 opponents-answer-spec = tie.close (tie.spec check-requires enum-told no-choice-requires returns no-position-requires returns-2 opponents-at-requires enum-known-r same-length returns-3 returns-4)

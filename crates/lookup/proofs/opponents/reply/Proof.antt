@@ -6,17 +6,17 @@ use borrow.Author.Needs.{needs}
 use Rattle.solver.proofs.Calls.{cleared}
 use Rattle.block.specs.declared.refusal.Refusal.the-variants as refusal
 use Rattle.game.specs.Position.{position}
-use Rattle.lookup.specs.Calls.{OpponentsReply}
-use Rattle.lookup.proofs.Playing.{opponents-demand}
+use Rattle.game.specs.Demand.{RowReply}
+use Rattle.game.proofs.Blocks.Rowwise.{row-demanded}
 use Rattle.lookup.proofs.Refusing.{clears, another-length, LateReply, late-reply}
 use Rattle.lookup.proofs.opponents.reply.Statement.{statement}
 use Rattle.lookup.proofs.opponents.reply.Tie as tie
 
 returns : tie.Need-returns
-returns c = let args = c .before .before .before .args in (another-length (args .block .now) (args .i) (args .s) (args .stock0 ∷ args .stock1 ∷ []) (args .room .now) (LateReply (args .block .now) (args .i) (args .s) (args .stock0 ∷ args .stock1 ∷ []) (args .m)) (late-reply (args .block .now) (args .i) (args .s) (args .stock0 ∷ args .stock1 ∷ []) (args .m)) (refusal.WrongSide ∷ refusal.Move ∷ []) (OpponentsReply (args .block .now) (args .i) (position (args .s) (args .stock0 ∷ args .stock1 ∷ [])) (args .m)) (inl (c .if1 .taken)), opponents-demand (args .block .now) (args .i))
+returns c = let args = c .before .before .before .args in (another-length (args .block .now) (args .i) (args .s) (args .stock0 ∷ args .stock1 ∷ []) (args .room .now) (LateReply (args .block .now) (args .i) (args .s) (args .stock0 ∷ args .stock1 ∷ []) (args .m)) (late-reply (args .block .now) (args .i) (args .s) (args .stock0 ∷ args .stock1 ∷ []) (args .m)) (refusal.WrongSide ∷ refusal.Move ∷ []) (RowReply (args .block .now) (args .i) (position (args .s) (args .stock0 ∷ args .stock1 ∷ [])) (args .m)) (inl (c .if1 .taken)), row-demanded (args .block .now) (args .i))
 
 returns-2 : tie.Need-returns-2
-returns-2 c = let args = c .before .before .before .before .args in (another-length (args .block .now) (args .i) (args .s) (args .stock0 ∷ args .stock1 ∷ []) (args .room .now) (LateReply (args .block .now) (args .i) (args .s) (args .stock0 ∷ args .stock1 ∷ []) (args .m)) (late-reply (args .block .now) (args .i) (args .s) (args .stock0 ∷ args .stock1 ∷ []) (args .m)) (refusal.WrongSide ∷ refusal.Move ∷ []) (OpponentsReply (args .block .now) (args .i) (position (args .s) (args .stock0 ∷ args .stock1 ∷ [])) (args .m)) (inr (c .if2 .taken)), opponents-demand (args .block .now) (args .i))
+returns-2 c = let args = c .before .before .before .before .args in (another-length (args .block .now) (args .i) (args .s) (args .stock0 ∷ args .stock1 ∷ []) (args .room .now) (LateReply (args .block .now) (args .i) (args .s) (args .stock0 ∷ args .stock1 ∷ []) (args .m)) (late-reply (args .block .now) (args .i) (args .s) (args .stock0 ∷ args .stock1 ∷ []) (args .m)) (refusal.WrongSide ∷ refusal.Move ∷ []) (RowReply (args .block .now) (args .i) (position (args .s) (args .stock0 ∷ args .stock1 ∷ [])) (args .m)) (inr (c .if2 .taken)), row-demanded (args .block .now) (args .i))
 
 slice-aggregate-opponents-answer : tie.Need-slice-aggregate-opponents-answer
 slice-aggregate-opponents-answer c = search needs
@@ -34,9 +34,9 @@ returns-3 : tie.Need-returns-3
 returns-3 c =
     let args = c .before .before .before .before .before .before .before .before .before .before .before .before .before .args in
     let found = c .before .before .before .before .before .before .opponents-answer in (
-      clears (args .block .now) (args .i) (args .s) (args .stock0 ∷ args .stock1 ∷ []) (args .room .now) (LateReply (args .block .now) (args .i) (args .s) (args .stock0 ∷ args .stock1 ∷ []) (args .m)) (late-reply (args .block .now) (args .i) (args .s) (args .stock0 ∷ args .stock1 ∷ []) (args .m)) (refusal.WrongSide ∷ refusal.Move ∷ []) (OpponentsReply (args .block .now) (args .i) (position (args .s) (args .stock0 ∷ args .stock1 ∷ [])) (args .m)) (c .before .before .before .before .before .before .before .before .before .if2 .left) (c .before .before .before .before .before .before .before .before .before .before .if1 .left) (omega arith, (omega arith, tt)) (c .before .before .zeros .last .0) (found .result) (found .ensures .0)
+      clears (args .block .now) (args .i) (args .s) (args .stock0 ∷ args .stock1 ∷ []) (args .room .now) (LateReply (args .block .now) (args .i) (args .s) (args .stock0 ∷ args .stock1 ∷ []) (args .m)) (late-reply (args .block .now) (args .i) (args .s) (args .stock0 ∷ args .stock1 ∷ []) (args .m)) (refusal.WrongSide ∷ refusal.Move ∷ []) (RowReply (args .block .now) (args .i) (position (args .s) (args .stock0 ∷ args .stock1 ∷ [])) (args .m)) (c .before .before .before .before .before .before .before .before .before .if2 .left) (c .before .before .before .before .before .before .before .before .before .before .if1 .left) (omega arith, (omega arith, tt)) (c .before .before .zeros .last .0) (found .result) (found .ensures .0)
           (cleared (found .last .1 .1 .1 .1 .1 .0) (c .before .before .zeros .last .0) 12288 (c .before .before .zeros .ensures) (omega (arith, found .ensures .1, c .before .before .before .before .before .before .before .before .before .if2 .left))),
-      opponents-demand (args .block .now) (args .i),
+      row-demanded (args .block .now) (args .i),
     )
 
 pub reply-spec : {M : Type 1} → statement M
