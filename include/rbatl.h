@@ -190,8 +190,8 @@ int32_t rbatl_move(const uint8_t *block, size_t block_len, uint8_t row, uint8_t 
                    uint8_t stock0, uint8_t stock1, uint8_t *room, size_t room_len);
 
 /* The reply of all other agents to the coalition's move at a position where the
- * coalition does not win: against these replies no strategy within the stock
- * makes the row true. It is the smallest whose outcome the coalition does not
+ * coalition does not win: against these replies no play whose moves the stock
+ * pays makes the row true, whoever chose them. It is the smallest whose outcome the coalition does not
  * win (until), has a lower rank (always), or fails left (next); and 0 where the
  * state alone makes the row false. A reply has 0 for the coalition's agents.
  * Otherwise as rbatl_move, with -RBATL_MOVE last of the refusals. */
