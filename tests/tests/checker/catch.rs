@@ -30,6 +30,7 @@ fn catch_has_its_replies() {
     let table = catch().table(3).unwrap();
     let position = table.position(0, &[5]);
     assert_eq!(table.affordable(position), [0, 1]);
+    assert_eq!(table.ranks[position], NEVER);
     assert_eq!(table.reply(position, 1), 4);
     assert_eq!(table.reply(position, 0), 0);
 }

@@ -3,13 +3,15 @@
 use super::*;
 use rbatl_tests::jobs::{self, catch};
 
-/// Starred cases 11 and 12: agent 1 holds agent 0 back by its action 1.
+/// Starred cases 11 and 12: agent 1 holds agent 0 back by its action 1, and so
+/// the opponents win there.
 #[test]
 fn replies_of_row_3() {
     let job = catch();
     let asked = Asked::patterned(&job, "Catch");
     assert_eq!(asked.reply(at(3, 0, [5, 0]), 1), 4);
     assert_eq!(asked.reply(at(3, 0, [5, 0]), 0), 0);
+    assert_eq!(asked.coalition_move(at(3, 0, [5, 0])), -10);
 }
 
 /// Starred case 13, with the seventh row `always,2,0,1`.
