@@ -4,11 +4,13 @@ pub mod Decimals
 pub mod Adding
 pub mod Spellings
 pub mod Formats
+pub mod Stops
 pub mod Turns
 pub mod Everywhere
 pub mod Passes
 pub mod Told
 pub mod Fitting
 pub mod Accepts
+pub mod Numbered
 pub mod Loops
 pub mod Repeats
