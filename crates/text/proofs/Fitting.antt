@@ -40,7 +40,7 @@ either-le true p q n h g = h
 either-le false p q n h g = g
 
 cost-limit : (k : ℕ) → costLimit k ≤ 16
-cost-limit k = either-le (eqb k 0) 1 16 16 (omega arith) (omega arith)
+cost-limit k = either-le (eqb k 0) _ _ 16 (omega arith) (omega arith)
 
 from-four : (f r : ℕ) → 4 ≤ f → f < 4 + r → (f - 4 < r) × (4 + (f - 4) ≡ f)
 from-four f r h g = omega arith

@@ -19,18 +19,16 @@ use Rattle.block.specs.Check.{agents-range, resources-range, states-range, prop
 use Rattle.block.specs.declared.layout.Place.{Place}
 use Rattle.block.specs.declared.layout.Place.the-variants.{Header, Mask, Count, Cost, Next, Field}
 use Rattle.block.specs.declared.refusal.Refusal.{Refusal}
-use Rattle.block.specs.declared.refusal.Refusal.the-variants as refusal
 use Rattle.block.proofs.Masks.{bit-above}
-use Rattle.text.specs.Numeral.{comma}
 use Rattle.text.specs.Format.{Spelling, Stop, nowhere, stopped, stop}
-use Rattle.text.specs.Job.{both, either, number, bound as boundSpelling, costLimit, strategic, job}
+use Rattle.text.specs.Job.{both, either, bound as boundSpelling, costLimit, strategic, teamSpelling, leftSpelling, job}
 use Rattle.text.specs.Broken.{BrokenAt, agents-at, resources-at, states-at, propositions-at, rows-at, mask-at, count-at, cost-at, next-at, prop-at, left-at, right-at, team-empty-at, team-absent-at, bound-at, UnlimitedNumber, written}
 use Rattle.text.specs.Text.{blank, readText, NumberedAt, Numbered}
 use Rattle.text.proofs.Decimals.{lt-or-ge}
 use Rattle.text.proofs.Spellings.{bound-small}
 use Rattle.text.proofs.Stops.{Spelled, Barred, along-every, From, as-it-was, was-read, halted, misread}
 use Rattle.text.proofs.Turns.{job-proper}
-use Rattle.text.proofs.Everywhere.{Everywhere, job-every}
+use Rattle.text.proofs.Everywhere.{sizesOf, Everywhere, job-every}
 use Rattle.text.proofs.Told.{possible-acts}
 use Rattle.text.proofs.Fitting.{binary-case, on-zero, on-other}
 use Rattle.text.proofs.Accepts.{blank-length, blank-zero}
@@ -111,7 +109,7 @@ module _ (b : Block) (t : List ℕ) (known : (i : ℕ) → i < maxRows → kind 
   is-strategic : (i : ℕ) → i < maxRows → T (strategic (kind b i)) → Strategic (kind b i)
   is-strategic i h s = (leb→le nextKind (kind b i) s, known i h)
 
-  team-told : (i : ℕ) → i < rows b → T (strategic (kind b i)) → Told (number comma 1 (2 ^ agents b) refusal.Row) (Field i 3)
+  team-told : (i : ℕ) → i < rows b → T (strategic (kind b i)) → Told (teamSpelling (sizesOf b)) (Field i 3)
   team-told i hi s l x = ⊎-elim
       (λ h. inl (team-empty-at hi (is-strategic i (l .0) s) (omega arith)))
       (λ h. inl (team-absent-at hi (is-strategic i (l .0) s) (bit-from (agents b) (team b i) h)))
@@ -130,8 +128,8 @@ module _ (b : Block) (t : List ℕ) (known : (i : ℕ) → i < maxRows → kind 
       (λ h. let full : x .option ≡ 255 = omega arith in inr (written hi k hj (sym byte ∙ full) (rw (full, bound-small 255 (lit< tt)) at (x .begins))))
       (lt-or-ge (x .option) 255)
 
-  left-told : (i sep : ℕ) → i < rows b → Told (number sep 0 (cond (eqb (kind b i) propKind) (propositions b) i) refusal.Row) (Field i 1)
-  left-told i sep hi l x =
+  left-told : (i : ℕ) → i < rows b → Told (leftSpelling (sizesOf b) i (kind b i)) (Field i 1)
+  left-told i hi l x =
       let limit = cond (eqb (kind b i) propKind) (propositions b) i in
       let from : limit ≤ left b i = from-limit limit (x .meant) (x .not-allowed) in
       ⊎-elim
@@ -157,7 +155,7 @@ module _ (b : Block) (t : List ℕ) (known : (i : ℕ) → i < maxRows → kind 
     row-fields = λ i _ hi. (
       λ _ x. let z : _≡_ {A = ℕ} 0 1 = cc (x .not-allowed) in absurd (omega arith),
       λ s. (team-told i hi s, λ j _ hj. bound-told i j hi s hj),
-      left-told i _ hi,
+      left-told i hi,
       λ s _ x. inl (right-at hi (binary-case (kind b i) s) (from-limit i (x .meant) (x .not-allowed))),
     );
   }
