@@ -1,6 +1,7 @@
 /* A long random run over every call of the library, under the address and the
- * undefined behaviour sanitizers: long SECONDS SEED [CASES]. It ends with the
- * number of calls, or at the first thing that is found, with status 1. */
+ * undefined behaviour sanitizers: long [SECONDS [SEED [CASES]]]. It ends with
+ * the number of calls, or at the first thing that is found, with status 1. So it
+ * does where CASES are asked for and time is up before them. */
 #include "fuzz.h"
 #include "lend.h"
 
@@ -55,7 +56,7 @@ static uint64_t number_of(const char *word)
     char *end;
     unsigned long long number = strtoull(word, &end, 10);
     if (*word < '0' || *word > '9' || *end != 0) {
-        fprintf(stderr, "usage: long SECONDS SEED [CASES]\n");
+        fprintf(stderr, "usage: long [SECONDS [SEED [CASES]]]\n");
         exit(2);
     }
     return number;
@@ -82,5 +83,10 @@ int main(int argc, char **argv)
         try_case(&run);
     }
     print_counts();
+    if (argc > 3 && run.number < cases) {
+        fprintf(stderr, "long: %" PRIu64 " of %" PRIu64 " cases in %" PRIu64 " seconds\n", run.number,
+                cases, seconds);
+        return 1;
+    }
     return 0;
 }

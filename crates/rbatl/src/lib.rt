@@ -6,7 +6,7 @@ use writer::written::Written;
 ghost use mathlib.Core.List.{[], _∷_};
 ghost use mathlib.Core.Path.{_≡_};
 ghost use Rattle.block.specs.Refusal.{numberOf, answerOf};
-ghost use Rattle.text.specs.Text.{readCall, blockAfter, Exact};
+ghost use Rattle.text.specs.Text.{readCall, blockAfter, Exact, Numbered};
 ghost use Rattle.game.specs.Demand.{Demand3};
 ghost use Rattle.rbatl.specs.Answer.{minus, CheckAnswer, readAnswer, WriteAnswer, LabelAnswer, TableAnswer, Small, answerCode, MoveAnswer, ReplyAnswer, StatesAnswer};
 
@@ -61,6 +61,7 @@ pub extern "C" fn rbatl_read(text: &[u8], block: &mut [u8]) -> i32
     ensures { λ r. ⌜ r ≡ readAnswer (now (text .entry)) (now (block .entry)) ⌝ }
     ensures { λ _. ⌜ now (block .exit) ≡ blockAfter (now (block .entry)) (readCall (now (text .entry)) (now (block .entry))) ⌝ }
     ensures { λ _. ⌜ Exact (now (text .entry)) ⌝ }
+    ensures { λ _. ⌜ Numbered (now (text .entry)) ⌝ }
 {
     answer(reader::read(text, block))
 }

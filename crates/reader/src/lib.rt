@@ -25,7 +25,7 @@ ghost use Rattle.block.specs.Layout.{blockBytes};
 ghost use Rattle.text.specs.Format.{end, read};
 ghost use Rattle.text.specs.Job as J;
 ghost use Rattle.reader.specs.Step.{resume, Inside};
-ghost use Rattle.text.specs.Text.{outcomeOf, readCall, answerTo, blockAfter, Exact};
+ghost use Rattle.text.specs.Text.{outcomeOf, readCall, answerTo, blockAfter, Exact, Numbered};
 
 // All lines of the text.
 fn lines(text: &[u8], job: &mut [u8]) -> Step
@@ -62,6 +62,7 @@ pub fn read(text: &[u8], block: &mut [u8]) -> Checked
     ensures { λ r. ⌜ r ≡ answerTo (readCall (now (text .entry)) (now (block .entry))) ⌝ }
     ensures { λ _. ⌜ now (block .exit) ≡ blockAfter (now (block .entry)) (readCall (now (text .entry)) (now (block .entry))) ⌝ }
     ensures { λ _. ⌜ Exact (now (text .entry)) ⌝ }
+    ensures { λ _. ⌜ Numbered (now (text .entry)) ⌝ }
 {
     if TEXT_BYTES < text.len() {
         return Checked::Refused(Refusal::Length);

@@ -17,11 +17,11 @@ use Rattle.text.proofs.Everywhere.{job-every}
 use Rattle.text.proofs.Passes.{valid-passes}
 use Rattle.text.proofs.Fitting.{fits-valid, valid-fits, used-avoided, unused-avoided}
 
-blank-length : length blank ≡ blockBytes
+pub blank-length : length blank ≡ blockBytes
 unfolding blank
 blank-length = length-replicate {A = ℕ} blockBytes 0
 
-blank-zero : (n : ℕ) → n < blockBytes → byteAt blank n ≡ 0
+pub blank-zero : (n : ℕ) → n < blockBytes → byteAt blank n ≡ 0
 unfolding blank
 blank-zero n h = getD-replicate blockBytes n 0 0 h
 

@@ -4,19 +4,18 @@ use mathlib.Core.Bool.{Bool, true, false, cond}
 use mathlib.Core.List.{List}
 use mathlib.Core.Logic.{⊎-elim, _↔_, Iff·rfl}
 use mathlib.Core.Path.{_≡_, refl, subst}
-use Prim.Native.Nat.{ℕ, zero, suc, _+_, _-_, _^_, _≤_, _<_}
+use Prim.Native.Nat.{ℕ, zero, suc, _+_, _-_, _≤_, _<_}
 use native.Mathlib.Nat.{eq-or-lt-of-le}
 use native.Mathlib.Omega.{arith}
-use lib.Dec.{T, eqb}
+use lib.Dec.{T}
 use lib.ListN.{set}
-use Rattle.block.specs.Layout.{Block, maxJoint, maxAgents, maxResources, maxStates, maxPropositions, maxRows, agents, resources, states, propositions, rows, count, kind, propKind}
+use Rattle.block.specs.Layout.{Block, maxJoint, maxAgents, maxResources, maxStates, maxPropositions, maxRows, agents, resources, states, propositions, rows, count, kind}
 use Rattle.block.specs.declared.layout.Place.{Place}
 use Rattle.block.specs.declared.layout.Place.the-variants.{Header, Mask, Count, Cost, Next, Field}
-use Rattle.block.specs.declared.refusal.Refusal.the-variants as refusal
 use Rattle.text.specs.declared.sizes.Sizes.{Sizes}
 use Rattle.text.specs.Numeral.{comma, lineEnd}
 use Rattle.text.specs.Format.{Spelling, Format, end, value}
-use Rattle.text.specs.Job.{number, bound, kindSpelling, index, stateLine, costLimit, costEnd, costs, actions, actsLine, agentLines, possible, jointFields, goLine, goLines, noCounts, stateLines, states as allStates, strategic, binary, boundFields, teamFields, operandFields, rowLine, rowLines, size, headerLine, job}
+use Rattle.text.specs.Job.{bound, kindSpelling, index, maskSpelling, stateLine, costSpelling, costs, actions, countSpelling, actsLine, agentLines, possible, jointFields, nextSpelling, goLine, goLines, noCounts, stateLines, states as allStates, strategic, binary, boundFields, teamSpelling, teamFields, leftSpelling, rightSpelling, operandFields, rowLine, rowLines, sizeSpelling, size, headerLine, job}
 use Rattle.text.proofs.Formats.{Every}
 
 -- Q holds of each number from j to below e
@@ -50,11 +49,11 @@ sizesOf b = record { agents = agents b; resources = resources b; states = states
 module _ (P : Spelling → Place → Type 0) (b : Block) where
   -- the cost of action k in resource j, where left further actions and resources up to r follow
   abbrev CostField : ℕ → ℕ → ℕ → ℕ → ℕ → ℕ → Type 0
-  CostField s a left r k j = P (number (costEnd (left + (r - suc j))) 0 (costLimit k) refusal.State) (Cost s a k j)
+  CostField s a left r k j = P (costSpelling k (left + (r - suc j))) (Cost s a k j)
 
   abbrev CountFields : ℕ → ℕ → ℕ → Type 0
   CountFields r s a =
-      P (number comma 1 5 refusal.State) (Count s a) × Between 0 (count b s a) (λ k. Between 0 r (CostField s a (count b s a - suc k) r k))
+      P countSpelling (Count s a) × Between 0 (count b s a) (λ k. Between 0 r (CostField s a (count b s a - suc k) r k))
 
   costs-every : (s a left k r m j : ℕ) (f : Format) → j + m ≡ r → Every P (costs s a left k m j f) b ↔ (Between j r (CostField s a left r k) × Every P f b)
   unfolding costs
@@ -91,7 +90,7 @@ module _ (P : Spelling → Place → Type 0) (b : Block) where
 
   -- the next state, where the joint action can be done with the counts
   abbrev NextField : Sizes → List ℕ → ℕ → ℕ → Type 0
-  NextField z counts s joint = T (possible counts joint) → P (number lineEnd 0 (z .states) refusal.Next) (Next s joint)
+  NextField z counts s joint = T (possible counts joint) → P (nextSpelling z) (Next s joint)
 
   -- what stands there only where a test holds
   test-every : (t : Bool) (f g : Format) {Q : Type 0} → Every P f b ↔ (Q × Every P g b) → Every P (cond t f g) b ↔ ((T t → Q) × Every P g b)
@@ -99,9 +98,9 @@ module _ (P : Spelling → Place → Type 0) (b : Block) where
   test-every false f g h = (λ x. (λ q. absurd q, x), λ y. y .1)
 
   go-every : (z : Sizes) (s joint : ℕ) (f : Format) →
-      Every P (goLine z s joint f) b ↔ (P (number lineEnd 0 (z .states) refusal.Next) (Next s joint) × Every P f b)
+      Every P (goLine z s joint f) b ↔ (P (nextSpelling z) (Next s joint) × Every P f b)
   unfolding goLine index
-  go-every z s joint f = joint-every joint (z .agents) 0 (value (number lineEnd 0 (z .states) refusal.Next) (Next s joint) (λ q. f))
+  go-every z s joint f = joint-every joint (z .agents) 0 (value (nextSpelling z) (Next s joint) (λ q. f))
 
   gos-every : (z : Sizes) (s : ℕ) (counts : List ℕ) (n left joint : ℕ) (f : Format) → joint + left ≡ n →
       Every P (goLines z s counts left joint f) b ↔ (Between joint n (NextField z counts s) × Every P f b)
@@ -113,7 +112,7 @@ module _ (P : Spelling → Place → Type 0) (b : Block) where
 
   abbrev StateFields : Sizes → ℕ → Type 0
   StateFields z s =
-      P (number lineEnd 0 (2 ^ z .propositions) refusal.State) (Mask s)
+      P (maskSpelling z) (Mask s)
       × Between 0 (z .agents) (CountFields (z .resources) s)
       × Between 0 maxJoint (NextField z (told b s (z .agents) 0 noCounts) s)
 
@@ -137,7 +136,7 @@ module _ (P : Spelling → Place → Type 0) (b : Block) where
   bounds-every i r (suc left) j f e = loop-step (omega arith) Iff·rfl (bounds-every i r left (suc j) f (omega arith))
 
   abbrev TeamFields : Sizes → ℕ → Type 0
-  TeamFields z i = P (number comma 1 (2 ^ z .agents) refusal.Row) (Field i 3) × Between 0 (z .resources) (λ j. P bound (Field i (4 + j)))
+  TeamFields z i = P (teamSpelling z) (Field i 3) × Between 0 (z .resources) (λ j. P bound (Field i (4 + j)))
 
   team-every : (z : Sizes) (i k : ℕ) (f : Format) → Every P (teamFields z i k f) b ↔ ((T (strategic k) → TeamFields z i) × Every P f b)
   unfolding teamFields
@@ -146,16 +145,16 @@ module _ (P : Spelling → Place → Type 0) (b : Block) where
       test-every (strategic k) _ f (λ x. ((x .0, bounds .0 (x .1) .0), bounds .0 (x .1) .1), λ y. (y .0 .0, bounds .1 (y .0 .1, y .1)))
 
   abbrev LeftField : Sizes → ℕ → ℕ → Type 0
-  LeftField z i k = P (number (cond (binary k) comma lineEnd) 0 (cond (eqb k propKind) (z .propositions) i) refusal.Row) (Field i 1)
+  LeftField z i k = P (leftSpelling z i k) (Field i 1)
 
   abbrev RightField : ℕ → Type 0
-  RightField i = P (number lineEnd 0 i refusal.Row) (Field i 2)
+  RightField i = P (rightSpelling i) (Field i 2)
 
   operands-every : (z : Sizes) (i k : ℕ) (f : Format) →
       Every P (operandFields z i k f) b ↔ (LeftField z i k × (T (binary k) → RightField i) × Every P f b)
   unfolding operandFields
   operands-every z i k f =
-      let right = test-every (binary k) (value (number lineEnd 0 i refusal.Row) (Field i 2) (λ r. f)) f {Q = RightField i} Iff·rfl in
+      let right = test-every (binary k) (value (rightSpelling i) (Field i 2) (λ r. f)) f {Q = RightField i} Iff·rfl in
       (λ x. (x .0, right .0 (x .1) .0, right .0 (x .1) .1), λ y. (y .0, right .1 (y .1, y .2)))
 
   abbrev RowFields : Sizes → ℕ → Type 0
@@ -180,7 +179,7 @@ module _ (P : Spelling → Place → Type 0) (b : Block) where
       (rows-every z n left (suc i) f (omega arith))
 
   abbrev SizeField : ℕ → ℕ → ℕ → Type 0
-  SizeField sep f high = P (number sep 1 (suc high) refusal.Sizes) (Header f)
+  SizeField sep f high = P (sizeSpelling sep high) (Header f)
 
   -- what holds of each field of a block's text
   pub record Everywhere : Type 0 where

@@ -25,14 +25,14 @@ binary-true : (k : ℕ) → Binary k → T (binary k)
 binary-true k (inl e) = rw e tt
 binary-true k (inr e) = rw e tt
 
-binary-case : (k : ℕ) → T (binary k) → Binary k
+pub binary-case : (k : ℕ) → T (binary k) → Binary k
 binary-case k h = ⊎-elim (λ x. inl (eqb→eq k orKind x)) (λ x. inr (eqb→eq k untilKind x)) (either-case (eqb k orKind) (eqb k untilKind) h)
 
 -- the limit of a field that depends on whether a number is 0
-on-zero : (k p q : ℕ) → k ≡ 0 → cond (eqb k 0) p q ≡ p
+pub on-zero : (k p q : ℕ) → k ≡ 0 → cond (eqb k 0) p q ≡ p
 on-zero k p q e = simp (eq-eqb k 0 e)
 
-on-other : (k p q : ℕ) → 0 < k → cond (eqb k 0) p q ≡ q
+pub on-other : (k p q : ℕ) → 0 < k → cond (eqb k 0) p q ≡ q
 on-other k p q h = simp (ne-eqb k 0 (λ e. omega arith))
 
 either-le : (t : Bool) (p q n : ℕ) → p ≤ n → q ≤ n → cond t p q ≤ n
@@ -40,7 +40,7 @@ either-le true p q n h g = h
 either-le false p q n h g = g
 
 cost-limit : (k : ℕ) → costLimit k ≤ 16
-cost-limit k = either-le (eqb k 0) 1 16 16 (omega arith) (omega arith)
+cost-limit k = either-le (eqb k 0) _ _ 16 (omega arith) (omega arith)
 
 from-four : (f r : ℕ) → 4 ≤ f → f < 4 + r → (f - 4 < r) × (4 + (f - 4) ≡ f)
 from-four f r h g = omega arith

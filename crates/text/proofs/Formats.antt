@@ -96,7 +96,7 @@ Shown f b₀ b t = Spells f b t × (length b ≡ blockBytes) × ((n : ℕ) → A
 pub never : {A : Type 0} (r : Refusal) (b : Block) → refused r ≡ accepted b → A
 never r b e = let z : _≡_ {A = ℕ} 0 1 = cc in absurd (omega arith)
 
-stored : (b : Block) (p : Place) (v : ℕ) → length b ≡ blockBytes → InLayout p → at (store b p v) p ≡ v
+pub stored : (b : Block) (p : Place) (v : ℕ) → length b ≡ blockBytes → InLayout p → at (store b p v) p ≡ v
 stored b p v l i = getD-set-same b (placeOf p) v 0 (omega (arith, inside p i))
 
 -- an accepted reading of a field: the spelling found, allowed, and the reading that goes on

@@ -6,13 +6,12 @@ use mathlib.Core.Path.{refl}
 use Prim.Native.Nat.{ℕ, _+_}
 use Rattle.block.specs.Layout.{digit}
 use Rattle.block.specs.declared.layout.Place.the-variants.{Cost, Field}
-use Rattle.block.specs.declared.refusal.Refusal.the-variants as refusal
 use Rattle.text.specs.declared.sizes.Sizes.{Sizes}
 use Rattle.text.specs.Format.{value}
-use Rattle.text.specs.Job.{number, bound, index, costEnd, costLimit, costs, actions, possible, jointFields, goLine, goLines, stateLines, states, boundFields, rowLine, rowLines}
+use Rattle.text.specs.Job.{bound, index, costSpelling, costs, actions, possible, jointFields, goLine, goLines, stateLines, states, boundFields, rowLine, rowLines}
 use Rattle.text.proofs.Loops.{Loop}
 
-pub costs-loop : (s a n k : ℕ) → Loop (costs s a n k) (λ left j f. value (number (costEnd (n + left)) 0 (costLimit k) refusal.State) (Cost s a k j) (λ v. f))
+pub costs-loop : (s a n k : ℕ) → Loop (costs s a n k) (λ left j f. value (costSpelling k (n + left)) (Cost s a k j) (λ v. f))
 unfolding costs
 costs-loop s a n k = record { done = λ j f. refl; more = λ m j f. refl }
 

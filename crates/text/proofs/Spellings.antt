@@ -69,7 +69,7 @@ pub either-case : (a b : Bool) → T (either a b) → T a ⊎ T b
 either-case true b p = inl p
 either-case false b p = inr p
 
-bound-small : (o : ℕ) → o < 256 → boundField o ≡ decimal o
+pub bound-small : (o : ℕ) → o < 256 → boundField o ≡ decimal o
 unfolding boundField
 bound-small o h = simp (lt-ltb o 256 h)
 

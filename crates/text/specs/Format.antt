@@ -64,3 +64,19 @@ read (exactly w f) b t = onFound (after 0 w t missing) (λ o rest. read f b rest
 read (value x p k) b t =
     onFound (search (x .spell) (x .options) t)
     (λ o rest. cond (x .allowed o) (read (k (x .byte o)) (store b p (x .byte o)) rest) (refused (x .refusal)))
+
+-- where reading comes to a value that may not stand there: its place, the block read so far with the value's byte, and the text from the value on
+pub data Stop : Type 0 where
+  nowhere : Stop
+  stopped : Place → Block → List ℕ → Stop
+
+abbrev pub stopFound : Found → (ℕ → List ℕ → Stop) → Stop
+stopFound (found o t) f = f o t
+stopFound missing f = nowhere
+
+abbrev pub stop : Format → Block → List ℕ → Stop
+stop end b t = nowhere
+stop (exactly w f) b t = stopFound (after 0 w t missing) (λ o rest. stop f b rest)
+stop (value x p k) b t =
+    stopFound (search (x .spell) (x .options) t)
+    (λ o rest. cond (x .allowed o) (stop (k (x .byte o)) (store b p (x .byte o)) rest) (stopped p (store b p (x .byte o)) t))

@@ -4,7 +4,7 @@ use mathlib.Core.List.{List, [], _∷_, _++_}
 use Prim.Native.Nat.{ℕ, zero, suc, _+_, _^_}
 use lib.Dec.{ltb, leb, eqb}
 use lib.ListN.{getD, set}
-use Rattle.block.specs.Layout.{maxAgents, maxResources, maxStates, maxPropositions, maxRows, maxJoint, unlimited, propKind, orKind, nextKind, untilKind, digit}
+use Rattle.block.specs.Layout.{maxAgents, maxResources, maxStates, maxPropositions, maxRows, maxActions, maxJoint, unlimited, propKind, orKind, nextKind, untilKind, digit}
 use Rattle.block.specs.declared.layout.Place.the-variants.{Header, Mask, Count, Cost, Next, Field}
 use Rattle.block.specs.declared.refusal.Refusal.{Refusal}
 use Rattle.block.specs.declared.refusal.Refusal.the-variants as refusal
@@ -62,9 +62,13 @@ kindSpelling = record {
 unfoldable pub index : ℕ → Format → Format
 index n f = exactly (decimal n ++ comma ∷ []) f
 
+-- a mask has no bit at or above P
+abbrev pub maskSpelling : Sizes → Spelling
+maskSpelling z = number lineEnd 0 (2 ^ z .propositions) refusal.State
+
 -- state,s,mask
 unfoldable pub stateLine : Sizes → ℕ → Format → Format
-stateLine z s f = exactly (ascii "state,") (index s (value (number lineEnd 0 (2 ^ z .propositions) refusal.State) (Mask s) (λ m. f)))
+stateLine z s f = exactly (ascii "state,") (index s (value (maskSpelling z) (Mask s) (λ m. f)))
 
 -- a cost is 0 to 15, and idle's is 0; the last of its line is followed by the line's end
 abbrev pub costLimit : ℕ → ℕ
@@ -73,20 +77,28 @@ costLimit k = cond (eqb k 0) 1 16
 abbrev pub costEnd : ℕ → ℕ
 costEnd left = cond (eqb left 0) lineEnd comma
 
+-- a cost of action k, with left further costs on its line
+abbrev pub costSpelling : ℕ → ℕ → Spelling
+costSpelling k left = number (costEnd left) 0 (costLimit k) refusal.State
+
 -- the costs of action k from resource j on: m of them, and then n further actions
 unfoldable pub costs : ℕ → ℕ → ℕ → ℕ → ℕ → ℕ → Format → Format
 costs s a n k zero j f = f
-costs s a n k (suc m) j f = value (number (costEnd (n + m)) 0 (costLimit k) refusal.State) (Cost s a k j) (λ v. costs s a n k m (suc j) f)
+costs s a n k (suc m) j f = value (costSpelling k (n + m)) (Cost s a k j) (λ v. costs s a n k m (suc j) f)
 
 -- n actions from action k on
 unfoldable pub actions : Sizes → ℕ → ℕ → ℕ → ℕ → Format → Format
 actions z s a zero k f = f
 actions z s a (suc n) k f = costs s a n k (z .resources) 0 (actions z s a n (suc k) f)
 
+-- a count is 1 to 4
+abbrev pub countSpelling : Spelling
+countSpelling = number comma 1 (suc maxActions) refusal.State
+
 -- acts,s,a,count, and the costs, action by action, resource by resource
 unfoldable pub actsLine : Sizes → ℕ → ℕ → (ℕ → Format) → Format
 actsLine z s a f =
-    exactly (ascii "acts,") (index s (index a (value (number comma 1 5 refusal.State) (Count s a) (λ c. actions z s a c 0 (f c)))))
+    exactly (ascii "acts,") (index s (index a (value countSpelling (Count s a) (λ c. actions z s a c 0 (f c)))))
 
 -- n agents from agent a on; counts are how many actions each agent has
 unfoldable pub agentLines : Sizes → ℕ → ℕ → ℕ → List ℕ → (List ℕ → Format) → Format
@@ -102,10 +114,14 @@ unfoldable pub jointFields : ℕ → ℕ → ℕ → Format → Format
 jointFields joint zero a f = f
 jointFields joint (suc n) a f = index (digit joint a) (jointFields joint n (suc a) f)
 
+-- a next state is one of the job's
+abbrev pub nextSpelling : Sizes → Spelling
+nextSpelling z = number lineEnd 0 (z .states) refusal.Next
+
 -- go,s, one action per agent, and the next state
 unfoldable pub goLine : Sizes → ℕ → ℕ → Format → Format
 goLine z s joint f =
-    exactly (ascii "go,") (index s (jointFields joint (z .agents) 0 (value (number lineEnd 0 (z .states) refusal.Next) (Next s joint) (λ q. f))))
+    exactly (ascii "go,") (index s (jointFields joint (z .agents) 0 (value (nextSpelling z) (Next s joint) (λ q. f))))
 
 -- the n joint actions from joint on: a line for each that can be done
 unfoldable pub goLines : Sizes → ℕ → List ℕ → ℕ → ℕ → Format → Format
@@ -135,16 +151,26 @@ unfoldable pub boundFields : ℕ → ℕ → ℕ → Format → Format
 boundFields i zero j f = f
 boundFields i (suc n) j f = value bound (Field i (4 + j)) (λ v. boundFields i n (suc j) f)
 
+-- a team is a mask of agents, never 0
+abbrev pub teamSpelling : Sizes → Spelling
+teamSpelling z = number comma 1 (2 ^ z .agents) refusal.Row
+
 -- the team and the bounds of a strategic row
 unfoldable pub teamFields : Sizes → ℕ → ℕ → Format → Format
 teamFields z i k f =
-    cond (strategic k) (value (number comma 1 (2 ^ z .agents) refusal.Row) (Field i 3) (λ t. boundFields i (z .resources) 0 f)) f
+    cond (strategic k) (value (teamSpelling z) (Field i 3) (λ t. boundFields i (z .resources) 0 f)) f
+
+-- left and right of row i, of kind k: a proposition, or lower rows
+abbrev pub leftSpelling : Sizes → ℕ → ℕ → Spelling
+leftSpelling z i k = number (cond (binary k) comma lineEnd) 0 (cond (eqb k propKind) (z .propositions) i) refusal.Row
+
+abbrev pub rightSpelling : ℕ → Spelling
+rightSpelling i = number lineEnd 0 i refusal.Row
 
 -- the proposition or lower row, and the right row where the kind has one
 unfoldable pub operandFields : Sizes → ℕ → ℕ → Format → Format
 operandFields z i k f =
-    value (number (cond (binary k) comma lineEnd) 0 (cond (eqb k propKind) (z .propositions) i) refusal.Row) (Field i 1)
-    (λ l. cond (binary k) (value (number lineEnd 0 i refusal.Row) (Field i 2) (λ r. f)) f)
+    value (leftSpelling z i k) (Field i 1) (λ l. cond (binary k) (value (rightSpelling i) (Field i 2) (λ r. f)) f)
 
 -- a row: its word, team and bounds, operands; and n rows from row i on
 unfoldable pub rowLine : Sizes → ℕ → Format → Format
@@ -155,8 +181,11 @@ rowLines z zero i f = f
 rowLines z (suc n) i f = rowLine z i (rowLines z n (suc i) f)
 
 -- a size, 1 to high
+abbrev pub sizeSpelling : ℕ → ℕ → Spelling
+sizeSpelling sep high = number sep 1 (suc high) refusal.Sizes
+
 unfoldable pub size : ℕ → ℕ → ℕ → (ℕ → Format) → Format
-size sep f high k = value (number sep 1 (suc high) refusal.Sizes) (Header f) k
+size sep f high k = value (sizeSpelling sep high) (Header f) k
 
 -- job,N,R,M,P,F, then the states and the rows
 unfoldable pub headerLine : (Sizes → Format) → Format

@@ -3,4 +3,5 @@ pub mod Numeral
 pub mod Adding
 pub mod Format
 pub mod Job
+pub mod Broken
 pub mod Text

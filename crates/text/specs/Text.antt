@@ -1,18 +1,20 @@
 -- The text of a block, reading a text, and what the read call promises.
 use mathlib.Core.Bool.{cond, not}
 use mathlib.Core.List.{List}
-use mathlib.Core.Logic.{_↔_}
+use mathlib.Core.Logic.{_⊎_, _↔_}
 use mathlib.Core.Path.{_≡_}
 use Prim.Native.Nat.{ℕ}
 use lib.Dec.{ltb, eqb}
 use lib.ListN.{length, replicate}
 use Rattle.block.specs.Layout.{Block, blockBytes}
 use Rattle.block.specs.Check.{Verdict}
-use Rattle.block.specs.declared.refusal.Refusal.the-variants.{Length}
+use Rattle.block.specs.declared.refusal.Refusal.{Refusal}
+use Rattle.block.specs.declared.refusal.Refusal.the-variants.{Length, Form}
 use Rattle.block.specs.declared.refusal.Checked.{Checked}
 use Rattle.block.specs.declared.refusal.Checked.the-variants.{Passed, Refused}
-use Rattle.text.specs.Format.{Outcome, accepted, refused, write, Spells, read}
+use Rattle.text.specs.Format.{Outcome, accepted, refused, write, Spells, read, Stop, nowhere, stopped, stop}
 use Rattle.text.specs.Job.{either, job}
+use Rattle.text.specs.Broken.{BrokenAt, UnlimitedNumber}
 
 -- a text is at most this long, and the writer's buffer has this length
 abbrev pub textBytes : ℕ
@@ -50,6 +52,15 @@ outcomeOf (Refused r) b = refused r
 -- a text is accepted as a block exactly where the block passes and the text is one of its texts
 abbrev pub Exact : List ℕ → Type 0
 Exact t = (b : Block) → (readText t ≡ accepted b) ↔ (Verdict b 0 × Spells job b t)
+
+-- a text that is refused at a value gets the number of the condition that the block read so far, with that value's byte, meets at that very place;
+-- one that is refused elsewhere gets the number of the form
+abbrev pub NumberedAt : Stop → Outcome → Type 0
+NumberedAt nowhere o = (r : Refusal) → o ≡ refused r → r ≡ Form
+NumberedAt (stopped p b t) o = (r : Refusal) × (o ≡ refused r) × (BrokenAt b p r ⊎ UnlimitedNumber b t p r)
+
+abbrev pub Numbered : List ℕ → Type 0
+Numbered t = NumberedAt (stop job blank t) (readText t)
 
 -- reading what is written for a block that passes gives the same block
 abbrev pub RoundTrip : Block → Type 0

@@ -3,16 +3,17 @@ use mathlib.Core.Path.{_≡_, refl, sym, _∙_}
 use Rattle.text.specs.Format.{accepted, refused}
 use Rattle.text.specs.Text.{blank, readCall}
 use Rattle.text.proofs.Accepts.{accepts}
+use Rattle.text.proofs.Numbered.{numbered}
 use Rattle.reader.proofs.Calls.{read-long, read-other, read-whole, copied}
 use borrow.Author.Needs.{needs}
 use Rattle.reader.proofs.read.Statement.{statement}
 use Rattle.reader.proofs.read.Tie as tie
 
 returns : tie.Need-returns
-returns c = rw (read-long _ _ (c .if1 .taken)) (refl, (refl, accepts _))
+returns c = rw (read-long _ _ (c .if1 .taken)) (refl, (refl, (accepts _, numbered _)))
 
 returns-2 : tie.Need-returns-2
-returns-2 c = rw (read-other _ _ (c .before .if1 .left) (c .if2 .taken)) (refl, (refl, accepts _))
+returns-2 c = rw (read-other _ _ (c .before .if1 .left) (c .if2 .taken)) (refl, (refl, (accepts _, numbered _)))
 
 slice-aggregate-read-into : tie.Need-slice-aggregate-read-into
 slice-aggregate-read-into c = search needs
@@ -44,7 +45,7 @@ returns-3 c =
     let told = c .before .before .before .before .before .enum-told .given .1 in
     let is : readCall (g .text .now) (g .block .now) ≡ accepted job =
     read-whole (g .text .now) (g .block .now) (c .before .before .before .before .before .before .before .before .before .before .before .if1 .left) (c .before .before .before .before .before .before .before .before .before .before .if2 .left) ∙ (rw told at (call .ensures)) in
-    rw is (told, (c .before .before .copy .ensures .1 ∙ copied job (g .block .now) (call .kept .1 .0 ∙ sym (c .before .before .before .before .before .before .before .before .before .before .if2 .left)), accepts _))
+    rw is (told, (c .before .before .copy .ensures .1 ∙ copied job (g .block .now) (call .kept .1 .0 ∙ sym (c .before .before .before .before .before .before .before .before .before .before .if2 .left)), (accepts _, numbered _)))
 
 returns-4 : tie.Need-returns-4
 unfolding blank
@@ -53,7 +54,7 @@ returns-4 c =
     let told = c .enum-told2 .given .1 in
     let is : readCall (g .text .now) (g .block .now) ≡ refused _ =
     read-whole (g .text .now) (g .block .now) (c .before .before .before .before .before .before .if1 .left) (c .before .before .before .before .before .if2 .left) ∙ (rw told at (c .before .before .before .read-into .ensures)) in
-    rw is (told, (refl, accepts _))
+    rw is (told, (refl, (accepts _, numbered _)))
 
 pub read-spec : {M : Type 1} → statement M
 read-spec =

@@ -7,7 +7,7 @@ use Rattle.writer.proofs.write.Statement.{statement}
 use Rattle.writer.proofs.write.Tie as tie
 
 returns : tie.Need-returns
-returns c = another-length _ (c .if1 .taken)
+returns c = another-length _ (λ e. omega arith)
 
 check-requires : tie.Need-check-requires
 check-requires c κs = search needs

@@ -4,8 +4,6 @@ use Prim.Native.Nat.{ℕ}
 use native.Mathlib.Omega.{arith}
 use lib.Dec.{lit<, lit≤}
 use Rattle.block.specs.declared.layout.Place.the-variants.{Count}
-use Rattle.block.specs.declared.refusal.Refusal.the-variants as refusal
-use Rattle.text.specs.Numeral.{comma}
 use Rattle.text.specs.Format.{Format, value}
 use Rattle.text.specs.Job as J
 use Rattle.reader.proofs.Reading.{ranged-or}
@@ -51,7 +49,7 @@ unfolding J.actsLine
 returns c =
     let g = c .before .before .before .before .before .before .before .before .before .before .before .before .before .before .before .before .args in
     let tail : (ℕ → Format) → ℕ → Format = λ f n. J.actions (g .z) (g .s) (g .a) n 0 (f n) in
-    let counted : (ℕ → Format) → Format = λ f. value (J.number comma 1 5 refusal.State) (Count (g .s) (g .a)) (tail f) in (
+    let counted : (ℕ → Format) → Format = λ f. value J.countSpelling (Count (g .s) (g .a)) (tail f) in (
       λ f.
           c .before .before .before .before .before .before .before .before .before .before .before .before .past-word .ensures .0 (J.index (g .s) (J.index (g .a) (counted f))) (g .job .now)
           ∙ c .before .before .before .before .before .before .before .before .before .before .before .past-index .ensures .0 (J.index (g .a) (counted f)) (g .job .now)

@@ -1,8 +1,6 @@
 -- `go_line` reads the line of a joint action. Assumes nothing.
 use mathlib.Core.Path.{_∙_}
 use Rattle.block.specs.declared.layout.Place.the-variants.{Next}
-use Rattle.block.specs.declared.refusal.Refusal.the-variants as refusal
-use Rattle.text.specs.Numeral.{lineEnd}
 use Rattle.text.specs.Format.{Format, value}
 use Rattle.text.specs.Job as J
 use borrow.Author.Needs.{needs}
@@ -31,7 +29,7 @@ returns : tie.Need-returns
 unfolding J.goLine
 returns c =
     let g = c .before .before .before .before .before .before .before .before .before .before .args in
-    let last : Format → Format = λ f. value (J.number lineEnd 0 (g .z .states) refusal.Next) (Next (g .s) (g .joint)) (λ q. f) in
+    let last : Format → Format = λ f. value (J.nextSpelling (g .z)) (Next (g .s) (g .joint)) (λ q. f) in
     let fields : Format → Format = λ f. J.jointFields (g .joint) (g .z .agents) 0 (last f) in (
       λ f.
           c .before .before .before .before .before .before .past-word .ensures .0 (J.index (g .s) (fields f)) (g .job .now)

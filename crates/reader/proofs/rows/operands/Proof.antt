@@ -2,8 +2,6 @@
 use mathlib.Core.Bool.{cond}
 use mathlib.Core.Path.{_∙_}
 use Rattle.block.specs.declared.layout.Place.the-variants.{Field}
-use Rattle.block.specs.declared.refusal.Refusal.the-variants as refusal
-use Rattle.text.specs.Numeral.{lineEnd}
 use Rattle.text.specs.Format.{Format, value}
 use Rattle.text.specs.Job as J
 use borrow.Author.Needs.{needs}
@@ -29,7 +27,7 @@ returns : tie.Need-returns
 unfolding J.operandFields
 returns c =
     let g = c .before .before .before .before .before .before .before .before .before .before .before .before .args in
-    let last : Format → Format = λ f. cond (J.binary (g .k)) (value (J.number lineEnd 0 (g .i) refusal.Row) (Field (g .i) 2) (λ r. f)) f in (
+    let last : Format → Format = λ f. cond (J.binary (g .k)) (value (J.rightSpelling (g .i)) (Field (g .i) 2) (λ r. f)) f in (
       λ f.
           rw (← c .before .before .before .before .before .before .before .before .before .left-end .ensures .0, ← c .before .before .before .before .before .before .before .before .left-limit .ensures) (c .before .before .before .before .before .before .past-field .ensures .0 (last f))
           ∙ c .before .before .right .ensures .0 f,

@@ -1,9 +1,6 @@
 -- `state_line` reads the first line of a state. Assumes nothing.
 use mathlib.Core.Path.{_∙_}
-use Prim.Native.Nat.{_^_}
 use Rattle.block.specs.declared.layout.Place.the-variants.{Mask}
-use Rattle.block.specs.declared.refusal.Refusal.the-variants as refusal
-use Rattle.text.specs.Numeral.{lineEnd}
 use Rattle.text.specs.Format.{Format, value}
 use Rattle.text.specs.Job as J
 use borrow.Author.Needs.{needs}
@@ -32,7 +29,7 @@ returns : tie.Need-returns
 unfolding J.stateLine
 returns c =
     let g = c .before .before .before .before .before .before .before .before .before .before .args in
-    let last : Format → Format = λ f. value (J.number lineEnd 0 (2 ^ g .z .propositions) refusal.State) (Mask (g .s)) (λ m. f) in (
+    let last : Format → Format = λ f. value (J.maskSpelling (g .z)) (Mask (g .s)) (λ m. f) in (
       λ f.
           c .before .before .before .before .before .before .past-word .ensures .0 (J.index (g .s) (last f)) (g .job .now)
           ∙ c .before .before .before .before .before .past-index .ensures .0 (last f) (g .job .now)

@@ -1,14 +1,12 @@
 -- `go_line` writes a state, the actions and the next state. Assumes nothing.
 use mathlib.Core.Path.{_∙_}
 use native.Mathlib.Omega.{arith}
-use Rattle.block.specs.Layout as L
 use Rattle.block.specs.Layout.{placeOf}
 use Rattle.block.specs.declared.layout.Place.the-variants.{Next}
-use Rattle.block.specs.declared.refusal.Refusal.the-variants as refusal
-use Rattle.text.specs.Numeral.{lineEnd}
 use Rattle.text.specs.Format.{value, write}
-use Rattle.text.specs.Job.{number, goLine, index}
+use Rattle.text.specs.Job.{nextSpelling, goLine, index}
 use borrow.Author.Needs.{needs}
+use Rattle.writer.specs.Writing.{sizesOf}
 use Rattle.writer.proofs.states.go_line.Statement.{statement}
 use Rattle.writer.proofs.states.go_line.Tie as tie
 
@@ -49,7 +47,7 @@ returns c =
     let b = g .block .now in (
       λ f.
           rw next at (number2 .0 (write f b))
-          ∙ joint-fields .0 (value (number lineEnd 0 (L.states b) refusal.Next) (Next (g .s) (g .joint)) (λ q. f))
+          ∙ joint-fields .0 (value (nextSpelling (sizesOf b)) (Next (g .s) (g .joint)) (λ q. f))
           ∙ number-call .0 _
           ∙ word .0 _,
       omega (arith, number-call .1 .1 .0 (omega arith)),

@@ -1,0 +1,175 @@
+-- A text that is refused at a value gets the number of the block's condition at that very place (specs' Numbered).
+--     broken-at     what is broken at a place is the block's condition
+--     told          a field of a block whose byte may not stand there is broken at its place, field by field
+--     numbered      the law
+-- Assumes nothing.
+use mathlib.Core.Bool.{Bool, true, false, cond}
+use mathlib.Core.List.{List}
+use mathlib.Core.Logic.{_⊎_, inl, inr, ⊎-elim}
+use mathlib.Core.Path.{_≡_, refl, sym, _∙_}
+use Prim.Native.Nat.{ℕ, zero, suc, _+_, _≤_, _<_, _/_, _^_}
+use native.Mathlib.Nat.{div-lt-iff-lt-mul, one-mul}
+use native.Mathlib.Omega.{arith}
+use lib.Dec.{T, ltb, leb, eqb, leb→le, lit<}
+use lib.Pow.{pow-pos}
+use borrow.Author.Tests.{ltb-false, leb-false, lt-ltb}
+use Rattle.block.specs.Decide.{BitFrom}
+use Rattle.block.specs.Layout.{Block, placeOf, InLayout, at, agents, resources, states, propositions, rows, mask, cost, kind, left, team, bound, maxRows, nextKind, untilKind, propKind, Strategic}
+use Rattle.block.specs.Check.{agents-range, resources-range, states-range, propositions-range, rows-range, prop-range, left-range, right-range, team-empty, team-absent, bound-range, operands, coalition, Broken}
+use Rattle.block.specs.declared.layout.Place.{Place}
+use Rattle.block.specs.declared.layout.Place.the-variants.{Header, Mask, Count, Cost, Next, Field}
+use Rattle.block.specs.declared.refusal.Refusal.{Refusal}
+use Rattle.block.proofs.Masks.{bit-above}
+use Rattle.text.specs.Format.{Spelling, Stop, nowhere, stopped, stop}
+use Rattle.text.specs.Job.{both, either, bound as boundSpelling, costLimit, strategic, teamSpelling, leftSpelling, job}
+use Rattle.text.specs.Broken.{BrokenAt, agents-at, resources-at, states-at, propositions-at, rows-at, mask-at, count-at, cost-at, next-at, prop-at, left-at, right-at, team-empty-at, team-absent-at, bound-at, UnlimitedNumber, written}
+use Rattle.text.specs.Text.{blank, readText, NumberedAt, Numbered}
+use Rattle.text.proofs.Decimals.{lt-or-ge}
+use Rattle.text.proofs.Spellings.{bound-small}
+use Rattle.text.proofs.Stops.{Spelled, Barred, along-every, From, as-it-was, was-read, halted, misread}
+use Rattle.text.proofs.Turns.{job-proper}
+use Rattle.text.proofs.Everywhere.{sizesOf, Everywhere, job-every}
+use Rattle.text.proofs.Told.{possible-acts}
+use Rattle.text.proofs.Fitting.{binary-case, on-zero, on-other}
+use Rattle.text.proofs.Accepts.{blank-length, blank-zero}
+
+pub broken-at : {b : Block} {p : Place} {r : Refusal} → BrokenAt b p r → Broken b r
+broken-at (agents-at h) = agents-range h
+broken-at (resources-at h) = resources-range h
+broken-at (states-at h) = states-range h
+broken-at (propositions-at h) = propositions-range h
+broken-at (rows-at h) = rows-range h
+broken-at (mask-at {s} hs h) = (s, hs, inl h)
+broken-at (count-at {s} {a} hs ha h) = (s, hs, inr (a, ha, inl h))
+broken-at (cost-at {s} {a} {k} {j} hs ha hk hj h) = (s, hs, inr (a, ha, inr (k, hk, (j, hj, h))))
+broken-at (next-at {s} {joint} hs h) = (s, hs, (joint, h .0 .0, h))
+broken-at (prop-at {i} hi k h) = (i, hi, operands (prop-range k h))
+broken-at (left-at {i} hi k h) = (i, hi, operands (left-range k h))
+broken-at (right-at {i} hi k h) = (i, hi, operands (right-range k h))
+broken-at (team-empty-at {i} hi k h) = (i, hi, coalition k (team-empty h))
+broken-at (team-absent-at {i} hi k h) = (i, hi, coalition k (team-absent h))
+broken-at (bound-at {i} {j} hi k hj h) = (i, hi, coalition k (bound-range (j, hj, h)))
+
+-- a mask of 2 ^ p or more has a bit at or above p
+bit-from : (p m : ℕ) → 2 ^ p ≤ m → BitFrom p m
+bit-from p m h = bit-above p m (λ z. let small : m / 2 ^ p < 1 = omega arith in let below : m < 2 ^ p = rw one-mul at (div-lt-iff-lt-mul (pow-pos p) .0 small) in omega arith)
+
+not-both : (a b : Bool) → both a b ≡ false → (a ≡ false) ⊎ (b ≡ false)
+not-both true b e = inr e
+not-both false b e = inl e
+
+not-either : (a b : Bool) → either a b ≡ false → (a ≡ false) × (b ≡ false)
+not-either true b e = let z : _≡_ {A = ℕ} 0 1 = cc in absurd (omega arith)
+not-either false b e = (refl, e)
+
+-- a number that may not stand there is below the lowest, or at the limit or above it
+out-of-range : (low limit : ℕ) {o v : ℕ} → o ≡ v → both (leb low o) (ltb o limit) ≡ false → (v < low) ⊎ (limit ≤ v)
+out-of-range low limit {o} e h = ⊎-elim
+    (λ x. inl (omega (arith, leb-false low o x)))
+    (λ x. inr (omega (arith, ltb-false o limit x)))
+    (not-both (leb low o) (ltb o limit) h)
+
+from-limit : (limit : ℕ) {o v : ℕ} → o ≡ v → both (leb 0 o) (ltb o limit) ≡ false → limit ≤ v
+from-limit limit e h = ⊎-elim (λ x. absurd (omega arith)) (λ x. x) (out-of-range 0 limit e h)
+
+cost-bad : (k c : ℕ) → costLimit k ≤ c → (15 < c) ⊎ ((k ≡ 0) × (0 < c))
+cost-bad zero c h = inr (refl, h)
+cost-bad (suc k) c h = inl (omega (arith, h, on-other (suc k) 1 16 (omega arith)))
+
+-- a kind that stands at a place of a row is one of the six
+abbrev KindAt : Place → ℕ → Type 0
+KindAt (Header f) v = Unit {0}
+KindAt (Mask s) v = Unit {0}
+KindAt (Count s a) v = Unit {0}
+KindAt (Cost s a k j) v = Unit {0}
+KindAt (Next s joint) v = Unit {0}
+KindAt (Field i f) v = f ≡ 0 → v ≤ untilKind
+
+kinds : (b : Block) → Everywhere (λ x p. Spelled x (at b p) → KindAt p (at b p)) b
+kinds b = record {
+  agents-field = λ _. tt;
+  resources-field = λ _. tt;
+  states-field = λ _. tt;
+  propositions-field = λ _. tt;
+  rows-field = λ _. tt;
+  state-fields = λ s _ hs. (λ _. tt, λ a _ ha. (λ _. tt, λ k _ hk j _ hj _. tt), λ joint _ hj can _. tt);
+  row-fields = λ i _ hi. (
+    λ x _. omega (arith, x .1, x .2),
+    λ t. (λ _ e. absurd (omega arith), λ j _ hj _ e. absurd (omega arith)),
+    λ _ e. absurd (omega arith),
+    λ t _ e. absurd (omega arith),
+  );
+}
+
+module _ (b : Block) (t : List ℕ) (known : (i : ℕ) → i < maxRows → kind b i ≤ untilKind) where
+  -- where the field's spelling with which the text t begins may not stand there, the block is broken at the field's place
+  abbrev Told : Spelling → Place → Type 0
+  Told x p = InLayout p → Barred x (at b p) t → BrokenAt b p (x .refusal) ⊎ UnlimitedNumber b t p (x .refusal)
+
+  is-strategic : (i : ℕ) → i < maxRows → T (strategic (kind b i)) → Strategic (kind b i)
+  is-strategic i h s = (leb→le nextKind (kind b i) s, known i h)
+
+  team-told : (i : ℕ) → i < rows b → T (strategic (kind b i)) → Told (teamSpelling (sizesOf b)) (Field i 3)
+  team-told i hi s l x = ⊎-elim
+      (λ h. inl (team-empty-at hi (is-strategic i (l .0) s) (omega arith)))
+      (λ h. inl (team-absent-at hi (is-strategic i (l .0) s) (bit-from (agents b) (team b i) h)))
+      (out-of-range 1 (2 ^ agents b) (x .meant) (x .not-allowed))
+
+  -- a bound that is refused is a number from 16 on
+  bound-told : (i j : ℕ) → i < rows b → T (strategic (kind b i)) → j < resources b → Told boundSpelling (Field i (4 + j))
+  bound-told i j hi s hj l x =
+      let (small, large) = not-either (ltb (x .option) 16) (leb 256 (x .option)) (x .not-allowed) in
+      let from : 16 ≤ x .option = ltb-false (x .option) 16 small in
+      let below : x .option < 256 = leb-false 256 (x .option) large in
+      let byte : x .option ≡ bound b i j = sym (simp (lt-ltb (x .option) 256 below)) ∙ x .meant in
+      let k = is-strategic i (l .0) s in
+      ⊎-elim
+      (λ h. inl (bound-at hi k hj (omega arith, λ e. omega arith)))
+      (λ h. let full : x .option ≡ 255 = omega arith in inr (written hi k hj (sym byte ∙ full) (rw (full, bound-small 255 (lit< tt)) at (x .begins))))
+      (lt-or-ge (x .option) 255)
+
+  left-told : (i : ℕ) → i < rows b → Told (leftSpelling (sizesOf b) i (kind b i)) (Field i 1)
+  left-told i hi l x =
+      let limit = cond (eqb (kind b i) propKind) (propositions b) i in
+      let from : limit ≤ left b i = from-limit limit (x .meant) (x .not-allowed) in
+      ⊎-elim
+      (λ h. let e : kind b i ≡ propKind = omega arith in inl (prop-at hi e (omega (arith, from, on-zero (kind b i) (propositions b) i e))))
+      (λ h. inl (left-at hi h (omega (arith, from, on-other (kind b i) (propositions b) i h))))
+      (lt-or-ge (kind b i) 1)
+
+  told : Everywhere Told b
+  told = record {
+    agents-field = λ _ x. inl (agents-at (out-of-range 1 4 (x .meant) (x .not-allowed)));
+    resources-field = λ _ x. inl (resources-at (out-of-range 1 3 (x .meant) (x .not-allowed)));
+    states-field = λ _ x. inl (states-at (out-of-range 1 25 (x .meant) (x .not-allowed)));
+    propositions-field = λ _ x. inl (propositions-at (out-of-range 1 9 (x .meant) (x .not-allowed)));
+    rows-field = λ _ x. inl (rows-at (out-of-range 1 33 (x .meant) (x .not-allowed)));
+    state-fields = λ s _ hs. (
+      λ _ x. inl (mask-at hs (bit-from (propositions b) (mask b s) (from-limit (2 ^ propositions b) (x .meant) (x .not-allowed)))),
+      λ a _ ha. (
+        λ _ x. inl (count-at hs ha (out-of-range 1 5 (x .meant) (x .not-allowed))),
+        λ k _ hk j _ hj _ x. inl (cost-at hs ha hk hj (cost-bad k (cost b s a k j) (from-limit (costLimit k) (x .meant) (x .not-allowed)))),
+      ),
+      λ joint _ hj can _ x. inl (next-at hs ((hj, possible-acts b s joint .0 can), from-limit (states b) (x .meant) (x .not-allowed))),
+    );
+    row-fields = λ i _ hi. (
+      λ _ x. let z : _≡_ {A = ℕ} 0 1 = cc (x .not-allowed) in absurd (omega arith),
+      λ s. (team-told i hi s, λ j _ hj. bound-told i j hi s hj),
+      left-told i hi,
+      λ s _ x. inl (right-at hi (binary-case (kind b i) s) (from-limit i (x .meant) (x .not-allowed))),
+    );
+  }
+
+pub numbered : (t : List ℕ) → Numbered t
+numbered t = on (stop job blank t) refl
+  where
+    on : (s : Stop) → stop job blank t ≡ s → NumberedAt s (readText t)
+    on nowhere e = λ r. misread job blank t r e
+    on (stopped p b u) e =
+        let h = halted job blank t p b u job-proper blank-length e in
+        let known : (i : ℕ) → i < maxRows → kind b i ≤ untilKind = λ i l. kind-of i l (h .from (Field i 0) (l, lit< tt)) in
+        (h .spelling .refusal, h .refuses, along-every (Told b u known) (h .along) (job-every _ b .1 (told b u known)) (h .in-layout) (h .barred))
+      where
+        kind-of : (i : ℕ) → i < maxRows → From job blank b (Field i 0) → kind b i ≤ untilKind
+        kind-of i l (as-it-was x) = omega (arith, x, blank-zero (placeOf (Field i 0)) (omega arith))
+        kind-of i l (was-read y a x) = along-every (λ x p. Spelled x (at b p) → KindAt p (at b p)) a (job-every _ b .1 (kinds b)) x refl
