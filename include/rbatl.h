@@ -222,10 +222,11 @@ int32_t rbatl_states_refusal(const uint8_t *block, size_t block_len, uint8_t row
  * buffer of RBATL_LISTING_BYTES holds it and zeros after it. Its lines end in
  * byte 10, and numbers are written as in a text:
  * - `list,` and the number of rows;
- * - for each row `set,` with the row, the count of its states, and its set;
+ * - for each row `set,` with the row, the count of its states, and its word as
+ *   rbatl_label gives it;
  * - right after it, if the row is of kind next, always or until, for each state
- *   of the set, rising, `plan,` with the row, the state, and rank and move of
- *   its table where the stocks are the bounds.
+ *   of the set, rising, `plan,` with the row, the state, and the rank and move
+ *   of its table where each stock is its bound, or 0 if unlimited or absent.
  * Ranks and moves, of RBATL_RANKS_BYTES and RBATL_MOVES_BYTES, are working room.
  * -RBATL_LENGTH for a text above RBATL_TEXT_BYTES or for a listing, ranks or
  * moves of any other length, and then nothing changes; else what rbatl_read

@@ -1,5 +1,5 @@
-//! What the listing program prints (document 01, "The job Catch"), by the
-//! checker's search on positions alone.
+//! The listing call and what the listing program prints (document 01, "The job
+//! Catch"), by the checker's search on positions alone.
 
 use crate::checker::search;
 use crate::checker::structure::{contains, Structure};
