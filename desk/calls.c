@@ -5,20 +5,21 @@
 #include <stdio.h>
 #include <string.h>
 
-enum status read_job(uint8_t *block)
+enum status read_text(struct text *text)
 {
-    /* One byte more than a text may have shows that it is too long, also
-     * where it never ends. */
-    uint8_t text[RBATL_TEXT_BYTES + 1];
-
     setvbuf(stdin, NULL, _IONBF, 0);
     errno = 0;
-    size_t length = fread(text, 1, sizeof text, stdin);
+    text->length = fread(text->bytes, 1, sizeof text->bytes, stdin);
     if (ferror(stdin)) {
         fprintf(stderr, "desk: cannot read the job: %s\n", strerror(errno));
         return FAILED;
     }
-    int32_t answer = rbatl_read(text, length, block, RBATL_BLOCK_BYTES);
+    return DONE;
+}
+
+enum status read_job(const struct text *text, uint8_t *block)
+{
+    int32_t answer = rbatl_read(text->bytes, text->length, block, RBATL_BLOCK_BYTES);
     return answer < 0 ? refuse(answer) : DONE;
 }
 

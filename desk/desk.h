@@ -22,8 +22,18 @@ struct table {
     uint8_t moves[RBATL_MOVES_BYTES];
 };
 
-/* Reads the job on standard input into a block. */
-enum status read_job(uint8_t *block);
+/* A text. One byte more than it may have shows that it is too long, also where
+ * it never ends. */
+struct text {
+    uint8_t bytes[RBATL_TEXT_BYTES + 1];
+    size_t length;
+};
+
+/* Takes the job's text from standard input. */
+enum status read_text(struct text *text);
+
+/* Reads the text into a block. */
+enum status read_job(const struct text *text, uint8_t *block);
 
 /* Fills the table of a strategic row. */
 enum status fill_table(const uint8_t *block, unsigned row, struct table *table);
@@ -37,8 +47,8 @@ enum status find_states(const uint8_t *block, unsigned row, uint32_t *set);
 enum status refuse(int32_t answer);
 
 /* The commands. Each prints on standard output. */
+enum status list(const struct text *text);
 enum status check(const uint8_t *block, const struct numbers *numbers);
-enum status list(const uint8_t *block, const struct numbers *numbers);
 enum status show_table(const uint8_t *block, const struct numbers *numbers);
 enum status show_move(const uint8_t *block, const struct numbers *numbers);
 enum status show_reply(const uint8_t *block, const struct numbers *numbers);

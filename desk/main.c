@@ -10,21 +10,22 @@
 #include <string.h>
 
 /* A command takes some numbers and, between them, perhaps a stock for each
- * resource of the job. */
+ * resource of the job. It starts from the job's block, or else from its text. */
 struct command {
     const char *name;
     size_t numbers;
     bool stocks;
     enum status (*run)(const uint8_t *block, const struct numbers *numbers);
+    enum status (*run_on_text)(const struct text *text);
 };
 
 static const struct command commands[] = {
-    {"check", 0, false, check},
-    {"list", 0, false, list},
-    {"table", 1, false, show_table},
-    {"move", 2, true, show_move},
-    {"reply", 3, true, show_reply},
-    {"dot", 1, false, draw},
+    {"check", 0, false, check, NULL},
+    {"list", 0, false, NULL, list},
+    {"table", 1, false, show_table, NULL},
+    {"move", 2, true, show_move, NULL},
+    {"reply", 3, true, show_reply, NULL},
+    {"dot", 1, false, draw, NULL},
 };
 
 /* The words given are not repeated, since they may hold any bytes. */
@@ -88,10 +89,25 @@ static enum status finish(void)
     return DONE;
 }
 
-static enum status run(int argc, char **argv)
+static enum status answer(const struct command *command, const struct text *text,
+                          const struct numbers *numbers)
 {
     uint8_t block[RBATL_BLOCK_BYTES];
+
+    if (command->run_on_text != NULL)
+        return command->run_on_text(text);
+    enum status status = read_job(text, block);
+    if (status != DONE)
+        return status;
+    if (command->stocks && numbers->count != command->numbers + job_resources(block))
+        return usage("not one stock for each resource of the job");
+    return command->run(block, numbers);
+}
+
+static enum status run(int argc, char **argv)
+{
     struct numbers numbers = {{0}, 0};
+    struct text text;
 
     if (argc < 2)
         return usage("no command");
@@ -100,12 +116,9 @@ static enum status run(int argc, char **argv)
         return usage("unknown command");
     enum status status = parse_numbers(command, argc - 2, argv + 2, &numbers);
     if (status == DONE)
-        status = read_job(block);
-    if (status != DONE)
-        return status;
-    if (command->stocks && numbers.count != command->numbers + job_resources(block))
-        return usage("not one stock for each resource of the job");
-    status = command->run(block, &numbers);
+        status = read_text(&text);
+    if (status == DONE)
+        status = answer(command, &text, &numbers);
     return status == DONE ? finish() : status;
 }
 

@@ -1,8 +1,9 @@
 /* rbatl.h: resource-bounded alternating-time temporal logic on small jobs.
  *
  * A job has agents, resources, states, actions with their costs, next states,
- * and formula rows. It comes as a text, which rbatl_read turns into a block of
- * RBATL_BLOCK_BYTES bytes; every other call starts from the block.
+ * and formula rows. It comes as a text, which rbatl_list lists and rbatl_read
+ * turns into a block of RBATL_BLOCK_BYTES bytes; every other call starts from
+ * the block.
  *
  *     #include "rbatl.h"
  *     #include <stdio.h>
@@ -60,6 +61,9 @@ extern "C" {
 
 /* Length of the list of a row's states. */
 #define RBATL_STATES_BYTES 24
+
+/* Length of the buffer of a listing. */
+#define RBATL_LISTING_BYTES 32768
 
 /* The rank where nothing is enforced or forced, and the move where the
  * coalition does not win. */
@@ -206,6 +210,29 @@ int32_t rbatl_reply(const uint8_t *block, size_t block_len, uint8_t row, uint8_t
  * not exist. A refused call leaves the list as it was. */
 int32_t rbatl_states(const uint8_t *block, size_t block_len, uint8_t row, uint8_t *list,
                      size_t list_len, uint8_t *room, size_t room_len);
+
+/* The refusal of rbatl_states on the same arguments, or 0 if it has none. Of
+ * the list only the length counts; it is not written. The room is left as
+ * rbatl_states leaves it. */
+int32_t rbatl_states_refusal(const uint8_t *block, size_t block_len, uint8_t row,
+                             const uint8_t *list, size_t list_len, uint8_t *room,
+                             size_t room_len);
+
+/* Lists the rows of a job from its text: the length of the listing, and the
+ * buffer of RBATL_LISTING_BYTES holds it and zeros after it. Its lines end in
+ * byte 10, and numbers are written as in a text:
+ * - `list,` and the number of rows;
+ * - for each row `set,` with the row, the count of its states, and its word as
+ *   rbatl_label gives it;
+ * - right after it, if the row is of kind next, always or until, for each state
+ *   of the set, rising, `plan,` with the row, the state, and the rank and move
+ *   of its table where each stock is its bound, or 0 if unlimited or absent.
+ * Ranks and moves, of RBATL_RANKS_BYTES and RBATL_MOVES_BYTES, are working room.
+ * -RBATL_LENGTH for a text above RBATL_TEXT_BYTES or for a listing, ranks or
+ * moves of any other length, and then nothing changes; else what rbatl_read
+ * answers on the text, and the listing stays as it was. */
+int32_t rbatl_list(const uint8_t *text, size_t text_len, uint8_t *listing, size_t listing_len,
+                   uint8_t *ranks, size_t ranks_len, uint8_t *moves, size_t moves_len);
 
 #ifdef __cplusplus
 }

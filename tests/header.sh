@@ -43,7 +43,7 @@ try 'the example as C++11' g++ -std=c++11 "${strict[@]}" -x c++ "$work/example.c
 try 'the answer from C++' says "$work/cpp"
 
 # Every call that the header declares is in the library, and no other.
-declared() { grep -oE '^int32_t rbatl_[a-z]+' "$header" | cut -d' ' -f2 | sort; }
+declared() { grep -oE '^int32_t rbatl_[a-z_]+' "$header" | cut -d' ' -f2 | sort; }
 exported() { nm -g --defined-only "$library" 2>/dev/null | awk '$2 == "T" && /rbatl_/ { print $3 }' | sort; }
 same_calls() { [[ -n $(declared) ]] && diff <(declared) <(exported); }
 try 'the calls of the library' same_calls

@@ -1,7 +1,8 @@
 //! How long `rbatl_table` and `rbatl_label` take on jobs of full size (24
 //! states, three agents with four actions, bounds 15 and 15), as ratios to a
 //! Rust program that does the same sweeps, to plain sweeps and to section 4 of
-//! document 003, and how much stack they use.
+//! document 003; and how much stack they, `rbatl_list` and `rbatl_states_refusal`
+//! use.
 
 mod cases;
 mod stack;
@@ -13,7 +14,9 @@ use rbatl_tests::checker::splits;
 use rbatl_tests::checker::structure::Structure;
 use rbatl_tests::ffi;
 use rbatl_tests::layout::{row, KIND, NEXT};
-use rbatl_tests::solver::{MOVES_BYTES, RANKS_BYTES, ROOM_BYTES, SETS_BYTES};
+use rbatl_tests::listing::LISTING_BYTES;
+use rbatl_tests::solver::{MOVES_BYTES, RANKS_BYTES, ROOM_BYTES, SETS_BYTES, STATES_BYTES};
+use rbatl_tests::text;
 use std::hint::black_box;
 use sweeps::{Order, Sweeper};
 
@@ -23,6 +26,8 @@ struct Buffers {
     room: Vec<u8>,
     ranks: Vec<u8>,
     moves: Vec<u8>,
+    states: Vec<u8>,
+    listing: Vec<u8>,
 }
 
 impl Buffers {
@@ -32,6 +37,8 @@ impl Buffers {
             room: vec![0; ROOM_BYTES],
             ranks: vec![0; RANKS_BYTES],
             moves: vec![0; MOVES_BYTES],
+            states: vec![0; STATES_BYTES],
+            listing: vec![0; LISTING_BYTES],
         }
     }
 
@@ -43,6 +50,16 @@ impl Buffers {
     fn table(&mut self, job: &[u8]) {
         let answer = ffi::table(black_box(job), ROW as u8, &mut self.ranks, &mut self.moves);
         assert_eq!(answer, 0);
+    }
+
+    fn states_refusal(&mut self, job: &[u8]) {
+        let answer = ffi::states_refusal(job, ROW as u8, &self.states, &mut self.room);
+        assert_eq!(answer, 0);
+    }
+
+    fn list(&mut self, text: &[u8]) {
+        let (ranks, moves) = (&mut self.ranks, &mut self.moves);
+        assert!(ffi::list(text, &mut self.listing, ranks, moves) > 0);
     }
 }
 
@@ -181,11 +198,15 @@ fn print_times(times: &Times) -> [f64; 2] {
 }
 
 fn print_stack() {
-    let (mut table, mut label) = (0, 0);
+    let (mut table, mut label, mut refusal, mut list) = (0, 0, 0, 0);
     for case in cases::all() {
         let mut buffers = Buffers::new();
+        let text = text::write(&case.job);
         table = table.max(stack::used(|| buffers.table(&case.job)));
         label = label.max(stack::used(|| buffers.label(&case.job)));
+        refusal = refusal.max(stack::used(|| buffers.states_refusal(&case.job)));
+        list = list.max(stack::used(|| buffers.list(&text)));
     }
-    println!("largest stack in bytes, the caller's frame included: table {table}, label {label}");
+    println!("largest stack in bytes, the caller's frame included:");
+    println!("table {table}, label {label}, states_refusal {refusal}, list {list}");
 }

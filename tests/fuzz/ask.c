@@ -5,12 +5,17 @@
 #include <stdio.h>
 #include <string.h>
 
-/* The buffers of a call beside the input; the last may be working room. */
+/* What a call does with a buffer: no such buffer; filled unless it refuses;
+ * working room; not written at all. */
+enum use { NONE, FILLED, ROOM, KEPT };
+
+/* The buffers of a call beside the input. */
 struct shape {
     const char *name;
-    unsigned buffers;
-    size_t lengths[2];
-    bool room;
+    struct {
+        enum use use;
+        size_t length;
+    } lent[MAX_LENT];
     int32_t largest_answer;
     /* Bit n for refusal n. */
     unsigned refusals;
@@ -25,17 +30,28 @@ struct shape {
 #define OF_MOVE (OF_ROW | BIT(RBATL_POSITION) | BIT(RBATL_WRONG_SIDE))
 
 static const struct shape shapes[ENTRIES] = {
-    [CHECK] = {"check", 0, {0, 0}, false, 0, OF_BLOCK},
-    [READ] = {"read", 1, {RBATL_BLOCK_BYTES, 0}, false, 0, OF_TEXT},
-    [WRITE] = {"write", 1, {RBATL_TEXT_BYTES, 0}, false, RBATL_TEXT_BYTES, OF_BLOCK},
-    [LABEL] = {"label", 2, {RBATL_SETS_BYTES, RBATL_ROOM_BYTES}, true, 0, OF_BLOCK},
-    [TABLE] = {"table", 2, {RBATL_RANKS_BYTES, RBATL_MOVES_BYTES}, false, 0, OF_ROW},
-    [MOVE] = {"move", 1, {RBATL_ROOM_BYTES, 0}, true, JOINT_ACTIONS - 1, OF_MOVE},
-    [REPLY] = {"reply", 1, {RBATL_ROOM_BYTES, 0}, true, JOINT_ACTIONS - 1,
-               OF_MOVE | BIT(RBATL_MOVE)},
-    [STATES] = {"states", 2, {RBATL_STATES_BYTES, RBATL_ROOM_BYTES}, true, RBATL_MAX_STATES,
+    [CHECK] = {"check", {{NONE, 0}}, 0, OF_BLOCK},
+    [READ] = {"read", {{FILLED, RBATL_BLOCK_BYTES}}, 0, OF_TEXT},
+    [LIST] = {"list",
+              {{FILLED, RBATL_LISTING_BYTES}, {ROOM, RBATL_RANKS_BYTES}, {ROOM, RBATL_MOVES_BYTES}},
+              RBATL_LISTING_BYTES,
+              OF_TEXT},
+    [WRITE] = {"write", {{FILLED, RBATL_TEXT_BYTES}}, RBATL_TEXT_BYTES, OF_BLOCK},
+    [LABEL] = {"label", {{FILLED, RBATL_SETS_BYTES}, {ROOM, RBATL_ROOM_BYTES}}, 0, OF_BLOCK},
+    [TABLE] = {"table", {{FILLED, RBATL_RANKS_BYTES}, {FILLED, RBATL_MOVES_BYTES}}, 0, OF_ROW},
+    [MOVE] = {"move", {{ROOM, RBATL_ROOM_BYTES}}, JOINT_ACTIONS - 1, OF_MOVE},
+    [REPLY] = {"reply", {{ROOM, RBATL_ROOM_BYTES}}, JOINT_ACTIONS - 1, OF_MOVE | BIT(RBATL_MOVE)},
+    [STATES] = {"states",
+                {{FILLED, RBATL_STATES_BYTES}, {ROOM, RBATL_ROOM_BYTES}},
+                RBATL_MAX_STATES,
                 OF_ROW},
+    [REFUSAL] = {"states_refusal", {{KEPT, RBATL_STATES_BYTES}, {ROOM, RBATL_ROOM_BYTES}}, 0, OF_ROW},
 };
+
+bool takes_text(enum entry entry)
+{
+    return entry == READ || entry == LIST;
+}
 
 const char *entry_name(enum entry entry)
 {
@@ -44,17 +60,20 @@ const char *entry_name(enum entry entry)
 
 unsigned lent_count(enum entry entry)
 {
-    return shapes[entry].buffers;
+    unsigned count = 0;
+    while (count < MAX_LENT && shapes[entry].lent[count].use != NONE)
+        count++;
+    return count;
 }
 
 size_t lent_length(enum entry entry, unsigned which)
 {
-    return shapes[entry].lengths[which];
+    return shapes[entry].lent[which].length;
 }
 
-static int32_t call(const struct request *r, const struct lent *in, const struct lent *a,
-                    const struct lent *b)
+static int32_t call(const struct request *r, const struct lent *in, const struct lent *lent)
 {
+    const struct lent *a = &lent[0], *b = &lent[1], *c = &lent[2];
     const uint8_t *input = in->bytes;
     size_t length = in->length;
 
@@ -63,6 +82,9 @@ static int32_t call(const struct request *r, const struct lent *in, const struct
         return rbatl_check(input, length);
     case READ:
         return rbatl_read(input, length, a->bytes, a->length);
+    case LIST:
+        return rbatl_list(input, length, a->bytes, a->length, b->bytes, b->length, c->bytes,
+                          c->length);
     case WRITE:
         return rbatl_write(input, length, a->bytes, a->length);
     case LABEL:
@@ -77,6 +99,9 @@ static int32_t call(const struct request *r, const struct lent *in, const struct
                            a->bytes, a->length);
     case STATES:
         return rbatl_states(input, length, r->row, a->bytes, a->length, b->bytes, b->length);
+    case REFUSAL:
+        return rbatl_states_refusal(input, length, r->row, a->bytes, a->length, b->bytes,
+                                    b->length);
     case ENTRIES:
         break;
     }
@@ -86,12 +111,11 @@ static int32_t call(const struct request *r, const struct lent *in, const struct
 /* Whether some buffer has a length that is refused with 1. */
 static bool bad_length(const struct request *r)
 {
-    bool input = r->entry == READ ? r->input_length > RBATL_TEXT_BYTES
-                                  : r->input_length != RBATL_BLOCK_BYTES;
-    const struct shape *shape = &shapes[r->entry];
-    for (unsigned i = 0; i < shape->buffers; i++)
-        input |= r->skew[i] != 0;
-    return input;
+    bool bad = takes_text(r->entry) ? r->input_length > RBATL_TEXT_BYTES
+                                    : r->input_length != RBATL_BLOCK_BYTES;
+    for (unsigned i = 0; i < lent_count(r->entry); i++)
+        bad |= r->skew[i] != 0;
+    return bad;
 }
 
 static void check_answer(const struct run *run, const struct request *request, int32_t answer)
@@ -108,13 +132,13 @@ static void check_answer(const struct run *run, const struct request *request, i
 }
 
 /* Refused, a buffer is as it was; room holds zeros, except after refusal 1. */
-static void check_buffer(const struct run *run, const struct shape *shape, int32_t answer,
-                         const struct lent *lent, bool room)
+static void check_buffer(const struct run *run, const char *name, int32_t answer,
+                         const struct lent *lent, enum use use)
 {
-    if (answer == -RBATL_LENGTH || (answer < 0 && !room))
-        expect(run, kept(lent), shape->name, "refused, but a buffer has changed");
-    else if (room)
-        expect(run, is_zero(lent->bytes, lent->length), shape->name, "no zeros in the room");
+    if (answer == -RBATL_LENGTH || (answer < 0 && use == FILLED) || use == KEPT)
+        expect(run, kept(lent), name, "refused or not to be written, but a buffer has changed");
+    else if (use == ROOM)
+        expect(run, is_zero(lent->bytes, lent->length), name, "no zeros in the room");
 }
 
 static enum place any_place(struct random *random)
@@ -125,23 +149,24 @@ static enum place any_place(struct random *random)
 void ask(struct run *run, const struct request *request, struct outcome *outcome)
 {
     const struct shape *shape = &shapes[request->entry];
-    struct lent lent[2] = {{0}};
+    unsigned count = lent_count(request->entry);
+    struct lent lent[MAX_LENT] = {{0}};
     struct lent input = lend_input(SLOTS - 1, any_place(&run->random), request->input,
                                    request->input_length);
 
-    for (unsigned i = 0; i < shape->buffers; i++) {
-        size_t length = (size_t)((long)shape->lengths[i] + request->skew[i]);
+    for (unsigned i = 0; i < count; i++) {
+        size_t length = (size_t)((long)shape->lent[i].length + request->skew[i]);
         lent[i] = lend_noise(i, any_place(&run->random), length, &run->random);
     }
-    outcome->answer = call(request, &input, &lent[0], &lent[1]);
+    outcome->answer = call(request, &input, lent);
     run->calls[request->entry]++;
     run->refusals[request->entry] += outcome->answer < 0;
     check_answer(run, request, outcome->answer);
     expect(run, kept(&input), shape->name, "the input has changed");
-    for (unsigned i = 0; i < shape->buffers; i++) {
-        bool room = shape->room && i + 1 == shape->buffers;
-        check_buffer(run, shape, outcome->answer, &lent[i], room);
-        if (outcome->answer >= 0 && !room)
+    for (unsigned i = 0; i < count; i++) {
+        enum use use = shape->lent[i].use;
+        check_buffer(run, shape->name, outcome->answer, &lent[i], use);
+        if (outcome->answer >= 0 && use == FILLED)
             memcpy(outcome->bytes[i], lent[i].bytes, lent[i].length);
         expect(run, take_back(&lent[i]), shape->name, "written outside a buffer");
     }

@@ -6,19 +6,23 @@
 #include "random.h"
 
 /* The calls of the library. */
-enum entry { CHECK, READ, WRITE, LABEL, TABLE, MOVE, REPLY, STATES, ENTRIES };
+enum entry { CHECK, READ, LIST, WRITE, LABEL, TABLE, MOVE, REPLY, STATES, REFUSAL, ENTRIES };
 
-/* What a call is asked: the input is a text for READ and a block for the rest. */
+/* How many buffers beside the input a call is lent at most. */
+#define MAX_LENT 3
+
+/* What a call is asked: the input is a text for READ and LIST, and a block for
+ * the rest. */
 struct request {
     enum entry entry;
     const uint8_t *input;
     size_t input_length;
     uint8_t row, state, stock0, stock1, move;
     /* The lengths of the other buffers differ by this from the right ones. */
-    long skew[2];
+    long skew[MAX_LENT];
 };
 
-/* The answer, and the bytes of the buffers that are not working room. */
+/* The answer, and the bytes of the buffers that the call fills. */
 struct outcome {
     int32_t answer;
     uint8_t bytes[2][RBATL_TEXT_BYTES];
@@ -43,6 +47,9 @@ struct view {
     uint32_t right;
 };
 
+/* Whether a call starts from a text. */
+bool takes_text(enum entry entry);
+
 /* The name of a call, without its prefix. */
 const char *entry_name(enum entry entry);
 
@@ -55,6 +62,18 @@ void expect(const struct run *run, bool fact, const char *call, const char *what
 
 /* Calls the library, and checks what holds of the call whatever the input is. */
 void ask(struct run *run, const struct request *request, struct outcome *outcome);
+
+/* The same on a block, and on a text; the answer. */
+int32_t ask_block(struct run *run, enum entry entry, const uint8_t *block, unsigned row,
+                  struct outcome *outcome);
+int32_t ask_text(struct run *run, enum entry entry, const uint8_t *text, size_t length,
+                 struct outcome *outcome);
+
+/* The set of a row among those that label fills. */
+uint32_t word_at(const uint8_t *sets, unsigned row);
+
+/* Lists the text of a passing block. */
+void try_listing(struct run *run, const uint8_t *block, const uint8_t *text, size_t length);
 
 /* Random jobs, and damage to them. */
 void random_job(struct random *random, uint8_t *block);

@@ -16,18 +16,18 @@ static struct request request_of(enum entry entry, const uint8_t *block, unsigne
     return request;
 }
 
-static int32_t ask_block(struct run *run, enum entry entry, const uint8_t *block, unsigned row,
-                         struct outcome *outcome)
+int32_t ask_block(struct run *run, enum entry entry, const uint8_t *block, unsigned row,
+                  struct outcome *outcome)
 {
     struct request request = request_of(entry, block, row);
     ask(run, &request, outcome);
     return outcome->answer;
 }
 
-static int32_t ask_text(struct run *run, const uint8_t *text, size_t length,
-                        struct outcome *outcome)
+int32_t ask_text(struct run *run, enum entry entry, const uint8_t *text, size_t length,
+                 struct outcome *outcome)
 {
-    struct request request = {.entry = READ, .input = text, .input_length = length};
+    struct request request = {.entry = entry, .input = text, .input_length = length};
     ask(run, &request, outcome);
     return outcome->answer;
 }
@@ -43,10 +43,12 @@ static size_t try_text(struct run *run, const uint8_t *block, uint8_t *text)
     memcpy(text, outcome.bytes[0], RBATL_TEXT_BYTES);
     for (size_t i = (size_t)length; i < RBATL_TEXT_BYTES; i++)
         expect(run, text[i] == 0, "write", "no zeros after the text");
-    expect(run, ask_text(run, text, (size_t)length, &outcome) == 0, "read", "a written text");
+    expect(run, ask_text(run, READ, text, (size_t)length, &outcome) == 0, "read",
+           "a written text");
     expect(run, memcmp(outcome.bytes[0], block, RBATL_BLOCK_BYTES) == 0, "read", "another block");
     size_t emptied = empty_bounds(&run->random, text, (size_t)length);
-    expect(run, ask_text(run, text, emptied, &outcome) == 0, "read", "a text with empty bounds");
+    expect(run, ask_text(run, READ, text, emptied, &outcome) == 0, "read",
+           "a text with empty bounds");
     expect(run, memcmp(outcome.bytes[0], block, RBATL_BLOCK_BYTES) == 0, "read",
            "another block by empty bounds");
     return emptied;
@@ -55,20 +57,24 @@ static size_t try_text(struct run *run, const uint8_t *block, uint8_t *text)
 /* A text that is read is the text of its block, but for empty bounds. */
 static void try_damaged_text(struct run *run, uint8_t *text, size_t length)
 {
-    static struct outcome read, written;
+    static struct outcome read, listed, written;
     static uint8_t filled[4 * TEXT_ROOM];
 
     length = damage_text(&run->random, text, length);
-    if (ask_text(run, text, length, &read) < 0)
+    if (ask_text(run, READ, text, length, &read) < 0) {
+        expect(run, ask_text(run, LIST, text, length, &listed) == read.answer, "list",
+               "another refusal than of reading");
         return;
+    }
     expect(run, ask_block(run, CHECK, read.bytes[0], 0, &written) == 0, "check", "a read block");
     int32_t answer = ask_block(run, WRITE, read.bytes[0], 0, &written);
     size_t due = fill_bounds(text, length, filled);
     expect(run, answer >= 0 && (size_t)answer == due, "write", "another length than was read");
     expect(run, memcmp(written.bytes[0], filled, due) == 0, "write", "another text than was read");
+    try_listing(run, read.bytes[0], text, length);
 }
 
-static uint32_t word_at(const uint8_t *sets, unsigned row)
+uint32_t word_at(const uint8_t *sets, unsigned row)
 {
     const uint8_t *word = sets + 4 * (size_t)row;
     return word[0] | (uint32_t)word[1] << 8 | (uint32_t)word[2] << 16 | (uint32_t)word[3] << 24;
@@ -103,6 +109,8 @@ static void try_states(struct run *run, const uint8_t *block, unsigned row, uint
     expect(run, count == found, "states", "another count than label");
     while (found < RBATL_STATES_BYTES)
         expect(run, outcome.bytes[0][found++] == 0, "states", "no zeros after the states");
+    expect(run, ask_block(run, REFUSAL, block, row, &outcome) == 0, "states_refusal",
+           "a row that has states");
 }
 
 static struct request at_position(enum entry entry, const struct view *view, size_t position)
@@ -228,6 +236,8 @@ static void try_absent_row(struct run *run, const uint8_t *block)
     try_no_table(run, block, row);
     expect(run, ask_block(run, STATES, block, row, &outcome) == -RBATL_ROW_CHOICE, "states",
            "an absent row");
+    expect(run, ask_block(run, REFUSAL, block, row, &outcome) == -RBATL_ROW_CHOICE,
+           "states_refusal", "an absent row");
 }
 
 /* The rows of a passing block; a row is left out now and then, so that large
@@ -261,7 +271,7 @@ static void try_rows(struct run *run, const uint8_t *block)
 static void try_refused(struct run *run, const uint8_t *block, int32_t answer)
 {
     static struct outcome outcome;
-    static const enum entry entries[] = {WRITE, LABEL, TABLE, MOVE, REPLY, STATES};
+    static const enum entry entries[] = {WRITE, LABEL, TABLE, MOVE, REPLY, STATES, REFUSAL};
 
     for (size_t i = 0; i < sizeof entries / sizeof entries[0]; i++) {
         struct request request = request_of(entries[i], block, draw_byte(&run->random));
@@ -297,7 +307,7 @@ static struct request misfit(struct run *run, enum entry entry, const uint8_t *i
 {
     struct request request = request_of(entry, input, draw_byte(&run->random));
     unsigned buffers = lent_count(entry);
-    unsigned which = (unsigned)below(&run->random, buffers + (entry != READ));
+    unsigned which = (unsigned)below(&run->random, buffers + !takes_text(entry));
 
     request.input_length = length;
     if (which < buffers)
@@ -316,7 +326,7 @@ static void try_lengths(struct run *run, const uint8_t *block, const uint8_t *te
     memcpy(input, block, RBATL_BLOCK_BYTES);
     for (unsigned i = 0; i < ENTRIES; i++) {
         enum entry entry = (enum entry)i;
-        struct request request = entry == READ
+        struct request request = takes_text(entry)
                                      ? misfit(run, entry, text, length)
                                      : misfit(run, entry, input, RBATL_BLOCK_BYTES);
         ask(run, &request, &outcome);
@@ -349,6 +359,7 @@ void try_case(struct run *run)
     random_job(&run->random, block);
     expect(run, ask_block(run, CHECK, block, 0, &outcome) == 0, "check", "a passing block");
     size_t length = try_text(run, block, text);
+    try_listing(run, block, text, length);
     try_rows(run, block);
     try_lengths(run, block, text, length);
     for (unsigned i = 0; i < 4; i++)

@@ -36,13 +36,9 @@ static const struct byte catch_bytes[] = {
     "prop,0\nnot,0\nor,0,1\nuntil,1,5,2,0\nuntil,3,5,2,0\n"
 #define LAST "until,3,4,2,0\n"
 
-/* A text that is refused, and the answer that it must get. */
-struct refused_text {
-    const char *text;
-    int32_t answer;
-};
+const char catch_text[] = FRONT LAST;
 
-static const struct refused_text refused_texts[] = {
+const struct refused_text refused_texts[] = {
     {"", -RBATL_FORM},
     {"job,2,1,25,1,6\n", -RBATL_SIZES},
     {"job,2,1,3,1,6\nstate,00,0\n", -RBATL_FORM},
@@ -59,6 +55,7 @@ static const struct refused_text refused_texts[] = {
     {FRONT "until,3,256,2,0\n", -RBATL_FORM},
     {FRONT "until,,4,2,0\n", -RBATL_FORM},
 };
+const size_t refused_count = sizeof refused_texts / sizeof refused_texts[0];
 
 const struct damage damages[] = {
     {"Catch", {0, 2}, 0},
@@ -189,25 +186,24 @@ static void expect_read(const char *name, const char *text, size_t length, size_
 
 static void check_read(void)
 {
-    static const char whole[] = FRONT LAST;
     static const char empty[] = FRONT "until,3,,2,0\n";
     static const char inf[] = FRONT "until,3,inf,2,0\n";
     static char longest[RBATL_TEXT_BYTES + 1];
     static uint8_t job[RBATL_BLOCK_BYTES];
 
     fill_catch(job);
-    expect_read("Catch", whole, sizeof whole - 1, sizeof job, 0, job);
-    expect_read("a short block", whole, sizeof whole - 1, sizeof job - 1, -RBATL_LENGTH, NULL);
-    expect_read("a long block", whole, sizeof whole - 1, sizeof job + 1, -RBATL_LENGTH, NULL);
-    expect_read("no block", whole, sizeof whole - 1, 0, -RBATL_LENGTH, NULL);
-    expect_read("the byte after Catch", whole, sizeof whole, sizeof job, -RBATL_FORM, NULL);
+    expect_read("Catch", catch_text, sizeof catch_text - 1, sizeof job, 0, job);
+    expect_read("a short block", catch_text, sizeof catch_text - 1, sizeof job - 1, -RBATL_LENGTH, NULL);
+    expect_read("a long block", catch_text, sizeof catch_text - 1, sizeof job + 1, -RBATL_LENGTH, NULL);
+    expect_read("no block", catch_text, sizeof catch_text - 1, 0, -RBATL_LENGTH, NULL);
+    expect_read("the byte after Catch", catch_text, sizeof catch_text, sizeof job, -RBATL_FORM, NULL);
     job[2257] = RBATL_UNLIMITED;
     expect_read("an empty bound", empty, sizeof empty - 1, sizeof job, 0, job);
     expect_read("inf", inf, sizeof inf - 1, sizeof job, 0, job);
-    memcpy(longest, whole, sizeof whole);
+    memcpy(longest, catch_text, sizeof catch_text);
     expect_read("32,768 bytes", longest, sizeof longest - 1, sizeof job, -RBATL_FORM, NULL);
     expect_read("32,769 bytes", longest, sizeof longest, sizeof job, -RBATL_LENGTH, NULL);
-    for (size_t i = 0; i < sizeof refused_texts / sizeof refused_texts[0]; i++) {
+    for (size_t i = 0; i < refused_count; i++) {
         const char *text = refused_texts[i].text;
         expect_read(text, text, strlen(text), sizeof job, refused_texts[i].answer, NULL);
     }
@@ -237,16 +233,15 @@ static void expect_write(const char *name, const uint8_t *block, size_t length, 
 
 static void check_write(void)
 {
-    static const char whole[] = FRONT LAST;
     static const char inf[] = FRONT "until,3,inf,2,0\n";
     static const size_t lengths[] = {
-        0, sizeof whole - 1, RBATL_TEXT_BYTES - 1, RBATL_TEXT_BYTES + 1, 2 * RBATL_TEXT_BYTES,
+        0, sizeof catch_text - 1, RBATL_TEXT_BYTES - 1, RBATL_TEXT_BYTES + 1, 2 * RBATL_TEXT_BYTES,
     };
     static uint8_t bytes[2 * RBATL_BLOCK_BYTES];
     const size_t size = RBATL_BLOCK_BYTES;
 
     fill_catch(bytes);
-    expect_write("Catch", bytes, size, RBATL_TEXT_BYTES, sizeof whole - 1, whole);
+    expect_write("Catch", bytes, size, RBATL_TEXT_BYTES, sizeof catch_text - 1, catch_text);
     expect_write("a short block", bytes, size - 1, RBATL_TEXT_BYTES, -RBATL_LENGTH, NULL);
     expect_write("a long block", bytes, size + 1, RBATL_TEXT_BYTES, -RBATL_LENGTH, NULL);
     for (size_t i = 0; i < sizeof lengths / sizeof lengths[0]; i++)
@@ -269,6 +264,7 @@ int main(void)
     check_states();
     check_move();
     check_reply();
+    check_list();
     printf("%d passed, %d failed\n", passed, failed);
     return failed != 0;
 }

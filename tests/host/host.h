@@ -20,6 +20,18 @@ struct damage {
     int32_t answer;
 };
 
+/* The text of Catch. */
+extern const char catch_text[];
+
+/* A text that is refused, and the answer that it must get. */
+struct refused_text {
+    const char *text;
+    int32_t answer;
+};
+
+extern const struct refused_text refused_texts[];
+extern const size_t refused_count;
+
 extern const struct damage damages[];
 extern const size_t damage_count;
 
@@ -35,5 +47,6 @@ void check_table(void);
 void check_states(void);
 void check_move(void);
 void check_reply(void);
+void check_list(void);
 
 #endif

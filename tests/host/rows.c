@@ -117,6 +117,21 @@ void check_table(void)
     }
 }
 
+/* The second call must give the refusal, leave the list as it was and the room
+ * as the lister does. */
+static void expect_refusal(const char *name, const uint8_t *block, size_t length, uint8_t row,
+                           size_t list_length, size_t room_length, int32_t expected)
+{
+    static uint8_t list[RBATL_STATES_BYTES + 1], room[RBATL_ROOM_BYTES + 1];
+
+    memset(list, FILL, sizeof list);
+    memset(room, FILL, sizeof room);
+    int32_t answer = rbatl_states_refusal(block, length, row, list, list_length, room, room_length);
+    count_answer(name, "states_refusal", answer, expected < 0 ? expected : 0);
+    count(all(list, sizeof list, FILL), name, "the second call has changed the list");
+    count_room(name, room, expected);
+}
+
 /* The list must hold the states of a row of Catch, or, refused, be as it was;
  * the room must hold zeros, or, after a wrong length, be as it was. */
 static void expect_states(const char *name, const uint8_t *block, size_t length, uint8_t row,
@@ -141,6 +156,7 @@ static void expect_states(const char *name, const uint8_t *block, size_t length,
         count(list[RBATL_STATES_BYTES] == FILL, name, "list written too far");
     }
     count_room(name, room, expected);
+    expect_refusal(name, block, length, row, list_length, room_length, expected);
 }
 
 void check_states(void)

@@ -2,13 +2,15 @@
 //! input both must give the same answer and leave the same bytes in the whole
 //! lent buffer.
 
+mod listing;
 mod lookup;
 mod solver;
 
 use crate::random::Rng;
 use crate::{ffi, text};
+pub use listing::list;
 pub use lookup::{coalition_move, reply};
-pub use solver::{label, states, table};
+pub use solver::{label, states, states_refusal, table};
 
 /// Bytes on both sides of a lent buffer, which no call may touch.
 const MARGIN: usize = 64;
@@ -59,6 +61,18 @@ fn lend(buffer: &[u8], call: impl FnOnce(&mut [u8]) -> i32) -> Outcome {
         answer,
         buffer: bytes,
     }
+}
+
+/// The same for two buffers. In the outcome the second one follows the first.
+fn lend_two(lent: [&[u8]; 2], call: impl FnOnce(&mut [u8], &mut [u8]) -> i32) -> Outcome {
+    let mut second = Vec::new();
+    let mut outcome = lend(lent[0], |first| {
+        let outcome = lend(lent[1], |second| call(first, second));
+        second = outcome.buffer;
+        outcome.answer
+    });
+    outcome.buffer.extend(second);
+    outcome
 }
 
 fn compare(call: &str, expected: Outcome, found: Outcome, what: impl Fn() -> String) -> Outcome {

@@ -6,6 +6,16 @@ extern "C" {
     fn rbatl_check(block: *const u8, block_len: usize) -> i32;
     fn rbatl_read(text: *const u8, text_len: usize, block: *mut u8, block_len: usize) -> i32;
     fn rbatl_write(block: *const u8, block_len: usize, text: *mut u8, text_len: usize) -> i32;
+    fn rbatl_list(
+        text: *const u8,
+        text_len: usize,
+        listing: *mut u8,
+        listing_len: usize,
+        ranks: *mut u8,
+        ranks_len: usize,
+        moves: *mut u8,
+        moves_len: usize,
+    ) -> i32;
 }
 
 /// 0, or minus the refusal number.
@@ -26,6 +36,24 @@ pub fn write(block: &[u8], text: &mut [u8]) -> i32 {
     // SAFETY: each pointer is valid for the length beside it, and the text,
     // borrowed mutably, overlaps no block.
     unsafe { rbatl_write(block.as_ptr(), block.len(), text.as_mut_ptr(), text.len()) }
+}
+
+/// The length of the listing, or minus the refusal number.
+pub fn list(text: &[u8], listing: &mut [u8], ranks: &mut [u8], moves: &mut [u8]) -> i32 {
+    // SAFETY: each pointer is valid for the length beside it, and the three
+    // buffers, borrowed mutably, overlap nothing.
+    unsafe {
+        rbatl_list(
+            text.as_ptr(),
+            text.len(),
+            listing.as_mut_ptr(),
+            listing.len(),
+            ranks.as_mut_ptr(),
+            ranks.len(),
+            moves.as_mut_ptr(),
+            moves.len(),
+        )
+    }
 }
 
 /// The calls on the rows of a job.
@@ -53,6 +81,15 @@ mod rows {
             block_len: usize,
             row: u8,
             list: *mut u8,
+            list_len: usize,
+            room: *mut u8,
+            room_len: usize,
+        ) -> i32;
+        fn rbatl_states_refusal(
+            block: *const u8,
+            block_len: usize,
+            row: u8,
+            list: *const u8,
             list_len: usize,
             room: *mut u8,
             room_len: usize,
@@ -108,7 +145,24 @@ mod rows {
             )
         }
     }
+
+    /// 0, or minus the number of the lister's refusal.
+    pub fn states_refusal(block: &[u8], row: u8, list: &[u8], room: &mut [u8]) -> i32 {
+        // SAFETY: each pointer is valid for the length beside it, and the room,
+        // borrowed mutably, overlaps nothing.
+        unsafe {
+            rbatl_states_refusal(
+                block.as_ptr(),
+                block.len(),
+                row,
+                list.as_ptr(),
+                list.len(),
+                room.as_mut_ptr(),
+                room.len(),
+            )
+        }
+    }
 }
 
 pub use lookup::{coalition_move, reply};
-pub use rows::{label, states, table};
+pub use rows::{label, states, states_refusal, table};

@@ -1,10 +1,12 @@
-//! What the listing program prints (document 01, "The job Catch"), by the
-//! checker's search on positions alone.
+//! The listing call and what the listing program prints (document 01, "The job
+//! Catch"), by the checker's search on positions alone.
 
 use crate::checker::search;
 use crate::checker::structure::{contains, Structure};
 use crate::random::{cases, Rng};
-use crate::{games, jobs, text, text_damage};
+use crate::solver::{MOVES_BYTES, RANKS_BYTES};
+use crate::text::TEXT_BYTES;
+use crate::{games, jobs, refusal, text, text_damage};
 
 /// The listing of a text, or `refused,` and the number.
 pub fn listing(job: &[u8]) -> Vec<u8> {
@@ -13,6 +15,30 @@ pub fn listing(job: &[u8]) -> Vec<u8> {
         Err(number) => format!("refused,{number}\n"),
     };
     listing.into_bytes()
+}
+
+pub const LISTING_BYTES: usize = TEXT_BYTES;
+
+/// The listing call: the length of the listing, zeros after it, or minus the
+/// refusal number. A refusal leaves the listing as it was; ranks and moves hold
+/// zeros afterwards, unless a length is wrong.
+pub fn list_call(job: &[u8], listing: &mut [u8], ranks: &mut [u8], moves: &mut [u8]) -> i32 {
+    let lengths = [listing.len(), ranks.len(), moves.len()];
+    if lengths != [LISTING_BYTES, RANKS_BYTES, MOVES_BYTES] || job.len() > TEXT_BYTES {
+        return -i32::from(refusal::LENGTH);
+    }
+    ranks.fill(0);
+    moves.fill(0);
+    match text::read(job) {
+        Ok(block) => {
+            let lines = of_block(&block).into_bytes();
+            let (front, rest) = listing.split_at_mut(lines.len());
+            front.copy_from_slice(&lines);
+            rest.fill(0);
+            lines.len() as i32
+        }
+        Err(number) => -i32::from(number),
+    }
 }
 
 /// The listing of a block that the check lets pass.

@@ -76,19 +76,30 @@ impl Model {
     /// The lister of a row's states. A refusal leaves the list as it was; the
     /// room holds zeros afterwards, unless a length is wrong.
     pub fn states(&self, row: u8, list: &mut [u8], room: &mut [u8]) -> i32 {
-        if list.len() != STATES_BYTES || !self.clears(room) {
-            return -i32::from(refusal::LENGTH);
+        match self.set(row, list.len(), room) {
+            Ok(set) => {
+                let states = (0..MAX_STATES as u8).filter(|state| set >> state & 1 == 1);
+                store(list, states.clone());
+                states.count() as i32
+            }
+            Err(number) => -i32::from(number),
         }
-        let job = match &self.job {
-            Ok(job) => job,
-            Err(number) => return -i32::from(*number),
-        };
-        let Some(set) = job.sets.get(usize::from(row)) else {
-            return -i32::from(refusal::ROW_CHOICE);
-        };
-        let states = (0..MAX_STATES as u8).filter(|state| set >> state & 1 == 1);
-        store(list, states.clone());
-        states.count() as i32
+    }
+
+    /// The lister's second call: its refusal, or 0.
+    pub fn states_refusal(&self, row: u8, list: &[u8], room: &mut [u8]) -> i32 {
+        let found = self.set(row, list.len(), room);
+        -i32::from(found.err().unwrap_or(0))
+    }
+
+    /// The row's set for a list of this length, or the refusal number.
+    fn set(&self, row: u8, list: usize, room: &mut [u8]) -> Result<Set, u8> {
+        if list != STATES_BYTES || !self.clears(room) {
+            return Err(refusal::LENGTH);
+        }
+        let job = self.job.as_ref().map_err(|&number| number)?;
+        let set = job.sets.get(usize::from(row));
+        set.copied().ok_or(refusal::ROW_CHOICE)
     }
 
     /// Clears the room, unless its length or the block's is wrong.

@@ -1,6 +1,8 @@
 // Reads the text of a job on standard input and prints its listing. It only moves bytes: what is printed is made by `report`.
+use block::refusal::Refusal;
 use libc::STDIN_FILENO;
 use libc::STDOUT_FILENO;
+use lookup::answer::Answer;
 use solver::sizes;
 use text::TEXT_BYTES;
 ghost use Prim.Native.Nat.{_≤_};
@@ -35,14 +37,27 @@ fn read_input(text: &mut [u8]) -> Input
     Input::Bytes(n)
 }
 
-// Prints what is listed for the text, or says that it cannot.
+// Writes the bytes, or says that it cannot.
+fn print(bytes: &[u8]) {
+    if !io::write_all(STDOUT_FILENO, bytes) {
+        os::fail(b"standard output");
+    }
+}
+
+fn print_refusal(r: Refusal) {
+    let mut line = [0u8; report::REFUSED_BYTES];
+    let n = report::refused_line(&mut line, r);
+    print(&line[..n]);
+}
+
+// Prints the listing of the text's job, or the refusal's number.
 fn print_listing(text: &[u8]) {
-    let mut out = [0u8; TEXT_BYTES];
+    let mut out = [0u8; report::LISTING_BYTES];
     let mut ranks = [0u8; sizes::ROOM_BYTES];
     let mut moves = [0u8; sizes::MOVES_BYTES];
-    let n = report::listing(text, &mut out, &mut ranks, &mut moves);
-    if !io::write_all(STDOUT_FILENO, &out[..n]) {
-        os::fail(b"standard output");
+    match report::listing(text, &mut out, &mut ranks, &mut moves) {
+        Answer::Value(n) => print(&out[..n]),
+        Answer::Refused(r) => print_refusal(r),
     }
 }
 

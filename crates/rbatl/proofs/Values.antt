@@ -12,15 +12,21 @@ use Rattle.lookup.specs.Calls.{ValueIs}
 use Rattle.lookup.specs.States.{StatesCall}
 use Rattle.lookup.specs.declared.answer.Answer.{Answer}
 use Rattle.lookup.specs.declared.answer.Answer.the-variants as answer
+use Rattle.report.specs.Call.{listingBytes, ListingCall}
+use Rattle.report.proofs.Printing.{listing-fits}
 use Rattle.rbatl.specs.Answer.{Small}
 
-pub small : {n : ℕ} → n ≤ 32768 → SFits w32 (pos n)
+pub small : {n : ℕ} → n ≤ listingBytes → SFits w32 (pos n)
 small h = record { sfits = lt-of-le-of-lt h (lit< tt) }
 
 pub small-value : (right : ℕ → Type 0) → ((n : ℕ) → right n → n < 64) → (a : Answer) → ValueIs right a → Small a
-small-value right least (answer.Value n) h = least n h
+small-value right least (answer.Value n) h = omega (arith, least n h)
 small-value right least (answer.Refused r) h = tt
 
 pub small-count : (b : Block) (i : ℕ) (list room list′ room′ : List ℕ) (a : Answer) → StatesCall b i list room list′ room′ a → Small a
 small-count b i list room list′ room′ (answer.Value n) call = omega (arith, call .list-after .lists .fits)
 small-count b i list room list′ room′ (answer.Refused r) call = tt
+
+pub small-listing : (text out ranks moves out′ ranks′ moves′ : List ℕ) (a : Answer) → ListingCall text out ranks moves out′ ranks′ moves′ a → Small a
+small-listing text out ranks moves out′ ranks′ moves′ (answer.Value n) call = listing-fits text out ranks moves out′ ranks′ moves′ n call
+small-listing text out ranks moves out′ ranks′ moves′ (answer.Refused r) call = tt

@@ -1,7 +1,7 @@
 -- The number that a C caller is handed back: a value from 0, or minus document 01's number of a refusal.
 use mathlib.Core.List.{List}
 use mathlib.Core.Path.{_≡_}
-use Prim.Native.Nat.{ℕ, _<_}
+use Prim.Native.Nat.{ℕ, _≤_}
 use lib.IntN.{ℤ, pos, negℤ}
 use Rattle.block.specs.Layout.{Block}
 use Rattle.block.specs.Refusal.{numberOf, answerOf}
@@ -10,9 +10,10 @@ use Rattle.block.specs.declared.refusal.Checked.{Checked}
 use Rattle.text.specs.Text.{readCall, answerTo}
 use Rattle.solver.specs.Calls.{LabelCall, TableCall}
 use Rattle.lookup.specs.Calls.{MoveCall, ReplyCall}
-use Rattle.lookup.specs.States.{StatesCall}
+use Rattle.lookup.specs.States.{StatesCall, RefusalCall}
 use Rattle.lookup.specs.declared.answer.Answer.{Answer}
 use Rattle.lookup.specs.declared.answer.Answer.the-variants as answer
+use Rattle.report.specs.Call.{listingBytes, ListingCall}
 use Rattle.writer.specs.Call.{WriteCall}
 use Rattle.writer.specs.declared.written.Written.{Written}
 use Rattle.writer.specs.declared.written.Written.the-variants as written
@@ -51,9 +52,9 @@ abbrev pub answerCode : Answer → ℤ
 answerCode (answer.Value n) = pos n
 answerCode (answer.Refused r) = minus (numberOf r)
 
--- a value is the number of a joint action, or a count of states
+-- a value is the number of a joint action, a count of states or the length of a listing
 abbrev pub Small : Answer → Type 0
-Small (answer.Value n) = n < 64
+Small (answer.Value n) = n ≤ listingBytes
 Small (answer.Refused r) = Unit {0}
 
 -- what the team's move and the reply calls promise of their answer and of the room, before and after
@@ -66,3 +67,11 @@ ReplyAnswer b i s stocks m room room′ r = (a : Answer) × ReplyCall b i s stoc
 -- what the lister promises of its answer, the list and the room, each before and after it
 abbrev pub StatesAnswer : Block → ℕ → List ℕ → List ℕ → List ℕ → List ℕ → ℤ → Type 0
 StatesAnswer b i list room list′ room′ r = (a : Answer) × StatesCall b i list room list′ room′ a × (r ≡ answerCode a)
+
+-- what its second call promises of its answer and of the room, before and after it
+abbrev pub RefusalAnswer : Block → ℕ → List ℕ → List ℕ → List ℕ → ℤ → Type 0
+RefusalAnswer b i list room room′ r = (a : Checked) × RefusalCall b i list room room′ a × (r ≡ minus (answerOf a))
+
+-- what the listing call promises of its answer, the listing, the ranks and the moves, each before and after it
+abbrev pub ListAnswer : List ℕ → List ℕ → List ℕ → List ℕ → List ℕ → List ℕ → List ℕ → ℤ → Type 0
+ListAnswer text listing ranks moves listing′ ranks′ moves′ r = (a : Answer) × ListingCall text listing ranks moves listing′ ranks′ moves′ a × (r ≡ answerCode a)

@@ -8,7 +8,7 @@ ghost use mathlib.Core.Path.{_≡_};
 ghost use Rattle.block.specs.Refusal.{numberOf, answerOf};
 ghost use Rattle.text.specs.Text.{readCall, blockAfter, Exact, Numbered};
 ghost use Rattle.game.specs.Demand.{Demand3};
-ghost use Rattle.rbatl.specs.Answer.{minus, CheckAnswer, readAnswer, WriteAnswer, LabelAnswer, TableAnswer, Small, answerCode, MoveAnswer, ReplyAnswer, StatesAnswer};
+ghost use Rattle.rbatl.specs.Answer.{minus, CheckAnswer, readAnswer, WriteAnswer, LabelAnswer, TableAnswer, Small, answerCode, MoveAnswer, ReplyAnswer, StatesAnswer, RefusalAnswer, ListAnswer};
 
 fn refused(r: Refusal) -> i32
     ensures { λ x. ⌜ x ≡ minus (numberOf r) ⌝ }
@@ -142,4 +142,23 @@ pub extern "C" fn rbatl_states(block: &[u8], row: u8, list: &mut [u8], room: &mu
     ensures { λ r. ⌜ StatesAnswer (now (block .entry)) row (now (list .entry)) (now (room .entry)) (now (list .exit)) (now (room .exit)) r ⌝ }
 {
     value(lookup::states::fill_states(block, row as usize, list, room))
+}
+
+#[no_mangle]
+pub extern "C" fn rbatl_states_refusal(block: &[u8], row: u8, list: &[u8], room: &mut [u8]) -> i32
+    ensures { λ r. ⌜ RefusalAnswer (now (block .entry)) row (now (list .entry)) (now (room .entry)) (now (room .exit)) r ⌝ }
+{
+    answer(lookup::states::states_refusal(block, row as usize, list, room))
+}
+
+#[no_mangle]
+pub extern "C" fn rbatl_list(
+    text: &[u8],
+    listing: &mut [u8],
+    ranks: &mut [u8],
+    moves: &mut [u8],
+) -> i32
+    ensures { λ r. ⌜ ListAnswer (now (text .entry)) (now (listing .entry)) (now (ranks .entry)) (now (moves .entry)) (now (listing .exit)) (now (ranks .exit)) (now (moves .exit)) r ⌝ }
+{
+    value(report::listing(text, listing, ranks, moves))
 }

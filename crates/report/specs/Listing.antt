@@ -1,4 +1,4 @@
--- The listing (document 01, "The job Catch"): what the program prints for a text.
+-- The listing (document 01, "The job Catch"): the lines of a job, and the line of a refused text.
 use mathlib.Core.Bool.{cond}
 use mathlib.Core.List.{List, [], _++_}
 use mathlib.Core.Path.{_≡_}
@@ -7,10 +7,7 @@ use lib.Count.{ones}
 use lib.Dec.{ltb}
 use Rattle.block.specs.Layout as L
 use Rattle.block.specs.Layout.{Block}
-use Rattle.block.specs.Refusal.{numberOf}
 use Rattle.text.specs.Numeral.{ascii, comma, lineEnd, field}
-use Rattle.text.specs.Format.{Outcome, accepted, refused}
-use Rattle.text.specs.Text.{blank, readCall}
 use Rattle.game.specs.Position.{full}
 use Rattle.game.specs.Table.{Table, rankAt, moveAt}
 use Rattle.game.specs.Model.{bit, arenaOf, RowSet}
@@ -64,12 +61,3 @@ pub data RowsListed (b : Block) : ℕ → List ℕ → Type 0 where
 -- the listing of a job
 abbrev pub Listed : Block → List ℕ → Type 0
 Listed b out = (lines : List ℕ) × (RowsListed b (L.rows b) lines × (out ≡ listLine (L.rows b) ++ lines))
-
--- what is printed after reading: the listing, or the refusal's number
-abbrev pub PrintedFor : Outcome → List ℕ → Type 0
-PrintedFor (accepted b) out = Listed b out
-PrintedFor (refused r) out = out ≡ refusedLine (numberOf r)
-
--- what is printed for a text
-abbrev pub Printed : List ℕ → List ℕ → Type 0
-Printed t out = PrintedFor (readCall t blank) out

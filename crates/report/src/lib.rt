@@ -7,33 +7,77 @@ use block::fill;
 use block::layout;
 use block::refusal;
 use block::refusal::Checked;
+use block::refusal::Refusal;
+use lookup::answer::Answer;
+use solver::sizes;
 ghost use mathlib.Core.Path.{_≡_};
-ghost use Prim.Native.Nat.{_≤_};
-ghost use lib.ListN.{length, take};
+ghost use lib.ListN.{length, replicate};
+ghost use Rattle.block.specs.Refusal.{numberOf};
+ghost use Rattle.block.specs.Valid.{Valid};
 ghost use Rattle.solver.specs.Calls.{roomBytes, movesBytes};
-ghost use Rattle.report.specs.Call.{listingBytes, ListingCall};
-ghost use Rattle.report.specs.Listing.{Printed};
+ghost use Rattle.report.specs.Call.{listingBytes, refusedBytes, Filled, ListingIn, RoomsAfter, ListingCall};
+ghost use Rattle.report.specs.Listing.{refusedLine};
 
-// Writes what is printed for a text in the front of the buffer.
-fn text_lines(text: &[u8], out: &mut [u8], ranks: &mut [u8], moves: &mut [u8]) -> usize
-    requires { ⌜ (length (now out) ≡ listingBytes) × (length (now ranks) ≡ roomBytes) × (length (now moves) ≡ movesBytes) ⌝ }
-    ensures { λ n. ⌜ Printed (now (text .entry)) (take n (now (out .exit))) × (n ≤ listingBytes) ⌝ }
-{
-    let mut block = [0u8; layout::BLOCK_BYTES];
-    match reader::read(text, &mut block) {
-        Checked::Passed => rows::job_lines(&block, out, ranks, moves),
-        Checked::Refused(r) => lines::refused_line(out, 0, refusal::number(r)),
-    }
-}
+// The listing is at most as long as a text, so its buffer has the length of one.
+pub const LISTING_BYTES: usize = text::TEXT_BYTES;
 
-// Fills the buffer with what is printed for a text, and gives its length. Ranks and moves are working room.
-pub fn listing(text: &[u8], out: &mut [u8], ranks: &mut [u8], moves: &mut [u8]) -> usize
+// The buffer of a `refused,` line: the word, eight digits and the line end.
+pub const REFUSED_BYTES: usize = 17;
+
+// Fills the buffer with the listing of a job, gives its length and clears the rooms.
+fn list_job(block: &[u8], out: &mut [u8], ranks: &mut [u8], moves: &mut [u8]) -> usize
+    requires { ⌜ Valid (now block) ⌝ }
     requires { ⌜ (length (now out) ≡ listingBytes) × (length (now ranks) ≡ roomBytes) × (length (now moves) ≡ movesBytes) ⌝ }
-    ensures { λ n. ⌜ ListingCall (now (text .entry)) (now (out .exit)) (now (ranks .exit)) (now (moves .exit)) n ⌝ }
+    ensures { λ n. ⌜ ListingIn (now (block .entry)) (now (out .exit)) n ⌝ }
+    ensures { λ _. ⌜ (now (ranks .exit) ≡ replicate roomBytes 0) × (now (moves .exit) ≡ replicate movesBytes 0) ⌝ }
 {
-    let n = text_lines(text, out, ranks, moves);
+    let n = rows::job_lines(block, out, ranks, moves);
     fill::zeros(out, n);
     fill::zeros(ranks, 0);
     fill::zeros(moves, 0);
+    n
+}
+
+// The rooms as a refusal leaves them: under number 1 as they were lent, and else filled with zeros.
+fn leave(ranks: &mut [u8], moves: &mut [u8], r: Refusal)
+    requires { ⌜ (length (now ranks) ≡ roomBytes) × (length (now moves) ≡ movesBytes) ⌝ }
+    ensures { λ _. ⌜ RoomsAfter (now (ranks .entry)) (now (moves .entry)) (now (ranks .exit)) (now (moves .exit)) (numberOf r) ⌝ }
+{
+    if refusal::number(r) == 1 {
+        return;
+    }
+    fill::zeros(ranks, 0);
+    fill::zeros(moves, 0);
+}
+
+// Fills the buffer with the listing of the text's job, and gives its length. Ranks and moves are working room.
+pub fn listing(text: &[u8], out: &mut [u8], ranks: &mut [u8], moves: &mut [u8]) -> Answer
+    ensures { λ r. ⌜ ListingCall (now (text .entry)) (now (out .entry)) (now (ranks .entry)) (now (moves .entry)) (now (out .exit)) (now (ranks .exit)) (now (moves .exit)) r ⌝ }
+{
+    if out.len() != LISTING_BYTES {
+        return Answer::Refused(Refusal::Length);
+    }
+    if ranks.len() != sizes::ROOM_BYTES {
+        return Answer::Refused(Refusal::Length);
+    }
+    if moves.len() != sizes::MOVES_BYTES {
+        return Answer::Refused(Refusal::Length);
+    }
+    let mut block = [0u8; layout::BLOCK_BYTES];
+    match reader::read(text, &mut block) {
+        Checked::Passed => Answer::Value(list_job(&block, out, ranks, moves)),
+        Checked::Refused(r) => {
+            leave(ranks, moves, r);
+            Answer::Refused(r)
+        }
+    }
+}
+
+// Fills the buffer with the line that is printed for a refused text, and gives its length.
+pub fn refused_line(line: &mut [u8; REFUSED_BYTES], r: Refusal) -> usize
+    ensures { λ n. ⌜ Filled (refusedLine (numberOf r)) (now (line .exit)) refusedBytes n ⌝ }
+{
+    let n = lines::refused_line(line, 0, refusal::number(r));
+    fill::zeros(line, n);
     n
 }

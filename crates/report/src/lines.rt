@@ -40,8 +40,9 @@ pub fn set_line(out: &mut [u8], at: usize, i: usize, set: usize) -> usize
 {
     let row = word(out, at, b"set,");
     let count = number(out, row, i, b',');
-    let states = number(out, count, sets::count(set), b',');
-    number(out, states, set, b'\n')
+    let states = sets::count(set);
+    let word_field = number(out, count, states, b',');
+    number(out, word_field, set, b'\n')
 }
 
 pub fn plan_line(out: &mut [u8], at: usize, i: usize, s: usize, rank: usize, m: u8) -> usize

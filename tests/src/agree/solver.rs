@@ -1,7 +1,7 @@
 //! The calls that are lent two buffers. In an outcome the second one follows the
 //! first.
 
-use super::{compare, lend, Outcome};
+use super::{compare, lend_two, Outcome};
 use crate::ffi;
 use crate::solver::Model;
 
@@ -41,13 +41,19 @@ pub fn states(
     compare("rbatl_states", expected, found, what)
 }
 
-fn lend_two(lent: [&[u8]; 2], call: impl FnOnce(&mut [u8], &mut [u8]) -> i32) -> Outcome {
-    let mut second = Vec::new();
-    let mut outcome = lend(lent[0], |first| {
-        let outcome = lend(lent[1], |second| call(first, second));
-        second = outcome.buffer;
-        outcome.answer
+/// What the lister's second call gives with the lent list, which it must leave as
+/// it was, and room.
+pub fn states_refusal(
+    block: &[u8],
+    model: &Model,
+    row: u8,
+    lent: [&[u8]; 2],
+    what: impl Fn() -> String,
+) -> Outcome {
+    let what = || format!("row {row} of {}", what());
+    let expected = lend_two(lent, |list, room| model.states_refusal(row, list, room));
+    let found = lend_two(lent, |list, room| {
+        ffi::states_refusal(block, row, list, room)
     });
-    outcome.buffer.extend(second);
-    outcome
+    compare("rbatl_states_refusal", expected, found, what)
 }

@@ -1,5 +1,6 @@
-//! `rbatl_label`, `rbatl_table` and `rbatl_states` beside the checker made from
-//! document 003: the same answers and the same lent buffers afterwards, on many jobs.
+//! `rbatl_label`, `rbatl_table`, `rbatl_states` and `rbatl_states_refusal` beside
+//! the checker made from document 003: the same answers and the same lent buffers
+//! afterwards, on many jobs.
 
 mod borders;
 mod catch;
@@ -60,9 +61,19 @@ impl Lent {
         agree::table(block, model, row, lent, || what.to_string())
     }
 
-    /// The states of the row, as the library and the model agree.
+    /// The states of the row, as the library and the model agree. The second call
+    /// gives the same refusal, keeps the list and leaves the room in the same way.
     fn states(&self, block: &[u8], model: &Model, row: u8, what: &str) -> Outcome {
         let lent = [&self.list[..], &self.room[..]];
-        agree::states(block, model, row, lent, || what.to_string())
+        let listed = agree::states(block, model, row, lent, || what.to_string());
+        let second = agree::states_refusal(block, model, row, lent, || what.to_string());
+        assert_eq!(second.answer, listed.answer.min(0), "{what}");
+        let (list, room) = second.buffer.split_at(self.list.len());
+        assert!(list == self.list, "{what}: the list");
+        assert!(
+            room == &listed.buffer[self.list.len()..],
+            "{what}: the room"
+        );
+        listed
     }
 }

@@ -1,9 +1,10 @@
-//! `rbatl_read` and `rbatl_write` beside the reader and writer made from
-//! document 01: the same answers and the same lent buffers afterwards, on many
-//! texts and blocks.
+//! `rbatl_read`, `rbatl_write` and `rbatl_list` beside the reader, the writer and
+//! the listing made from document 01: the same answers and the same lent buffers
+//! afterwards, on many texts and blocks.
 
 mod every;
 mod lengths;
+mod listings;
 mod random;
 mod round;
 

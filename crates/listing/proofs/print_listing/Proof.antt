@@ -1,7 +1,10 @@
 -- `print_listing` writes the front of the buffer that the listing fills. Assumes nothing.
 use mathlib.Core.Path.{sym}
+use Prim.Native.Nat.{_≤_}
 use native.Mathlib.Omega.{arith}
 use lib.Seq.{length-take-le}
+use Rattle.report.specs.Call.{listingBytes}
+use Rattle.report.proofs.Printing.{listing-fits}
 use borrow.Author.Needs.{needs}
 use Rattle.listing.proofs.print_listing.Statement.{statement}
 use Rattle.listing.proofs.print_listing.Tie as tie
@@ -18,20 +21,27 @@ slice-aggregate-listing-3 c = search needs
 listing-requires : tie.Need-listing-requires
 listing-requires c κs = search needs
 
+enum-known-n : tie.Need-enum-known-n
+enum-known-n c = search needs
+
+-- the length that was found
+fits : (c : tie.After-known-told) → c .before .n .given .0 .0 ≤ listingBytes
+fits c = listing-fits _ _ _ _ _ _ _ (c .before .n .given .0 .0) (rw (c .before .n .given .1) at (c .before .before .before .before .before .before .listing .ensures))
+
 array-share-prefix-out : tie.Need-array-share-prefix-out
-array-share-prefix-out c = search needs
+array-share-prefix-out c = omega (arith, fits c, c .before .before .before .before .before .before .listing .kept .1 .0)
 
-slice-aggregate-write-all : tie.Need-slice-aggregate-write-all
-slice-aggregate-write-all c = sym (length-take-le (c .before .before .before .before .listing .result) (c .before .before .before .before .listing .last .1 .0) (omega (arith, c .before .before .before .before .listing .ensures .fits, c .before .before .before .before .listing .kept .1 .0)))
+slice-aggregate-print : tie.Need-slice-aggregate-print
+slice-aggregate-print c = sym (length-take-le (c .before .before .n .given .0 .0) (c .before .before .before .before .before .before .before .listing .last .1 .0) (omega (arith, fits (c .before), c .before .before .before .before .before .before .before .listing .kept .1 .0)))
 
-write-all-requires : tie.Need-write-all-requires
-write-all-requires c κs = search needs
+print-requires : tie.Need-print-requires
+print-requires c κs = search needs
 
-slice-aggregate-fail : tie.Need-slice-aggregate-fail
-slice-aggregate-fail c = search needs
+enum-known-r : tie.Need-enum-known-r
+enum-known-r c = search needs
 
-fail-requires : tie.Need-fail-requires
-fail-requires c κs = search needs
+print-refusal-requires : tie.Need-print-refusal-requires
+print-refusal-requires c κs = search needs
 
 returns : tie.Need-returns
 returns c = search needs
@@ -47,10 +57,11 @@ print-listing-spec =
     slice-aggregate-listing-2
     slice-aggregate-listing-3
     listing-requires
+    enum-known-n
     array-share-prefix-out
-    slice-aggregate-write-all
-    write-all-requires
-    slice-aggregate-fail
-    fail-requires
+    slice-aggregate-print
+    print-requires
+    enum-known-r
+    print-refusal-requires
     returns
     returns-2)

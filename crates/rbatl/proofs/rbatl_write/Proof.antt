@@ -1,21 +1,11 @@
 -- `rbatl_write` hands over the length of the text, or the refusal. Assumes nothing.
 use mathlib.Core.Path.{_∙_}
-use Prim.Native.Nat.{ℕ, _≤_}
-use native.Mathlib.Nat.{lt-of-le-of-lt}
-use lib.Dec.{lit<}
-use lib.IntN.{pos}
 use mir.Facts.{toZ-ofZ}
-use mir.Syntax.{w32}
-use mir.Val.{SFits}
-use Rattle.text.specs.Text.{textBytes}
 use Rattle.writer.specs.declared.written.Written.the-variants as written
+use Rattle.rbatl.proofs.Values.{small}
 use borrow.Author.Needs.{needs}
 use Rattle.rbatl.proofs.rbatl_write.Statement.{statement}
 use Rattle.rbatl.proofs.rbatl_write.Tie as tie
-
--- a length of a text fits the number that a C caller is handed back
-small : {n : ℕ} → n ≤ textBytes → SFits w32 (pos n)
-small h = record { sfits = lt-of-le-of-lt h (lit< tt) }
 
 write-requires : tie.Need-write-requires
 write-requires c κs = search needs

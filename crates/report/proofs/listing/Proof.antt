@@ -1,23 +1,58 @@
--- `listing` fills the rest of its buffers with zeros. Assumes nothing.
-use mathlib.Core.Path.{_∙_}
-use Rattle.solver.specs.Calls.{roomBytes, movesBytes}
-use Rattle.solver.proofs.Calls.{cleared}
-use Rattle.report.proofs.Printing.{printed-whole}
+-- `listing` refuses first, and then lists the job that was read. Assumes nothing.
+use mathlib.Core.Path.{_≡_, refl, ap, _∙_}
+use native.Mathlib.Omega.{arith}
+use Rattle.block.specs.declared.refusal.Checked.{Checked}
+use Rattle.text.specs.Format.{accepted, refused}
+use Rattle.text.specs.Text.{blank, readCall, outcomeOf}
+use Rattle.lookup.specs.declared.answer.Answer.the-variants.{Value, Refused}
+use Rattle.report.proofs.Printing.{outcome-is, read-valid, misfit, called, rooms-cleared}
 use borrow.Author.Needs.{needs}
 use Rattle.report.proofs.listing.Statement.{statement}
 use Rattle.report.proofs.listing.Tie as tie
 
-text-lines-requires : tie.Need-text-lines-requires
-text-lines-requires c κs = search needs
+returns : tie.Need-returns
+returns c =
+    let args = c .before .before .before .before .before .args in
+    misfit (args .text .now) (args .out .now) (args .ranks .now) (args .moves .now) (λ o r m. c .if1 .taken o)
 
-zeros-requires : tie.Need-zeros-requires
-zeros-requires c κs = search needs
+returns-2 : tie.Need-returns-2
+returns-2 c =
+    let args = c .before .before .before .before .before .before .args in
+    misfit (args .text .now) (args .out .now) (args .ranks .now) (args .moves .now) (λ o r m. c .if2 .taken r)
 
-zeros-requires-2 : tie.Need-zeros-requires-2
-zeros-requires-2 c κs = search needs
+returns-3 : tie.Need-returns-3
+returns-3 c =
+    let args = c .before .before .before .before .before .before .before .args in
+    misfit (args .text .now) (args .out .now) (args .ranks .now) (args .moves .now) (λ o r m. c .if3 .taken m)
 
-zeros-requires-3 : tie.Need-zeros-requires-3
-zeros-requires-3 c κs = search needs
+slice-aggregate-read : tie.Need-slice-aggregate-read
+slice-aggregate-read c = search needs
+
+read-requires : tie.Need-read-requires
+read-requires c κs = search needs
+
+enum-told : tie.Need-enum-told
+enum-told c = search needs
+
+-- what reading came to, and that it was accepted
+came : (c : tie.After-block2) → readCall (c .before .before .before .before .before .before .before .before .before .before .args .text .now) blank ≡ outcomeOf (c .before .read .result) (c .before .read .last .1 .0)
+unfolding blank
+came c = outcome-is (readCall (c .before .before .before .before .before .before .before .before .before .before .args .text .now) blank) blank (c .before .read .last .1 .0) (c .before .read .result) (c .before .read .ensures .0) (c .before .read .ensures .1 .0)
+
+accepted-as : (c : tie.After-enum-told) → readCall (c .before .before .before .before .before .before .before .before .before .before .before .before .args .text .now) blank ≡ accepted (c .before .before .before .read .last .1 .0)
+accepted-as c = came (c .before .before) ∙ ap (λ (a : Checked). outcomeOf a (c .before .before .before .read .last .1 .0)) (c .enum-told .given .1)
+
+slice-aggregate-list-job : tie.Need-slice-aggregate-list-job
+slice-aggregate-list-job c = search needs
+
+list-job-requires : tie.Need-list-job-requires
+list-job-requires c κs = (read-valid (c .before .before .before .before .before .before .before .before .before .before .before .before .before .before .before .before .args .text .now) blank _ (accepted-as (c .before .before .before .before)), (c .before .before .before .before .before .before .before .before .before .before .before .if1 .left, c .before .before .before .before .before .before .before .before .before .before .if2 .left, c .before .before .before .before .before .before .before .before .before .if3 .left))
+
+enum-known-r : tie.Need-enum-known-r
+enum-known-r c = search needs
+
+leave-requires : tie.Need-leave-requires
+leave-requires c κs = (c .before .before .before .before .before .before .before .before .before .if2 .left, c .before .before .before .before .before .before .before .before .if3 .left)
 
 same-length : tie.Need-same-length
 same-length c = search needs
@@ -28,23 +63,44 @@ same-length-2 c = search needs
 same-length-3 : tie.Need-same-length-3
 same-length-3 c = search needs
 
-returns : tie.Need-returns
-returns c =
-    let args = c .before .before .before .before .before .before .before .before .before .before .before .before .before .before .before .before .before .before .before .before .before .before .before .before .before .before .args in
-    let pre = c .before .before .before .before .before .before .before .before .before .before .before .before .before .before .before .before .before .before .before .before .before .before .before .before .before .before .pre in
-    let used = c .before .before .before .before .before .before .before .before .before .before .before .before .before .before .before .before .before .before .text-lines in
-    printed-whole (args .text .now) (used .last .1 .0) (c .before .before .before .before .before .before .before .before .before .before .zeros .last .0) (c .before .before .before .before .before .before .zeros2 .last .0) (c .before .before .zeros3 .last .0) (used .result) (used .ensures .0) (used .ensures .1) (used .kept .1 .0 ∙ pre .0) (c .before .before .before .before .before .before .before .before .before .before .zeros .ensures)
-    (cleared (used .last .1 .1 .0) (c .before .before .before .before .before .before .zeros2 .last .0) roomBytes (c .before .before .before .before .before .before .zeros2 .ensures) (used .kept .1 .1 .0 ∙ pre .1)) (cleared (used .last .1 .1 .1 .0) (c .before .before .zeros3 .last .0) movesBytes (c .before .before .zeros3 .ensures) (used .kept .1 .1 .1 .0 ∙ pre .2))
+returns-4 : tie.Need-returns-4
+returns-4 c =
+    let args = c .before .before .before .before .before .before .before .before .before .before .before .before .before .before .before .before .before .before .before .before .before .before .before .args in
+    let job = c .before .before .before .before .before .before .list-job in
+    called (args .text .now) (args .out .now) (args .ranks .now) (args .moves .now) (c .before .before .before .before .before .before .before .before .before .before .before .before .before .before .before .before .before .before .if1 .left) (c .before .before .before .before .before .before .before .before .before .before .before .before .before .before .before .before .before .if2 .left) (c .before .before .before .before .before .before .before .before .before .before .before .before .before .before .before .before .if3 .left) (accepted (c .before .before .before .before .before .before .before .before .before .before .before .before .before .before .read .last .1 .0)) (job .last .1 .0) (job .last .1 .1 .0) (job .last .1 .1 .1 .0) (Value (job .result)) (accepted-as (c .before .before .before .before .before .before .before .before .before .before .before))
+    (job .result, (job .ensures .0, refl)) (rooms-cleared (args .ranks .now) (args .moves .now) (job .last .1 .1 .0) (job .last .1 .1 .1 .0) 0 (λ one. omega arith) (job .ensures .1))
+
+same-length-4 : tie.Need-same-length-4
+same-length-4 c = search needs
+
+same-length-5 : tie.Need-same-length-5
+same-length-5 c = search needs
+
+returns-5 : tie.Need-returns-5
+returns-5 c =
+    let args = c .before .before .before .before .before .before .before .before .before .before .before .before .before .before .before .before .before .before .before .before .args in
+    let told = c .before .before .before .before .before .before .before .before .r .given in
+    called (args .text .now) (args .out .now) (args .ranks .now) (args .moves .now) (c .before .before .before .before .before .before .before .before .before .before .before .before .before .before .before .if1 .left) (c .before .before .before .before .before .before .before .before .before .before .before .before .before .before .if2 .left) (c .before .before .before .before .before .before .before .before .before .before .before .before .before .if3 .left) (refused (told .0 .0)) (args .out .now) (c .before .before .before .before .leave .last .0) (c .before .before .before .before .leave .last .1 .0) (Refused (told .0 .0))
+    (came (c .before .before .before .before .before .before .before .before .before .before) ∙ ap (λ (a : Checked). outcomeOf a (c .before .before .before .before .before .before .before .before .before .before .before .read .last .1 .0)) (told .1)) (refl, refl) (c .before .before .before .before .leave .ensures)
 
 pub listing-spec : {M : Type 1} → statement M
 listing-spec =
     tie.close
     (tie.spec
-    text-lines-requires
-    zeros-requires
-    zeros-requires-2
-    zeros-requires-3
+    returns
+    returns-2
+    returns-3
+    slice-aggregate-read
+    read-requires
+    enum-told
+    slice-aggregate-list-job
+    list-job-requires
+    enum-known-r
+    leave-requires
     same-length
     same-length-2
     same-length-3
-    returns)
+    returns-4
+    same-length-4
+    same-length-5
+    returns-5)

@@ -21,7 +21,7 @@ count-requires : tie.Need-count-requires
 count-requires c κs = search needs
 
 number-requires-2 : tie.Need-number-requires-2
-number-requires-2 c κs = (omega (arith, c .before .before .before .before .before .before .before .before .word .ensures .1, c .before .before .before .before .number .ensures .1), omega (arith, c .count .ensures, ones-le 24 (c .before .before .before .before .before .before .before .before .before .before .before .before .args .set) (c .before .before .before .before .before .before .before .before .before .before .before .before .pre .1 .1)))
+number-requires-2 c κs = (omega (arith, c .before .before .before .before .before .before .before .before .word .ensures .1, c .before .before .before .before .number .ensures .1), omega (arith, c .before .count .ensures, ones-le 24 (c .before .before .before .before .before .before .before .before .before .before .before .before .args .set) (c .before .before .before .before .before .before .before .before .before .before .before .before .pre .1 .1)))
 
 number-requires-3 : tie.Need-number-requires-3
 number-requires-3 c κs = search needs
@@ -35,7 +35,7 @@ returns c =
     let i = field (args .i) comma in
     let count = field (ones (args .set)) comma in
     let set = field (args .set) lineEnd in (
-      λ rest. rw (append-assoc i (count ++ set) rest, append-assoc count set rest, ← c .before .before .before .before .before .before .before .count .ensures) (c .before .before .number3 .ensures .0 rest ∙ c .before .before .before .before .before .before .number2 .ensures .0 _ ∙ c .before .before .before .before .before .before .before .before .before .before .before .number .ensures .0 _ ∙ c .before .before .before .before .before .before .before .before .before .before .before .before .before .before .before .word .ensures .0 _),
+      λ rest. rw (append-assoc i (count ++ set) rest, append-assoc count set rest, ← c .before .before .before .before .before .before .before .before .count .ensures) (c .before .before .number3 .ensures .0 rest ∙ c .before .before .before .before .before .before .number2 .ensures .0 _ ∙ c .before .before .before .before .before .before .before .before .before .before .before .number .ensures .0 _ ∙ c .before .before .before .before .before .before .before .before .before .before .before .before .before .before .before .word .ensures .0 _),
       omega (arith, c .before .before .before .before .before .before .before .before .before .before .before .before .before .before .before .word .ensures .1, c .before .before .before .before .before .before .before .before .before .before .before .number .ensures .1, c .before .before .before .before .before .before .number2 .ensures .1, c .before .before .number3 .ensures .1),
     )
 
