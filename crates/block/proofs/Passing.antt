@@ -2,21 +2,22 @@
 -- Assumes nothing.
 use mathlib.Core.List.{List, _∷_}
 use mathlib.Core.Logic.{inl, inr}
-use mathlib.Core.Path.{_≡_, refl, sym, _∙_}
+use mathlib.Core.Path.{_≡_, refl}
 use Prim.Native.Nat.{ℕ, _<_, _≤_, _^_, _/_}
 use native.Mathlib.Nat.{div-lt-iff-lt-mul, one-mul}
 use native.Mathlib.Omega.{arith}
 use lib.ListN.{length}
 use lib.Pow.{pow-pos}
 use Rattle.block.specs.Decide.{Decides, holds, fails, Some, Outside, BitFrom}
-use Rattle.block.specs.Refusal.{numberOf, First, none, here, later}
+use Rattle.block.specs.Refusal.{First, here, later}
 use Rattle.block.specs.Layout.{Block, blockBytes, agents, resources, states, cost}
-use Rattle.block.specs.Check.{BadSizes, agents-range, resources-range, states-range, propositions-range, rows-range, BadState, BadRow, kind-unknown, operands, coalition, prop-range, left-range, right-range, team-empty, team-absent, bound-range, Verdict}
+use Rattle.block.specs.Check.{BadSizes, agents-range, resources-range, states-range, propositions-range, rows-range, BadState, BadRow, kind-unknown, operands, coalition, prop-range, left-range, right-range, team-empty, team-absent, bound-range, Broken, blockOrder, Verdict}
 use Rattle.block.specs.Valid.{Range, Sized, Counted, RowFits, Valid}
 use Rattle.block.specs.declared.refusal.Refusal.{Refusal}
-use Rattle.block.specs.declared.refusal.Refusal.the-variants.{Length, Sizes, State, Next, Row, Unused, Form, RowChoice, Position, WrongSide, Move}
+use Rattle.block.specs.declared.refusal.Refusal.the-variants.{Length, Sizes, State, Next, Row, Unused}
 use Rattle.block.proofs.Decide as D
 use Rattle.block.proofs.Masks.{bit-above}
+use Rattle.block.proofs.Refusals.{number-some}
 
 -- an equation of numbers that cannot fail holds
 stable : (a b : ℕ) → ((a ≡ b → ⊥) → ⊥) → a ≡ b
@@ -76,34 +77,26 @@ row-valid {b} {i} h = record {
   bound-fits = λ s j hj g. stable _ _ (λ x. h (coalition s (bound-range (j, hj, (g, x)))));
 }
 
-positive : (r : Refusal) → numberOf r ≡ 0 → ⊥
-positive Length e = omega arith
-positive Sizes e = omega arith
-positive State e = omega arith
-positive Next e = omega arith
-positive Row e = omega arith
-positive Unused e = omega arith
-positive Form e = omega arith
-positive RowChoice e = omega arith
-positive Position e = omega arith
-positive WrongSide e = omega arith
-positive Move e = omega arith
+-- a refusal is in a list, wherever it stands there
+data In (r : Refusal) : List Refusal → Type 0 where
+  first : {rs : List Refusal} → In r (r ∷ rs)
+  further : {q : Refusal} {rs : List Refusal} → In r rs → In r (q ∷ rs)
 
--- where the number is 0, the first condition of the list does not hold, nor the rest
-pub not-first : {Holds : Refusal → Type 0} {r : Refusal} {rs : List Refusal} {n : ℕ} → n ≡ 0 → First Holds (r ∷ rs) n → (Holds r → ⊥) × First Holds rs n
-not-first {r = r} z (here h e) = absurd (positive r (sym e ∙ z))
-not-first z (later h f) = (h, f)
+-- where the number is 0, no condition of the list holds
+none-holds : {Holds : Refusal → Type 0} {r : Refusal} {rs : List Refusal} {n : ℕ} → n ≡ 0 → First Holds rs n → In r rs → Holds r → ⊥
+none-holds z (here {r} h e) m = absurd (omega (arith, number-some r))
+none-holds z (later h f) first = h
+none-holds z (later h f) (further m) = none-holds z f m
 
 pub passing : {b : Block} → Verdict b 0 → Valid b
 passing {b} v =
-    let (no-length, v₁) = not-first refl v in
-    let (no-sizes, v₂) = not-first refl v₁ in
-    let (no-state, v₃) = not-first refl v₂ in
-    let (no-next, v₄) = not-first refl v₃ in
-    let (no-row, v₅) = not-first refl v₄ in
-    let (no-unused, v₆) = not-first refl v₅ in
+    let no : (r : Refusal) → In r blockOrder → Broken b r → ⊥ = λ r m. none-holds refl v m in
+    let no-state = no State (search (first, further)) in
+    let no-next = no Next (search (first, further)) in
+    let no-row = no Row (search (first, further)) in
+    let no-unused = no Unused (search (first, further) depth 6) in
     record {
-      sized = sized (stable _ _ no-length) no-sizes;
+      sized = sized (stable _ _ (no Length (search (first, further)))) (no Sizes (search (first, further)));
       counted = counted b no-state;
       mask-fits = λ s hs. below-bit _ _ (λ x. no-state (s, hs, inl x));
       cost-fits = λ s a k j hs ha hk hj. at-most (λ x. no-state (s, hs, inr (a, ha, inr (k, hk, (j, hj, inl x)))));

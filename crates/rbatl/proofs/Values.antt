@@ -8,7 +8,8 @@ use lib.IntN.{pos}
 use mir.Syntax.{w32}
 use mir.Val.{SFits}
 use Rattle.block.specs.Layout.{Block}
-use Rattle.lookup.specs.Calls.{ValueIs}
+use Rattle.block.specs.declared.refusal.Refusal.{Refusal}
+use Rattle.lookup.specs.Calls.{ValueIs, Call}
 use Rattle.lookup.specs.States.{StatesCall}
 use Rattle.lookup.specs.declared.answer.Answer.{Answer}
 use Rattle.lookup.specs.declared.answer.Answer.the-variants as answer
@@ -19,9 +20,12 @@ use Rattle.rbatl.specs.Answer.{Small}
 pub small : {n : ℕ} → n ≤ listingBytes → SFits w32 (pos n)
 small h = record { sfits = lt-of-le-of-lt h (lit< tt) }
 
-pub small-value : (right : ℕ → Type 0) → ((n : ℕ) → right n → n < 64) → (a : Answer) → ValueIs right a → Small a
-small-value right least (answer.Value n) h = omega (arith, least n h)
-small-value right least (answer.Refused r) h = tt
+pub small-value : {Refuses : Refusal → Type 0} {order : List Refusal} {right : ℕ → Type 0} {room room′ : List ℕ} {a : Answer} → Call Refuses order right room room′ a → ((n : ℕ) → right n → n < 64) → Small a
+small-value {right = right} {a = a} call least = go a (call .found .value)
+  where
+    go : (a : Answer) → ValueIs right a → Small a
+    go (answer.Value n) h = omega (arith, least n h)
+    go (answer.Refused r) h = tt
 
 pub small-count : (b : Block) (i : ℕ) (list room list′ room′ : List ℕ) (a : Answer) → StatesCall b i list room list′ room′ a → Small a
 small-count b i list room list′ room′ (answer.Value n) call = omega (arith, call .list-after .lists .fits)

@@ -1,10 +1,7 @@
 -- `rbatl_reply` hands over the answer of the reply call. Assumes nothing.
-use mathlib.Core.List.{[], _∷_}
 use mathlib.Core.Path.{_∙_}
 use mir.Facts.{toZ-ofZ}
 use borrow.Author.Needs.{needs}
-use Rattle.game.specs.Position.{position}
-use Rattle.game.specs.Demand.{RowReply}
 use Rattle.rbatl.proofs.Values.{small-value}
 use Rattle.rbatl.proofs.rbatl_reply.Statement.{statement}
 use Rattle.rbatl.proofs.rbatl_reply.Tie as tie
@@ -13,9 +10,7 @@ reply-requires : tie.Need-reply-requires
 reply-requires c κs = search needs
 
 value-requires : tie.Need-value-requires
-value-requires c κs =
-    let args = c .before .before .before .before .before .before .args in
-    small-value (RowReply (args .block .now) (args .row) (position (args .state) (args .stock0 ∷ args .stock1 ∷ [])) (args .mv)) (λ n h. h .small) (c .before .before .reply .result) (c .before .before .reply .ensures .0 .found .value)
+value-requires c κs = small-value (c .before .before .reply .ensures .0) (λ n h. h .small)
 
 same-length : tie.Need-same-length
 same-length c = search needs

@@ -1,6 +1,7 @@
 -- `remaining` takes from the stock what the move takes, unless the resource is unlimited. Assumes nothing.
-use mathlib.Core.Path.{_≡_, sym, _∙_, ap, subst}
-use Prim.Native.Nat.{ℕ, _-_, _≤_}
+use mathlib.Core.Path.{_≡_, sym, _∙_, ap}
+use Prim.Native.Nat.{ℕ, _-_}
+use native.Mathlib.Omega.{arith}
 use borrow.Author.Needs.{needs}
 use Rattle.block.specs.Layout as L
 use Rattle.block.specs.Layout.{digit}
@@ -27,8 +28,7 @@ sub-result c =
     let start = c .before .before .before .before in
     let args = start .args in
     let b = args .block .now in
-    subst (λ (k : ℕ). k ≤ args .stock) (sym (c .taken .ensures .0))
-    (taken-fits (boundsOf b (args .i) (args .j)) (args .stock) (moveCost (structureOf b) (coalitionOf b (args .i)) (args .s) (digit (args .m)) (args .j)) .1 (start .pre .1 .1 .1))
+    omega (arith, c .taken .ensures .0, taken-fits (boundsOf b (args .i) (args .j)) (args .stock) (moveCost (structureOf b) (coalitionOf b (args .i)) (args .s) (digit (args .m)) (args .j)) .1 (start .pre .1 .1 .1))
 
 returns-2 : tie.Need-returns-2
 returns-2 c =

@@ -20,7 +20,7 @@ slice-aggregate-result c =
     let args = c .before .before .before .before .before .before .before .before .before .before .before .before .args in
     let filled = c .before .before .before .before .before .before .fill-states in
     let fits = front-fits (args .block .now) (args .i) (args .list .now) (args .room .now) (filled .last .1 .1 .0) (filled .last .1 .1 .1 .0) (filled .result) (filled .ensures) in
-    sym (length-take-le (c .before .front .result) (filled .last .1 .1 .0) (omega (arith, fits, c .before .front .ensures)))
+    sym (length-take-le _ (filled .last .1 .1 .0) (omega (arith, fits, c .before .front .ensures)))
 
 same-length : tie.Need-same-length
 same-length c = search needs
