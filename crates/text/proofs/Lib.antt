@@ -1,4 +1,4 @@
--- Laws of the description: what a text of it says, and that reading accepts exactly the texts of passing blocks.
+-- Laws of the description: what a text of it says, that reading accepts exactly the texts of passing blocks, and with which number it refuses the others.
 pub mod Search
 pub mod Decimals
 pub mod Adding

@@ -11,17 +11,21 @@ use Rattle.block.specs.declared.refusal.Refusal.{Refusal}
 use Rattle.block.specs.declared.refusal.Refusal.the-variants as refusal
 use Rattle.text.specs.Numeral.{comma, field, Starts}
 
--- the byte at a place that the job uses is refused, and with which refusal
+-- the byte at this place, one that the job uses, meets the condition of this refusal
 pub data BrokenAt (b : Block) : Place → Refusal → Type 0 where
+  -- 2: a size out of range
   agents-at : Outside 1 maxAgents (agents b) → BrokenAt b (Header 0) refusal.Sizes
   resources-at : Outside 1 maxResources (resources b) → BrokenAt b (Header 1) refusal.Sizes
   states-at : Outside 1 maxStates (states b) → BrokenAt b (Header 2) refusal.Sizes
   propositions-at : Outside 1 maxPropositions (propositions b) → BrokenAt b (Header 3) refusal.Sizes
   rows-at : Outside 1 maxRows (rows b) → BrokenAt b (Header 4) refusal.Sizes
+  -- 3: a mask with a bit at or above P, a count that is not 1 to 4, a cost above 15 or of idle
   mask-at : {s : ℕ} → s < states b → BitFrom (propositions b) (mask b s) → BrokenAt b (Mask s) refusal.State
   count-at : {s a : ℕ} → s < states b → a < agents b → Outside 1 maxActions (count b s a) → BrokenAt b (Count s a) refusal.State
   cost-at : {s a k j : ℕ} → s < states b → a < agents b → k < count b s a → j < resources b → BadCost b s a k j → BrokenAt b (Cost s a k j) refusal.State
+  -- 4: a next state at or above M, of a joint action that can be done
   next-at : {s joint : ℕ} → s < states b → BadNext b s joint → BrokenAt b (Next s joint) refusal.Next
+  -- 5: a proposition at or above P, a row that is not lower, a team that is empty or has an absent agent, a bound 16 to 254
   prop-at : {i : ℕ} → i < rows b → kind b i ≡ propKind → propositions b ≤ left b i → BrokenAt b (Field i 1) refusal.Row
   left-at : {i : ℕ} → i < rows b → propKind < kind b i → i ≤ left b i → BrokenAt b (Field i 1) refusal.Row
   right-at : {i : ℕ} → i < rows b → Binary (kind b i) → i ≤ right b i → BrokenAt b (Field i 2) refusal.Row
