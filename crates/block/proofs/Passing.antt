@@ -96,7 +96,7 @@ passing {b} v =
     let no-row = no Row (search (first, further)) in
     let no-unused = no Unused (search (first, further) depth 6) in
     record {
-      sized = sized (stable _ _ (no Length (search (first, further)))) (no Sizes (search (first, further)));
+      sized = sized (stable _ _ (no Length first)) (no Sizes (search (first, further)));
       counted = counted b no-state;
       mask-fits = λ s hs. below-bit _ _ (λ x. no-state (s, hs, inl x));
       cost-fits = λ s a k j hs ha hk hj. at-most (λ x. no-state (s, hs, inr (a, ha, inr (k, hk, (j, hj, inl x)))));
