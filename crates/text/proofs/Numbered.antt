@@ -168,7 +168,8 @@ numbered t = on (stop job blank t) refl
     on (stopped p b u) e =
         let h = halted job blank t p b u job-proper blank-length e in
         let known : (i : ℕ) → i < maxRows → kind b i ≤ untilKind = λ i l. kind-of i l (h .from (Field i 0) (l, lit< tt)) in
-        (h .spelling .refusal, h .refuses, along-every (Told b u known) (h .along) (job-every _ b .1 (told b u known)) (h .in-layout) (h .barred))
+        let field = along-every (Told b u known) (h .along) (job-every _ b .1 (told b u known)) (h .in-layout) (h .barred) in
+        (h .spelling .refusal, h .refuses, ⊎-elim (λ bad. inl (bad, broken-at bad)) inr field)
       where
         kind-of : (i : ℕ) → i < maxRows → From job blank b (Field i 0) → kind b i ≤ untilKind
         kind-of i l (as-it-was x) = omega (arith, x, blank-zero (placeOf (Field i 0)) (omega arith))

@@ -7,7 +7,7 @@ use Prim.Native.Nat.{ℕ}
 use lib.Dec.{ltb, eqb}
 use lib.ListN.{length, replicate}
 use Rattle.block.specs.Layout.{Block, blockBytes}
-use Rattle.block.specs.Check.{Verdict}
+use Rattle.block.specs.Check.{Broken, Verdict}
 use Rattle.block.specs.declared.refusal.Refusal.{Refusal}
 use Rattle.block.specs.declared.refusal.Refusal.the-variants.{Length, Form}
 use Rattle.block.specs.declared.refusal.Checked.{Checked}
@@ -57,7 +57,7 @@ Exact t = (b : Block) → (readText t ≡ accepted b) ↔ (Verdict b 0 × Spells
 -- one that is refused elsewhere gets the number of the form
 abbrev pub NumberedAt : Stop → Outcome → Type 0
 NumberedAt nowhere o = (r : Refusal) → o ≡ refused r → r ≡ Form
-NumberedAt (stopped p b t) o = (r : Refusal) × (o ≡ refused r) × (BrokenAt b p r ⊎ UnlimitedNumber b t p r)
+NumberedAt (stopped p b t) o = (r : Refusal) × (o ≡ refused r) × ((BrokenAt b p r × Broken b r) ⊎ UnlimitedNumber b t p r)
 
 abbrev pub Numbered : List ℕ → Type 0
 Numbered t = NumberedAt (stop job blank t) (readText t)
