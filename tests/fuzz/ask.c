@@ -45,7 +45,10 @@ static const struct shape shapes[ENTRIES] = {
                 {{FILLED, RBATL_STATES_BYTES}, {ROOM, RBATL_ROOM_BYTES}},
                 RBATL_MAX_STATES,
                 OF_ROW},
-    [REFUSAL] = {"states_refusal", {{KEPT, RBATL_STATES_BYTES}, {ROOM, RBATL_ROOM_BYTES}}, 0, OF_ROW},
+    [REFUSAL] = {"states_refusal",
+                 {{KEPT, RBATL_STATES_BYTES}, {ROOM, RBATL_ROOM_BYTES}},
+                 0,
+                 OF_ROW},
 };
 
 bool takes_text(enum entry entry)
