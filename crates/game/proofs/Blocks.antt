@@ -1,8 +1,6 @@
 -- The rows of a block.
 pub mod Reading
-pub mod Replies
 pub mod Passing
-pub mod Numbering
 pub mod Formulas
 pub mod Tables
 pub mod Labels

@@ -5,7 +5,4 @@ pub mod Pigeonhole
 pub mod Joint
 pub mod Stocks
 pub mod Counting
-pub mod Bytes
-pub mod Extremes
-pub mod Lists
 pub mod Values

@@ -3,4 +3,3 @@ pub mod Sides
 pub mod Sweeping
 pub mod Solver
 pub mod Determined
-pub mod Moving

@@ -4,9 +4,7 @@ pub mod Position
 pub mod Play
 pub mod Table
 pub mod Facts
-pub mod Extremes
 pub mod Sweep
-pub mod Buffers
 pub mod Model
 pub mod Demand
 pub mod Catch

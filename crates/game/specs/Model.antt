@@ -94,11 +94,3 @@ WonSet b i w =
 -- what the row asks of a play, with lower rows told by their sets
 abbrev pub objectiveBy : ℕ → ℕ → ℕ → Objective
 objectiveBy k left right = cond (eqb k L.nextKind) (P.next (Bit left)) (cond (eqb k L.alwaysKind) (P.always (Bit left)) (P.until (Bit left) (Bit right)))
-
--- a stock of resource j pays for the move m of row i's coalition in state s
-abbrev pub Pays : Block → ℕ → ℕ → ℕ → ℕ → ℕ → Type 0
-Pays b i s m j stock = Fits (moveCost (structureOf b) (coalitionOf b i) s (L.digit m) j) (stockBound (boundsOf b i j) stock)
-
--- r is a reply to row i's coalition in state s
-abbrev pub ReplyTo : Block → ℕ → ℕ → ℕ → Type 0
-ReplyTo b i s r = MoveOf (structureOf b) (opponents (coalitionOf b i)) s r

@@ -1,12 +1,10 @@
 -- What a solver keeps while it lowers ranks in place, and by what it lowers them.
-use mathlib.Core.Bool.{Bool, cond}
-use mathlib.Core.Path.{_≡_}
+use mathlib.Core.Bool.{cond}
 use Prim.Native.Nat.{ℕ, zero, suc, _+_, _≤_, _<_}
 use lib.Dec.{ltb}
-use Rattle.game.specs.Position.{Arena, Position, number, positions, Reply, outcome}
+use Rattle.game.specs.Position.{Arena, Position, number, positions}
 use Rattle.game.specs.Table.{never}
 use Rattle.game.specs.Facts.{Sound}
-use Rattle.game.specs.Extremes.{Beyond}
 
 -- how many of the first n ranks are below k
 abbrev pub countBelow : (ℕ → ℕ) → ℕ → ℕ → ℕ
@@ -26,8 +24,3 @@ pub record Kept (G : Arena) (Safe Goal : ℕ → Type 0) (Attack : Position → 
 abbrev pub total : (ℕ → ℕ) → ℕ → ℕ
 total rank zero = 0
 total rank (suc n) = total rank n + rank n
-
--- v is the largest rank over the outcomes of the move m at p, or the smallest
-pub record Worst (G : Arena) (most : Bool) (rank : ℕ → ℕ) (p : Position) (m v : ℕ) : Type 0 where
-  pub each : (r : ℕ) → Reply G p r → Beyond most (rank (number G (outcome G p m r))) v
-  pub some : (r : ℕ) × Reply G p r × (rank (number G (outcome G p m r)) ≡ v)

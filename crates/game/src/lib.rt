@@ -1,5 +1,1 @@
-// The meaning of a formula row, and the game on positions that decides it.
-pub mod buffers;
-pub mod moves;
-pub mod positions;
-pub mod replies;
+// The meaning of a formula row, and the game on positions that decides it (specs/). It has no code of its own.

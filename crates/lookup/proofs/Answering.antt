@@ -18,7 +18,7 @@ use Rattle.game.specs.Position.{Position, IsPosition, number, outcome}
 use Rattle.game.specs.Play.{Objective, next, always, until, CoalitionWins}
 use Rattle.game.specs.Table.{Table, never, rankAt, moveAt, Aim, Good, Met}
 use Rattle.game.specs.Facts.{Claims, Facts}
-use Rattle.game.specs.Buffers.{rankIn}
+use Rattle.turns.specs.Buffers.{rankIn}
 use Rattle.game.specs.Model.{arenaOf, objectiveOf, objectiveBy}
 use Rattle.game.proofs.Blocks.Passing.{valid-proper}
 use Rattle.game.proofs.Blocks.Tables.{table-decided}

@@ -12,7 +12,7 @@ use Rattle.block.specs.Layout.{Block}
 use Rattle.game.specs.Position.{Position, places, Reply, Allowed, outcome, number}
 use Rattle.game.specs.Play.{CoalitionWins}
 use Rattle.game.specs.Table.{never, Smallest}
-use Rattle.game.specs.Buffers.{rankIn}
+use Rattle.turns.specs.Buffers.{rankIn}
 use Rattle.game.specs.Model.{boundsOf, arenaOf, objectiveOf}
 use Rattle.solver.specs.Labels.{Prepared}
 

@@ -1,9 +1,9 @@
 // Moves and replies at one position, by the ranks of where they lead.
 use block::layout;
-use game::buffers;
-use game::moves;
-use game::positions;
-use game::replies;
+use turns::buffers;
+use turns::moves;
+use turns::positions;
+use turns::replies;
 ghost use mathlib.Core.Bool.{true};
 ghost use mathlib.Core.Path.{_≡_};
 ghost use Prim.Native.Nat.{ℕ, _≤_, _<_};

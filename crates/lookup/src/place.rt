@@ -1,10 +1,10 @@
 // A position that a caller names, and its row made ready.
 use block::layout;
 use block::widths::wide;
-use game::buffers;
-use game::positions;
 use solver::label;
 use solver::rows;
+use turns::buffers;
+use turns::positions;
 ghost use mathlib.Core.Path.{_≡_};
 ghost use Prim.Native.Nat.{_≤_, _<_};
 ghost use lib.ListN.{length};

@@ -15,7 +15,7 @@ use Rattle.block.specs.declared.refusal.Refusal.the-variants.{Length, Sizes, St
 use Rattle.block.specs.declared.refusal.Checked.the-variants as checked
 use Rattle.block.proofs.Passing.{passing}
 use Rattle.block.proofs.Refusals.{Each, first-same, first-same-in, block-numbers, first-before, first-after, not-first, number-some}
-use Rattle.game.specs.Buffers.{wordIn}
+use Rattle.turns.specs.Buffers.{wordIn}
 use Rattle.game.proofs.Numbers.Decide.{lt?}
 use Rattle.game.proofs.Blocks.Tables.{set-won}
 use Rattle.solver.specs.Calls.{setsBytes, roomBytes, movesBytes, rowOrder, Unlabelled, RoomAfter, LabelCall, NoChoice, RowTable, TableCall}

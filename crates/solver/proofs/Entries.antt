@@ -8,9 +8,10 @@ use lib.Seq.{getD-set-same, getD-set-other}
 use Rattle.block.specs.Layout as L
 use Rattle.block.specs.Layout.{Block}
 use Rattle.game.specs.Position.{Allowed, full, offset}
-use Rattle.game.specs.Model.{arenaOf, ReplyTo}
+use Rattle.game.specs.Model.{arenaOf}
+use Rattle.turns.specs.Rules.{ReplyTo}
 use Rattle.game.proofs.Numbers.Decide.{eq?}
-use Rattle.game.proofs.Numbers.Lists.{Puts, ListsBelow, lists-none, lists-skip, lists-more, ValuesBelow, values-more}
+use Rattle.turns.proofs.Lists.{Puts, ListsBelow, lists-none, lists-skip, lists-more, ValuesBelow, values-more}
 use Rattle.solver.specs.Ways.{entry, Ways, Answers}
 
 -- what is stored in the next entry of state s

@@ -17,15 +17,16 @@ use Rattle.block.proofs.Decide as D
 use Rattle.game.specs.Position.{Arena, Position, IsPosition, number, stocksOf, stockPlaces, positions, full, MoveOf, Affordable, Allowed, Reply, offset, outcome}
 use Rattle.game.specs.Table.{Table, never, noMove, Good, Met, Smallest, MoveIs, moveAt}
 use Rattle.game.specs.Facts.{RankFacts, Claims}
-use Rattle.game.specs.Buffers.{rankIn}
-use Rattle.game.specs.Extremes.{Lists}
-use Rattle.game.specs.Model.{structureOf, coalitionOf, arenaOf, ReplyTo}
+use Rattle.turns.specs.Buffers.{rankIn}
+use Rattle.turns.specs.Extremes.{Lists}
+use Rattle.game.specs.Model.{structureOf, coalitionOf, arenaOf}
+use Rattle.turns.specs.Rules.{ReplyTo}
 use Rattle.game.proofs.Numbers.Decide.{eq?}
 use Rattle.game.proofs.Local.Same.{number-below}
 use Rattle.game.proofs.Local.ByNumber.{move-same}
 use Rattle.game.proofs.Blocks.Passing.{valid-proper, few-positions}
 use Rattle.game.proofs.Blocks.Reading.{outcome-state}
-use Rattle.game.proofs.Solving.Moving.{outcome-at}
+use Rattle.turns.proofs.Outcomes.{outcome-at}
 use Rattle.game.proofs.Solving.Sweeping.{same-by-number}
 use Rattle.game.proofs.Local.Exist.{good-exists}
 use Rattle.solver.specs.Places.{PlacedAt, PaysAt}

@@ -15,7 +15,7 @@ use Rattle.game.specs.Position.{Position, number, full}
 use Rattle.game.specs.Play.{Objective, next, always, until}
 use Rattle.game.specs.Table.{Table, never, rankAt}
 use Rattle.game.specs.Facts.{RowsDecided, Claims, Facts}
-use Rattle.game.specs.Buffers.{rankIn, wordIn}
+use Rattle.turns.specs.Buffers.{rankIn, wordIn}
 use Rattle.game.specs.Model.{bit, byKind, RowTrue, RowSet, Says, arenaOf, objectiveOf, objectiveBy}
 use Rattle.game.proofs.Numbers.Decide.{eq?, eq-test}
 use Rattle.game.proofs.Local.Lower.{Retold, same-next, same-always, same-until, retold}

@@ -9,7 +9,7 @@ use native.Mathlib.Omega.{arith}
 use Rattle.block.specs.Decide.{Bit}
 use Rattle.game.specs.Position.{Arena, Position, IsPosition, number, stocksOf, stockPlaces, positions, outcome}
 use Rattle.game.specs.Table.{never}
-use Rattle.game.specs.Buffers.{rankIn, Stored, Lowered}
+use Rattle.turns.specs.Buffers.{rankIn, Stored, Lowered}
 use Rattle.game.specs.Sweep.{countBelow, Crowded, total}
 use Rattle.game.proofs.Numbers.Decide.{eq?}
 use Rattle.game.proofs.Numbers.Counting.{count-more, count-grows, lower-everywhere, total-falls}

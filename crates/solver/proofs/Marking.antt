@@ -15,8 +15,8 @@ use Rattle.game.specs.Position.{Arena, Position, IsPosition, places, stockBound
 use Rattle.game.specs.Play.{next}
 use Rattle.game.specs.Table.{never}
 use Rattle.game.specs.Facts.{CanForce}
-use Rattle.game.specs.Extremes.{Lists}
-use Rattle.game.specs.Buffers.{rankIn, Stored}
+use Rattle.turns.specs.Extremes.{Lists}
+use Rattle.turns.specs.Buffers.{rankIn, Stored}
 use Rattle.game.specs.Model.{structureOf, coalitionOf, arenaOf}
 use Rattle.game.proofs.Numbers.Decide.{eq?}
 use Rattle.game.proofs.Numbers.Stocks.{taken-fits}

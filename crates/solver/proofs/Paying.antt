@@ -12,7 +12,7 @@ use lib.Seq.{getD-set-same}
 use borrow.Author.Tests.{eq-eqb, ne-eqb}
 use Rattle.game.specs.Rbatl.{Fits}
 use Rattle.game.specs.Position.{Arena, Position, places, stockBound, taken, numberUpTo, stockPlacesUpTo, full, cost}
-use Rattle.game.specs.Extremes.{Lists}
+use Rattle.turns.specs.Extremes.{Lists}
 use Rattle.game.proofs.Numbers.Decide.{eq?}
 use Rattle.game.proofs.Numbers.Stocks.{taken-fits}
 use Rattle.game.proofs.Local.Same.{same-number-upto}

@@ -10,14 +10,15 @@ use Rattle.block.specs.Layout as L
 use Rattle.block.specs.Layout.{Block}
 use Rattle.block.specs.Valid.{Valid}
 use Rattle.game.specs.Position.{Arena, Position, places, IsPosition, number, numberUpTo, stocksOf, stockPlacesUpTo, stockPlaces, positionsUpTo, positions, full, opponents, MoveOf, Affordable, Allowed, Reply, offset, outcome}
-use Rattle.game.specs.Extremes.{Lists}
-use Rattle.game.specs.Model.{structureOf, coalitionOf, arenaOf, ReplyTo}
+use Rattle.turns.specs.Extremes.{Lists}
+use Rattle.game.specs.Model.{structureOf, coalitionOf, arenaOf}
+use Rattle.turns.specs.Rules.{ReplyTo}
 use Rattle.game.proofs.Bridge.Plays.{outcome-fits}
 use Rattle.game.proofs.Bridge.Moves.{idle-move}
 use Rattle.game.proofs.Local.Same.{number-below, positionOf, position-fits, position-number}
-use Rattle.game.proofs.Local.Offsets.{state-and-stocks, remains-number}
+use Rattle.turns.proofs.Offsets.{state-and-stocks, remains-number}
 use Rattle.game.proofs.Blocks.Passing.{valid-proper}
-use Rattle.game.proofs.Solving.Moving.{outcome-at}
+use Rattle.turns.proofs.Outcomes.{outcome-at}
 use Rattle.solver.specs.Places.{PlacedAt, PaysAt}
 
 -- a position's stocks have a number below the number of stock places

@@ -11,7 +11,7 @@ use Rattle.block.specs.Layout.{Block}
 use Rattle.game.specs.Position.{number}
 use Rattle.game.specs.Play.{Objective, next, always, until}
 use Rattle.game.specs.Facts.{CanForce, CanAnswer, Ranked, RankFacts}
-use Rattle.game.specs.Buffers.{rankIn}
+use Rattle.turns.specs.Buffers.{rankIn}
 use Rattle.game.specs.Model.{arenaOf, objectiveBy, Says}
 use Rattle.solver.specs.Solving.{Solved}
 use Rattle.solver.specs.Next.{NextRanks}

@@ -9,10 +9,10 @@ use native.Mathlib.Omega.{arith}
 use Rattle.block.specs.Decide.{Bit}
 use Rattle.game.specs.Position.{Arena, Position, IsPosition, number, stocksOf, stockPlaces, positions}
 use Rattle.game.specs.Table.{never}
-use Rattle.game.specs.Buffers.{rankIn}
+use Rattle.turns.specs.Buffers.{rankIn}
 use Rattle.game.proofs.Numbers.Decide.{eq?}
 use Rattle.game.proofs.Local.Same.{number-below}
-use Rattle.game.proofs.Local.Offsets.{state-and-stocks}
+use Rattle.turns.proofs.Offsets.{state-and-stocks}
 use Rattle.game.proofs.Solving.Sweeping.{first-sound}
 use Rattle.solver.specs.Values.{Attacks}
 use Rattle.solver.specs.Sweeps.{KeptFor}

@@ -8,12 +8,12 @@ use lib.ListN.{length}
 use Rattle.block.specs.Decide.{Bit}
 use Rattle.game.specs.Position.{Arena, Position, number, stocksOf, stockPlaces, positions, Allowed, Reply, outcome}
 use Rattle.game.specs.Table.{never}
-use Rattle.game.specs.Buffers.{rankIn}
+use Rattle.turns.specs.Buffers.{rankIn}
 use Rattle.game.specs.Sweep.{total}
 use Rattle.game.proofs.Numbers.Decide.{eq?}
 use Rattle.game.proofs.Bridge.Proper.{Proper}
 use Rattle.game.proofs.Bridge.Plays.{outcome-fits}
-use Rattle.game.proofs.Local.Offsets.{remains-number}
+use Rattle.turns.proofs.Offsets.{remains-number}
 use Rattle.game.proofs.Solving.Sweeping.{at-rest}
 use Rattle.solver.specs.Values.{Attacks, Defends}
 use Rattle.solver.specs.Sweeps.{KeptFor, RestsAt, RestsBelow, visit, ChangedAt, Swept, PlaceSettled, Settled}

@@ -8,10 +8,10 @@ use native.Mathlib.Nat.{pow-le-pow-right}
 use native.Mathlib.Omega.{arith}
 use Rattle.game.specs.Position.{Arena, Position, IsPosition, number, Reply, Allowed, outcome}
 use Rattle.game.specs.Facts.{CanForce}
-use Rattle.game.specs.Extremes.{Beyond, Further}
-use Rattle.game.specs.Sweep.{Worst}
+use Rattle.turns.specs.Extremes.{Beyond, Further}
+use Rattle.turns.specs.Extremes.{Worst}
 use Rattle.game.proofs.Numbers.Decide.{eq?}
-use Rattle.game.proofs.Numbers.Extremes.{beyond-equal, beyond-trans, further-some}
+use Rattle.turns.proofs.Largest.{beyond-equal, beyond-trans, further-some}
 use Rattle.game.proofs.Bridge.Proper.{Proper}
 use Rattle.game.proofs.Bridge.Plays.{outcome-fits}
 use Rattle.game.proofs.Local.Decidable.{reply?}

@@ -15,7 +15,7 @@ use Rattle.game.specs.Model.{boundsOf, arenaOf}
 use Rattle.game.proofs.Numbers.Decide.{eq?}
 use Rattle.game.proofs.Numbers.Stocks.{remaining-fits, taken-fits}
 use Rattle.game.proofs.Blocks.Passing.{few-places}
-use Rattle.game.proofs.Local.Offsets.{taken-back, remains-number}
+use Rattle.turns.proofs.Offsets.{taken-back, remains-number}
 use Rattle.solver.specs.Places.{PlacedAt}
 use Rattle.solver.specs.Wides.{wideFrom, WideAt, Wides, Covers}
 use Rattle.solver.proofs.Placing.{stocks-below, place-position}

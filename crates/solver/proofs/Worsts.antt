@@ -9,14 +9,15 @@ use Rattle.block.specs.Layout.{Block}
 use Rattle.block.specs.Valid.{Valid}
 use Rattle.game.specs.Rbatl.{Fits}
 use Rattle.game.specs.Position.{Arena, Position, stockBound, fullStock, number, stockPlaces, positions, full, cost, MoveOf, Affordable, Allowed, Reply, opponents, offset, outcome}
-use Rattle.game.specs.Extremes.{Beyond, Extreme, BestOf}
-use Rattle.game.specs.Sweep.{Worst}
-use Rattle.game.specs.Model.{structureOf, coalitionOf, arenaOf, ReplyTo}
+use Rattle.turns.specs.Extremes.{Beyond, Extreme, BestOf}
+use Rattle.turns.specs.Extremes.{Worst}
+use Rattle.game.specs.Model.{structureOf, coalitionOf, arenaOf}
+use Rattle.turns.specs.Rules.{ReplyTo}
 use Rattle.game.proofs.Bridge.Moves.{idle-move}
 use Rattle.game.proofs.Bridge.Truth.{full-fits}
-use Rattle.game.proofs.Local.Offsets.{remains-number}
+use Rattle.turns.proofs.Offsets.{remains-number}
 use Rattle.game.proofs.Blocks.Passing.{valid-proper}
-use Rattle.game.proofs.Blocks.Replies.{joint-small}
+use Rattle.turns.proofs.Opponents.{joint-small}
 use Rattle.solver.specs.Places.{PlacedAt}
 use Rattle.solver.specs.Ways.{entry, Ways, Answers}
 use Rattle.solver.specs.Wides.{Wides, Covers}

@@ -13,7 +13,7 @@ use Rattle.block.specs.declared.refusal.Refusal.the-variants.{Length, RowChoice
 use Rattle.block.specs.declared.refusal.Checked.{Checked}
 use Rattle.block.specs.declared.refusal.Checked.the-variants as checked
 use Rattle.game.specs.Position.{positions}
-use Rattle.game.specs.Buffers.{rankIn, wordIn}
+use Rattle.turns.specs.Buffers.{rankIn, wordIn}
 use Rattle.game.specs.Model.{RowSet, WonSet, arenaOf}
 use Rattle.game.specs.Demand.{TableOf}
 use Rattle.solver.specs.Tables.{tableIn}

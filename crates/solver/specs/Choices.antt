@@ -14,7 +14,7 @@ use Rattle.game.specs.Play as P
 use Rattle.game.specs.Play.{Objective}
 use Rattle.game.specs.Table.{Table, never, noMove, Good, Smallest}
 use Rattle.game.specs.Facts.{Claims}
-use Rattle.game.specs.Buffers.{rankIn}
+use Rattle.turns.specs.Buffers.{rankIn}
 use Rattle.game.specs.Model.{arenaOf}
 
 -- what a row asks by the two tests

@@ -10,8 +10,9 @@ use Rattle.block.specs.Layout.{Block}
 use Rattle.game.specs.Position.{Position, IsPosition, number, positions, Allowed}
 use Rattle.game.specs.Play.{next}
 use Rattle.game.specs.Facts.{RankFacts}
-use Rattle.game.specs.Buffers.{rankIn}
-use Rattle.game.specs.Model.{arenaOf, ReplyTo}
+use Rattle.turns.specs.Buffers.{rankIn}
+use Rattle.game.specs.Model.{arenaOf}
+use Rattle.turns.specs.Rules.{ReplyTo}
 
 abbrev pub LeadsInto : Block → ℕ → ℕ → ℕ → ℕ → Type 0
 LeadsInto b i s m set = (r : ℕ) → ReplyTo b i s r → Bit set (L.next b s (m + r))

@@ -10,7 +10,7 @@ use Rattle.block.specs.Layout as L
 use Rattle.block.specs.Layout.{Block}
 use Rattle.game.specs.Position.{number, full}
 use Rattle.game.specs.Table.{never}
-use Rattle.game.specs.Buffers.{rankIn}
+use Rattle.turns.specs.Buffers.{rankIn}
 use Rattle.game.specs.Model.{byKind, arenaOf}
 
 -- a rank says that the coalition wins, by the kind of the row

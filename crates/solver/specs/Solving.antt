@@ -7,7 +7,7 @@ use Rattle.block.specs.Decide.{Bit}
 use Rattle.game.specs.Position.{Arena, number, positions}
 use Rattle.game.specs.Table.{never}
 use Rattle.game.specs.Facts.{Ranked}
-use Rattle.game.specs.Buffers.{rankIn}
+use Rattle.turns.specs.Buffers.{rankIn}
 use Rattle.solver.specs.Values.{Attacks, Defends}
 
 -- the first rank of position n of count, with c of them in each state

@@ -8,7 +8,7 @@ use lib.ListN.{length}
 use Rattle.block.specs.Decide.{Bit}
 use Rattle.game.specs.Position.{Arena, Position, IsPosition, number, stocksOf, positions}
 use Rattle.game.specs.Facts.{Ranked}
-use Rattle.game.specs.Buffers.{rankIn}
+use Rattle.turns.specs.Buffers.{rankIn}
 use Rattle.game.specs.Sweep.{Kept, total}
 use Rattle.solver.specs.Places.{PlacedAt}
 use Rattle.solver.specs.Values.{Attacks, Defends}

@@ -8,7 +8,7 @@ use Rattle.block.specs.Layout.{Block}
 use Rattle.game.specs.Position.{Position, IsPosition, number, positions}
 use Rattle.game.specs.Table.{Table, moveAt, MoveIs}
 use Rattle.game.specs.Facts.{RankFacts, Claims}
-use Rattle.game.specs.Buffers.{rankIn}
+use Rattle.turns.specs.Buffers.{rankIn}
 use Rattle.game.specs.Model.{arenaOf, objectiveBy}
 
 abbrev pub tableIn : List ℕ → List ℕ → Table

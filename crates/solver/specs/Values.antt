@@ -6,8 +6,8 @@ use mathlib.Core.Path.{_≡_}
 use Prim.Native.Nat.{ℕ, _+_, _≤_, _<_}
 use Rattle.game.specs.Position.{Arena, Position, IsPosition, number, Allowed}
 use Rattle.game.specs.Facts.{CanForce, CanAnswer}
-use Rattle.game.specs.Extremes.{Beyond}
-use Rattle.game.specs.Sweep.{Worst}
+use Rattle.turns.specs.Extremes.{Beyond}
+use Rattle.turns.specs.Extremes.{Worst}
 use Rattle.solver.specs.Places.{PlacedAt}
 
 -- v is the most extreme of what was first and what was offered

@@ -6,7 +6,8 @@ use lib.ListN.{getD, length}
 use Rattle.block.specs.Layout as L
 use Rattle.block.specs.Layout.{Block}
 use Rattle.game.specs.Position.{Allowed, MoveOf, full, offset}
-use Rattle.game.specs.Model.{structureOf, coalitionOf, arenaOf, ReplyTo}
+use Rattle.game.specs.Model.{structureOf, coalitionOf, arenaOf}
+use Rattle.turns.specs.Rules.{ReplyTo}
 use Rattle.solver.specs.Wides.{Wides}
 
 -- the k-th entry of state s

@@ -5,13 +5,13 @@ use block::fill;
 use block::layout;
 use block::refusal::Checked;
 use block::refusal::Refusal;
-use game::buffers;
+use turns::buffers;
 ghost use mathlib.Core.Path.{_≡_};
 ghost use Prim.Native.Nat.{ℕ, _≤_, _<_};
 ghost use lib.ListN.{length};
 ghost use Rattle.block.specs.Layout as L;
 ghost use Rattle.block.specs.Valid.{Valid};
-ghost use Rattle.game.specs.Buffers.{wordIn};
+ghost use Rattle.turns.specs.Buffers.{wordIn};
 ghost use Rattle.solver.specs.Calls.{LabelCall};
 ghost use Rattle.solver.specs.Labels.{LowerSets, RowLabelled, Ranked};
 

@@ -2,10 +2,10 @@
 use crate::payable;
 use crate::solve;
 use block::layout;
-use game::buffers;
-use game::moves;
-use game::positions;
-use game::replies;
+use turns::buffers;
+use turns::moves;
+use turns::positions;
+use turns::replies;
 ghost use mathlib.Core.Bool.{true};
 ghost use mathlib.Core.Path.{_≡_};
 ghost use Prim.Native.Nat.{ℕ, _+_, _*_, _≤_, _<_};
@@ -13,9 +13,10 @@ ghost use lib.ListN.{length, getD};
 ghost use Rattle.block.specs.Decide.{Decides};
 ghost use Rattle.block.specs.Layout as L;
 ghost use Rattle.block.specs.Valid.{Valid};
-ghost use Rattle.game.specs.Extremes.{Lists};
+ghost use Rattle.turns.specs.Extremes.{Lists};
 ghost use Rattle.game.specs.Position.{MoveOf, stockPlaces};
-ghost use Rattle.game.specs.Model.{structureOf, coalitionOf, arenaOf, ReplyTo};
+ghost use Rattle.game.specs.Model.{structureOf, coalitionOf, arenaOf};
+ghost use Rattle.turns.specs.Rules.{ReplyTo};
 ghost use Rattle.solver.specs.Next.{LeadsInto, Marked, AnyOf, PlaceMarks, MoveMarks, StateMarks, NextRanks};
 
 // Whether each of the n listed replies to the move m leads from state s into the set.

@@ -1,12 +1,12 @@
 // The stock places that pay for a move.
 use block::layout;
-use game::positions;
+use turns::positions;
 ghost use mathlib.Core.Path.{_≡_};
 ghost use Prim.Native.Nat.{ℕ, _+_, _*_, _-_, _≤_, _<_};
 ghost use lib.ListN.{length, getD};
 ghost use Rattle.block.specs.Layout as L;
 ghost use Rattle.block.specs.Valid.{Valid};
-ghost use Rattle.game.specs.Extremes.{Lists};
+ghost use Rattle.turns.specs.Extremes.{Lists};
 ghost use Rattle.game.specs.Position.{MoveOf};
 ghost use Rattle.game.specs.Model.{structureOf, coalitionOf, arenaOf};
 ghost use Rattle.solver.specs.Places.{PaysAt, Spread, Expanded};

@@ -2,8 +2,8 @@
 use crate::next;
 use crate::solve;
 use block::layout;
-use game::buffers;
-use game::positions;
+use turns::buffers;
+use turns::positions;
 ghost use mathlib.Core.Path.{_≡_};
 ghost use Prim.Native.Nat.{ℕ, _≤_, _<_};
 ghost use lib.ListN.{length};

@@ -1,14 +1,14 @@
 // The ranks of an until or an always row: first 0 at a goal and 65535 elsewhere, then sweeps.
 use crate::sweep;
-use game::buffers;
-use game::positions;
+use turns::buffers;
+use turns::positions;
 ghost use mathlib.Core.Path.{_≡_};
 ghost use Prim.Native.Nat.{ℕ, _/_, _≤_, _<_};
 ghost use lib.ListN.{length};
 ghost use Rattle.block.specs.Layout as L;
 ghost use Rattle.block.specs.Valid.{Valid};
 ghost use Rattle.game.specs.Position as P;
-ghost use Rattle.game.specs.Buffers.{rankIn};
+ghost use Rattle.turns.specs.Buffers.{rankIn};
 ghost use Rattle.game.specs.Model.{arenaOf};
 ghost use Rattle.solver.specs.Solving.{FirstRank, Solved};
 

@@ -3,7 +3,7 @@
 use crate::value;
 use crate::ways;
 use block::layout;
-use game::buffers;
+use turns::buffers;
 ghost use mathlib.Core.Path.{_≡_};
 ghost use Prim.Native.Nat.{ℕ, _+_, _*_, _≤_, _<_};
 ghost use lib.ListN.{length};

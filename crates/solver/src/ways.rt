@@ -1,9 +1,9 @@
 // The moves of each state and the replies there, listed once for a row, so that no sweep looks for them again.
 use crate::wides;
 use block::layout;
-use game::moves;
-use game::positions;
-use game::replies;
+use turns::moves;
+use turns::positions;
+use turns::replies;
 ghost use mathlib.Core.Path.{_≡_};
 ghost use Prim.Native.Nat.{ℕ, _+_, _*_, _≤_, _<_};
 ghost use lib.ListN.{length, getD};

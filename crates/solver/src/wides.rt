@@ -1,6 +1,6 @@
 // Stock places by their stocks in base 32, where a sum has no carry: so a place is asked for what it can pay without a division.
 use block::layout;
-use game::positions;
+use turns::positions;
 ghost use mathlib.Core.Path.{_≡_};
 ghost use Prim.Native.Nat.{ℕ, _≤_, _<_};
 ghost use lib.ListN.{length, getD};

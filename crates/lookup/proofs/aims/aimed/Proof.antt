@@ -6,13 +6,13 @@ use borrow.Author.Needs.{needs}
 use Rattle.block.specs.Decide.{Decides}
 use Rattle.block.specs.Layout as L
 use Rattle.game.specs.Position.{position, number, outcome}
-use Rattle.game.specs.Buffers.{rankIn}
+use Rattle.turns.specs.Buffers.{rankIn}
 use Rattle.game.specs.Model.{arenaOf}
 use Rattle.game.proofs.Bridge.Plays.{outcome-fits}
 use Rattle.game.proofs.Local.Same.{number-below}
 use Rattle.game.proofs.Blocks.Passing.{valid-proper, few-positions}
 use Rattle.game.proofs.Blocks.Reading.{outcome-state}
-use Rattle.game.proofs.Blocks.Replies.{joint-small, next-small}
+use Rattle.turns.proofs.Opponents.{joint-small, next-small}
 use Rattle.lookup.specs.Aims.{SideBy}
 use Rattle.lookup.proofs.aims.aimed.Statement.{statement}
 use Rattle.lookup.proofs.aims.aimed.Tie as tie

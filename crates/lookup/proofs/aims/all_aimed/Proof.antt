@@ -10,7 +10,7 @@ use Rattle.block.proofs.Decide as D
 use Rattle.game.specs.Position.{position, Reply}
 use Rattle.game.specs.Model.{arenaOf}
 use Rattle.game.proofs.Numbers.Decide.{eq?}
-use Rattle.game.proofs.Blocks.Replies.{reply-small}
+use Rattle.turns.proofs.Opponents.{reply-small}
 use Rattle.lookup.specs.Aims.{Aimed}
 use Rattle.lookup.proofs.aims.all_aimed.Statement.{statement}
 use Rattle.lookup.proofs.aims.all_aimed.Tie as tie

@@ -5,7 +5,7 @@ use native.Mathlib.Omega.{arith}
 use borrow.Author.Needs.{needs}
 use Rattle.block.specs.Decide.{Decides}
 use Rattle.game.specs.Position.{position, number}
-use Rattle.game.specs.Buffers.{rankIn}
+use Rattle.turns.specs.Buffers.{rankIn}
 use Rattle.game.specs.Model.{arenaOf}
 use Rattle.game.proofs.Local.Same.{number-below}
 use Rattle.game.proofs.Blocks.Passing.{few-positions}

@@ -3,7 +3,7 @@ use mathlib.Core.Path.{_≡_, sym, subst, _∙_}
 use Prim.Native.Nat.{ℕ, _<_}
 use native.Mathlib.Omega.{arith}
 use Rattle.block.specs.Layout as L
-use Rattle.game.specs.Buffers.{wordIn}
+use Rattle.turns.specs.Buffers.{wordIn}
 use Rattle.solver.specs.Labels.{Prepared}
 use Rattle.solver.proofs.Tabling.{row-table}
 use borrow.Author.Needs.{needs}

@@ -9,7 +9,7 @@ use lib.ListN.{getD}
 use borrow.Author.Needs.{needs}
 use Rattle.block.specs.Decide.{Decides, holds, fails}
 use Rattle.block.proofs.Decide as D
-use Rattle.game.specs.Buffers.{rankIn}
+use Rattle.turns.specs.Buffers.{rankIn}
 use Rattle.solver.specs.Choices.{AimedBy}
 use Rattle.solver.proofs.choose.aimed.Statement.{statement}
 use Rattle.solver.proofs.choose.aimed.Tie as tie

@@ -7,8 +7,9 @@ use native.Mathlib.Omega.{arith}
 use borrow.Author.Needs.{needs}
 use Rattle.block.specs.Layout as L
 use Rattle.game.specs.Position.{stockPlaces}
-use Rattle.game.specs.Extremes.{Lists}
-use Rattle.game.specs.Model.{arenaOf, ReplyTo}
+use Rattle.turns.specs.Extremes.{Lists}
+use Rattle.game.specs.Model.{arenaOf}
+use Rattle.turns.specs.Rules.{ReplyTo}
 use Rattle.game.proofs.Blocks.Passing.{few-stocks, few-positions}
 use Rattle.solver.proofs.Placing.{some-reply, place-fits}
 use Rattle.solver.proofs.Hitting.{lists-tried, place-inside}

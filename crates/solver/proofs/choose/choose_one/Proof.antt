@@ -6,7 +6,7 @@ use lib.ListN.{getD}
 use borrow.Author.Needs.{needs}
 use borrow.Author.Tests.{not-true, not-false}
 use Rattle.block.proofs.Decide as D
-use Rattle.game.specs.Buffers.{rankIn}
+use Rattle.turns.specs.Buffers.{rankIn}
 use Rattle.solver.specs.Choices.{AimedBy, HitAt}
 use Rattle.solver.proofs.Choosing.{tried-nothing, tried-one}
 use Rattle.solver.proofs.choose.choose_one.Statement.{statement}

@@ -7,7 +7,7 @@ use native.Mathlib.Omega.{arith}
 use lib.ListN.{length}
 use Rattle.block.specs.Layout as L
 use Rattle.block.proofs.Passing.{passing}
-use Rattle.game.specs.Buffers.{wordIn}
+use Rattle.turns.specs.Buffers.{wordIn}
 use Rattle.solver.specs.Labels.{LowerSets}
 use Rattle.solver.proofs.Calls.{cleared, zero-word, label-length, label-refused, label-passed}
 use borrow.Author.Needs.{needs}

@@ -7,7 +7,7 @@ use native.Mathlib.Omega.{arith}
 use lib.ListN.{length}
 use borrow.Author.Needs.{needs}
 use Rattle.block.specs.Layout as L
-use Rattle.game.specs.Buffers.{wordIn}
+use Rattle.turns.specs.Buffers.{wordIn}
 use Rattle.game.specs.Model.{RowSet}
 use Rattle.solver.specs.Tables.{RanksOf}
 use Rattle.solver.specs.Labels.{Prepared}

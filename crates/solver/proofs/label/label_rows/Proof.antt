@@ -3,7 +3,7 @@ use mathlib.Core.Path.{_≡_, refl, _∙_}
 use Prim.Native.Nat.{ℕ, _+_, _-_, _≤_, _<_}
 use native.Mathlib.Omega.{arith}
 use lib.ListN.{length}
-use Rattle.game.specs.Buffers.{wordIn}
+use Rattle.turns.specs.Buffers.{wordIn}
 use Rattle.solver.specs.Labels.{LowerSets}
 use Rattle.solver.proofs.Labelling.{lower-more}
 use Rattle.solver.proofs.label.label_rows.Statement.{statement}

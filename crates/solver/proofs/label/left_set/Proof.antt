@@ -3,7 +3,7 @@ use mathlib.Core.Path.{_≡_, refl, sym, _∙_, ap}
 use Prim.Native.Nat.{ℕ, _<_}
 use native.Mathlib.Omega.{arith}
 use borrow.Author.Needs.{needs}
-use Rattle.game.specs.Buffers.{wordIn}
+use Rattle.turns.specs.Buffers.{wordIn}
 use Rattle.solver.proofs.label.left_set.Statement.{statement}
 use Rattle.solver.proofs.label.left_set.Tie as tie
 

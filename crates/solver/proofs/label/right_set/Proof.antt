@@ -6,7 +6,7 @@ use native.Mathlib.Omega.{arith}
 use borrow.Author.Needs.{needs}
 use borrow.Author.Tests.{eqb-true, eqb-false}
 use Rattle.block.specs.Layout as L
-use Rattle.game.specs.Buffers.{wordIn}
+use Rattle.turns.specs.Buffers.{wordIn}
 use Rattle.solver.proofs.label.right_set.Statement.{statement}
 use Rattle.solver.proofs.label.right_set.Tie as tie
 

@@ -7,9 +7,9 @@ use borrow.Author.Tests.{not-true, not-false}
 use Rattle.block.specs.Decide.{Bit, holds, fails}
 use Rattle.block.specs.Layout as L
 use Rattle.block.proofs.Decide as D
-use Rattle.game.specs.Model.{ReplyTo}
+use Rattle.turns.specs.Rules.{ReplyTo}
 use Rattle.game.proofs.Numbers.Decide.{eq?}
-use Rattle.game.proofs.Blocks.Replies.{joint-small, next-small}
+use Rattle.turns.proofs.Opponents.{joint-small, next-small}
 use Rattle.solver.proofs.next.leads_into.Statement.{statement}
 use Rattle.solver.proofs.next.leads_into.Tie as tie
 

@@ -9,7 +9,7 @@ use lib.ListN.{getD, length, length-set}
 use Rattle.block.specs.Layout as L
 use Rattle.block.specs.Layout.{Block}
 use Rattle.block.specs.Valid.{Valid}
-use Rattle.game.specs.Extremes.{Lists}
+use Rattle.turns.specs.Extremes.{Lists}
 use Rattle.game.specs.Position.{places, stockPlacesUpTo}
 use Rattle.game.specs.Model.{boundsOf, arenaOf}
 use Rattle.game.proofs.Blocks.Passing.{few-places, few-stocks}

@@ -8,7 +8,7 @@ use Rattle.block.specs.Decide.{Bit}
 use Rattle.block.specs.Layout as L
 use Rattle.block.proofs.Decide as D
 use Rattle.game.specs.Position.{number, full}
-use Rattle.game.specs.Buffers.{rankIn}
+use Rattle.turns.specs.Buffers.{rankIn}
 use Rattle.game.specs.Model.{byKind, arenaOf}
 use Rattle.game.proofs.Local.Same.{number-below}
 use Rattle.game.proofs.Bridge.Truth.{full-fits}

@@ -8,7 +8,7 @@ use native.Mathlib.Omega.{arith}
 use lib.ListN.{length}
 use Rattle.block.specs.Layout as L
 use Rattle.game.specs.Position.{stockPlaces, positions, full}
-use Rattle.game.specs.Buffers.{rankIn, Stored}
+use Rattle.turns.specs.Buffers.{rankIn, Stored}
 use Rattle.game.specs.Model.{arenaOf}
 use Rattle.game.proofs.Numbers.Decide.{eq?}
 use Rattle.game.proofs.Bridge.Truth.{full-fits}

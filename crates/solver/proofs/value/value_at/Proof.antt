@@ -8,7 +8,7 @@ use lib.ListN.{getD}
 use Rattle.block.specs.Layout as L
 use Rattle.block.proofs.Decide as D
 use Rattle.game.specs.Position.{Position, number, stockPlaces}
-use Rattle.game.specs.Buffers.{rankIn}
+use Rattle.turns.specs.Buffers.{rankIn}
 use Rattle.game.specs.Model.{arenaOf}
 use Rattle.game.proofs.Blocks.Passing.{valid-proper, few-stocks, few-positions}
 use Rattle.solver.specs.Places.{PlacedAt}

@@ -7,9 +7,9 @@ use native.Mathlib.Omega.{arith}
 use lib.ListN.{getD, length}
 use Rattle.block.specs.Layout as L
 use Rattle.block.proofs.Decide as D
-use Rattle.game.specs.Buffers.{rankIn}
-use Rattle.game.specs.Extremes.{Extreme}
-use Rattle.game.proofs.Numbers.Extremes.{extreme-first, extreme-next, best-early}
+use Rattle.turns.specs.Buffers.{rankIn}
+use Rattle.turns.specs.Extremes.{Extreme}
+use Rattle.turns.proofs.Largest.{extreme-first, extreme-next, best-early}
 use Rattle.solver.specs.Ways.{entry}
 use Rattle.solver.proofs.Worsts.{leadsAt}
 use Rattle.solver.proofs.value.worst_at.Statement.{statement}

@@ -7,8 +7,8 @@ use native.Mathlib.Omega.{arith}
 use lib.ListN.{getD, length, length-set}
 use Rattle.block.specs.Layout as L
 use Rattle.block.proofs.Decide as D
-use Rattle.game.specs.Model.{ReplyTo}
-use Rattle.game.proofs.Blocks.Replies.{reply-small}
+use Rattle.turns.specs.Rules.{ReplyTo}
+use Rattle.turns.proofs.Opponents.{reply-small}
 use Rattle.solver.proofs.Entries.{entry-lower, EntriesBelow, entries-none, entries-skip, entries-more, entries-each, entries-only}
 use Rattle.solver.proofs.ways.list_answers.Statement.{statement}
 use Rattle.solver.proofs.ways.list_answers.Tie as tie

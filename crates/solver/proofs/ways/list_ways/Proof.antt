@@ -10,7 +10,7 @@ use Rattle.block.specs.Layout as L
 use Rattle.block.proofs.Decide as D
 use Rattle.game.specs.Position.{number, full, offset, Allowed}
 use Rattle.game.specs.Model.{arenaOf}
-use Rattle.game.proofs.Local.Offsets.{remains-number}
+use Rattle.turns.proofs.Offsets.{remains-number}
 use Rattle.game.proofs.Bridge.Truth.{full-fits}
 use Rattle.game.proofs.Blocks.Passing.{few-stocks}
 use Rattle.solver.proofs.Placing.{stocks-below}

@@ -1,0 +1,117 @@
+-- Words that stand as bytes in a buffer: what storing one does to it and to the others; and one more bit of a word. Assumes nothing.
+use mathlib.Core.List.{List}
+use mathlib.Core.Logic.{_↔_, _⊎_, inl, inr, ⊎-elim}
+use mathlib.Core.Path.{_≡_, sym, _∙_, ap, subst}
+use Prim.Native.Nat.{ℕ, suc, _+_, _*_, _-_, _/_, _%_, _^_, _≤_, _<_}
+use native.Mathlib.Nat.{add-mul-div-right, div-eq-of-lt, div-div-eq-div-mul, div-eq-of-lt-le, mod-eq-of-lt, pow-succ'}
+use native.Mathlib.Omega.{arith}
+use lib.Pow.{pow-pos, pow-mono, pow-add}
+use lib.ListN.{getD, length, set, length-set}
+use lib.Seq.{getD-set-same, getD-set-other, lt-length-set}
+use Rattle.block.specs.Decide.{Bit}
+use Rattle.turns.specs.Buffers.{rankIn, wordIn, Stored}
+use Rattle.game.proofs.Numbers.Decide.{eq?, lt?}
+
+module _ (l : List ℕ) (p v : ℕ) where
+  abbrev pub withRank : List ℕ
+  withRank = set (set l (2 * p) (v % 256)) (2 * p + 1) (v / 256 % 256)
+
+  -- a byte of another rank is as before
+  rank-other : (k : ℕ) → (k ≡ 2 * p → ⊥) → (k ≡ 2 * p + 1 → ⊥) → getD withRank k 0 ≡ getD l k 0
+  rank-other k ne ne′ = getD-set-other (set l (2 * p) (v % 256)) (2 * p + 1) k (v / 256 % 256) 0 ne′ ∙ getD-set-other l (2 * p) k (v % 256) 0 ne
+
+  pub rank-stored : 2 * p + 1 < length l → v < 65536 → Stored rankIn l withRank p v
+  rank-stored inside small = record {
+    stored =
+        let low : getD withRank (2 * p) 0 ≡ v % 256 = getD-set-other (set l (2 * p) (v % 256)) (2 * p + 1) (2 * p) (v / 256 % 256) 0 (λ e. omega arith) ∙ getD-set-same l (2 * p) (v % 256) 0 (omega arith) in
+        let high : getD withRank (2 * p + 1) 0 ≡ v / 256 % 256 = getD-set-same (set l (2 * p) (v % 256)) (2 * p + 1) (v / 256 % 256) 0 (lt-length-set l (2 * p) (v % 256) inside) in
+        omega (arith, low, high);
+    others = λ i ne.
+        let low : getD withRank (2 * i) 0 ≡ getD l (2 * i) 0 = rank-other (2 * i) (λ e. ne (omega arith)) (λ e. omega arith) in
+        let high : getD withRank (2 * i + 1) 0 ≡ getD l (2 * i + 1) 0 = rank-other (2 * i + 1) (λ e. omega arith) (λ e. ne (omega arith)) in
+        omega (arith, low, high);
+    kept = length-set (set l (2 * p) (v % 256)) (2 * p + 1) (v / 256 % 256) ∙ length-set l (2 * p) (v % 256);
+  }
+
+-- a word is put together again from its bytes
+word-bytes : (w : ℕ) → w < 2 ^ 32 → w % 256 + 256 * (w / 256 % 256) + 65536 * (w / 65536 % 256) + 16777216 * (w / 16777216 % 256) ≡ w
+word-bytes w small =
+    let first : 256 * (w / 256) + w % 256 ≡ w = omega arith in
+    let second : 256 * (w / 65536) + w / 256 % 256 ≡ w / 256 = omega (arith, div-div-eq-div-mul w 256 256) in
+    let third : 256 * (w / 16777216) + w / 65536 % 256 ≡ w / 65536 = omega (arith, div-div-eq-div-mul w 65536 256) in
+    let last : w / 16777216 % 256 ≡ w / 16777216 = mod-eq-of-lt (omega arith) in
+    sums w (w / 256) (w / 65536) (w / 16777216) (w % 256) (w / 256 % 256) (w / 65536 % 256) (w / 16777216 % 256) first second third last
+  where
+    sums : (w x y z a b c d : ℕ) → 256 * x + a ≡ w → 256 * y + b ≡ x → 256 * z + c ≡ y → d ≡ z → a + 256 * b + 65536 * c + 16777216 * d ≡ w
+    sums w x y z a b c d e e′ e″ e‴ = omega arith
+
+module _ (l : List ℕ) (i w : ℕ) where
+  abbrev one : List ℕ
+  one = set l (4 * i) (w % 256)
+
+  abbrev two : List ℕ
+  two = set one (4 * i + 1) (w / 256 % 256)
+
+  abbrev three : List ℕ
+  three = set two (4 * i + 2) (w / 65536 % 256)
+
+  abbrev pub withWord : List ℕ
+  withWord = set (set (set (set l (4 * i) (w % 256)) (4 * i + 1) (w / 256 % 256)) (4 * i + 2) (w / 65536 % 256)) (4 * i + 3) (w / 16777216 % 256)
+
+  -- a byte of another word is as before
+  word-other : (k : ℕ) → (k ≡ 4 * i → ⊥) → (k ≡ 4 * i + 1 → ⊥) → (k ≡ 4 * i + 2 → ⊥) → (k ≡ 4 * i + 3 → ⊥) → getD withWord k 0 ≡ getD l k 0
+  word-other k n0 n1 n2 n3 =
+      getD-set-other three (4 * i + 3) k _ 0 n3 ∙ getD-set-other two (4 * i + 2) k _ 0 n2 ∙ getD-set-other one (4 * i + 1) k _ 0 n1 ∙ getD-set-other l (4 * i) k _ 0 n0
+
+  word-length : length withWord ≡ length l
+  word-length = length-set three (4 * i + 3) _ ∙ length-set two (4 * i + 2) _ ∙ length-set one (4 * i + 1) _ ∙ length-set l (4 * i) _
+
+  pub word-stored : 4 * i + 3 < length l → w < 2 ^ 32 → Stored wordIn l withWord i w
+  word-stored inside small = record {
+    stored =
+        let b0 : getD withWord (4 * i) 0 ≡ w % 256 =
+        getD-set-other three (4 * i + 3) (4 * i) _ 0 (λ e. omega arith) ∙ getD-set-other two (4 * i + 2) (4 * i) _ 0 (λ e. omega arith) ∙ getD-set-other one (4 * i + 1) (4 * i) _ 0 (λ e. omega arith) ∙ getD-set-same l (4 * i) _ 0 (omega arith) in
+        let b1 : getD withWord (4 * i + 1) 0 ≡ w / 256 % 256 =
+        getD-set-other three (4 * i + 3) (4 * i + 1) _ 0 (λ e. omega arith) ∙ getD-set-other two (4 * i + 2) (4 * i + 1) _ 0 (λ e. omega arith) ∙ getD-set-same one (4 * i + 1) _ 0 (omega (arith, length-set l (4 * i) (w % 256))) in
+        let b2 : getD withWord (4 * i + 2) 0 ≡ w / 65536 % 256 =
+        getD-set-other three (4 * i + 3) (4 * i + 2) _ 0 (λ e. omega arith) ∙ getD-set-same two (4 * i + 2) _ 0 (omega (arith, length-set l (4 * i) (w % 256), length-set one (4 * i + 1) (w / 256 % 256))) in
+        let b3 : getD withWord (4 * i + 3) 0 ≡ w / 16777216 % 256 =
+        getD-set-same three (4 * i + 3) _ 0 (omega (arith, length-set l (4 * i) (w % 256), length-set one (4 * i + 1) (w / 256 % 256), length-set two (4 * i + 2) (w / 65536 % 256))) in
+        omega (arith, b0, b1, b2, b3, word-bytes w small);
+    others = λ k ne.
+        let b0 : getD withWord (4 * k) 0 ≡ getD l (4 * k) 0 = word-other (4 * k) (λ e. ne (omega arith)) (λ e. omega arith) (λ e. omega arith) (λ e. omega arith) in
+        let b1 : getD withWord (4 * k + 1) 0 ≡ getD l (4 * k + 1) 0 = word-other (4 * k + 1) (λ e. omega arith) (λ e. ne (omega arith)) (λ e. omega arith) (λ e. omega arith) in
+        let b2 : getD withWord (4 * k + 2) 0 ≡ getD l (4 * k + 2) 0 = word-other (4 * k + 2) (λ e. omega arith) (λ e. omega arith) (λ e. ne (omega arith)) (λ e. omega arith) in
+        let b3 : getD withWord (4 * k + 3) 0 ≡ getD l (4 * k + 3) 0 = word-other (4 * k + 3) (λ e. omega arith) (λ e. omega arith) (λ e. omega arith) (λ e. ne (omega arith)) in
+        omega (arith, b0, b1, b2, b3);
+    kept = word-length;
+  }
+
+-- a word with a bit besides, above its others
+module _ (w s : ℕ) (small : w < 2 ^ s) where
+  bit-below : (x : ℕ) → x < s → (w + 2 ^ s) / 2 ^ x % 2 ≡ w / 2 ^ x % 2
+  bit-below x l =
+      let split : s ≡ suc (s - suc x) + x = omega arith in
+      let power : 2 ^ s ≡ 2 ^ suc (s - suc x) * 2 ^ x = ap (λ (n : ℕ). 2 ^ n) split ∙ pow-add 2 (suc (s - suc x)) x in
+      let quotient : (w + 2 ^ s) / 2 ^ x ≡ w / 2 ^ x + 2 ^ suc (s - suc x) = ap (λ (n : ℕ). (w + n) / 2 ^ x) power ∙ add-mul-div-right w (2 ^ suc (s - suc x)) (pow-pos x) in
+      omega (arith, quotient, pow-succ' 2 (s - suc x))
+
+  bit-itself : (w + 2 ^ s) / 2 ^ s ≡ 1
+  bit-itself = div-eq-of-lt-le (2 ^ s) (omega arith) (omega arith)
+
+  pub bit-small : w + 2 ^ s < 2 ^ (s + 1)
+  bit-small = omega (arith, pow-add 2 s 1)
+
+  bit-beyond : (x : ℕ) → s < x → (v : ℕ) → v ≤ w + 2 ^ s → Bit v x → ⊥
+  bit-beyond x l v le one =
+      let above : 2 ^ (s + 1) ≤ 2 ^ x = pow-mono (omega arith) in
+      let none : v / 2 ^ x ≡ 0 = div-eq-of-lt (omega (arith, bit-small)) in
+      omega arith
+
+  pub bit-besides : (x : ℕ) → Bit (w + 2 ^ s) x ↔ (Bit w x ⊎ (x ≡ s))
+  bit-besides x = go (lt? x s) (eq? x s)
+    where
+      go : Dec (x < s) → Dec (x ≡ s) → Bit (w + 2 ^ s) x ↔ (Bit w x ⊎ (x ≡ s))
+      go (yes l) _ = (λ one. inl (sym (bit-below x l) ∙ one), ⊎-elim (λ one. bit-below x l ∙ one) (λ e. absurd (omega arith)))
+      go (no _) (yes e) = (λ _. inr e, λ _. subst (λ (n : ℕ). Bit (w + 2 ^ s) n) (sym e) (ap (λ (n : ℕ). n % 2) bit-itself))
+      go (no nl) (no ne) = (λ one. absurd (bit-beyond x (omega arith) (w + 2 ^ s) (omega arith) one), ⊎-elim (λ one. absurd (bit-beyond x (omega arith) w (omega arith) one)) (λ e. absurd (ne e)))

@@ -1,0 +1,5 @@
+// A turn of a play, as code: moves and replies, positions and where they lead, ranks and sets in lent buffers.
+pub mod buffers;
+pub mod moves;
+pub mod positions;
+pub mod replies;

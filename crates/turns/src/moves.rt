@@ -1,0 +1,84 @@
+// Moves of a coalition: its part of a joint action, and what a move costs.
+use block::layout;
+ghost use mathlib.Core.Path.{_≡_};
+ghost use Prim.Native.Nat.{_≤_, _<_};
+ghost use mathlib.Core.Bool.{cond};
+ghost use Rattle.block.specs.Decide.{Decides};
+ghost use Rattle.block.specs.Layout.{states, resources, agents, count, digit};
+ghost use Rattle.block.specs.Valid.{Valid};
+ghost use Rattle.game.specs.Rbatl.{moveCost};
+ghost use Rattle.game.specs.Position.{partOf, MoveOf};
+ghost use Rattle.game.specs.Model.{bit, structureOf};
+
+// A team's part of a joint action: the digits of its agents, and 0 for the others.
+pub fn part(team: usize, joint: usize) -> usize
+    ensures { λ r. ⌜ r ≡ partOf (bit team) joint ⌝ }
+{
+    let mut r = 0;
+    if team % 2 == 1 {
+        r += joint % 4;
+    }
+    if team / 2 % 2 == 1 {
+        r += joint / 4 % 4 * 4;
+    }
+    if team / 4 % 2 == 1 {
+        r += joint / 16 % 4 * 16;
+    }
+    r
+}
+
+// What the move m of a team takes of resource j in state s: the sum over the team's agents.
+pub fn cost(block: &[u8], s: usize, team: usize, m: usize, j: usize) -> usize
+    requires { ⌜ Valid (now block) ⌝ }
+    requires { ⌜ (s < states (now block)) × (j < resources (now block)) ⌝ }
+    requires { ⌜ MoveOf (structureOf (now block)) (bit team) s m ⌝ }
+    ensures { λ r. ⌜ (r ≡ moveCost (structureOf (now (block .entry))) (bit team) s (digit m) j) × (r ≤ 45) ⌝ }
+{
+    let n = layout::agents(block);
+    let mut sum = 0;
+    let mut a = 0;
+    let mut rest = team;
+    let mut k = m;
+    while a < n {
+        if rest % 2 == 1 {
+            sum += layout::cost(block, s, a, k % 4, j);
+        }
+        rest = rest / 2;
+        k = k / 4;
+        a += 1;
+    }
+    sum
+}
+
+// Whether k is an action of agent a in state s, or 0 for an agent outside the team.
+fn acts(block: &[u8], s: usize, a: usize, inside: bool, k: usize) -> bool
+    requires { ⌜ Valid (now block) ⌝ }
+    requires { ⌜ (s < states (now block)) × (a < agents (now block)) ⌝ }
+    ensures { λ r. ⌜ Decides (cond inside (k < count (now (block .entry)) s a) (k ≡ 0)) r ⌝ }
+{
+    if inside {
+        return k < layout::count(block, s, a);
+    }
+    k == 0
+}
+
+// Whether m is the number of a move of a team in state s.
+pub fn is_move(block: &[u8], s: usize, team: usize, m: usize) -> bool
+    requires { ⌜ Valid (now block) ⌝ }
+    requires { ⌜ s < states (now block) ⌝ }
+    ensures { λ r. ⌜ Decides (MoveOf (structureOf (now (block .entry))) (bit team) s m) r ⌝ }
+{
+    let n = layout::agents(block);
+    let mut a = 0;
+    let mut rest = team;
+    let mut k = m;
+    while a < n {
+        if !acts(block, s, a, rest % 2 == 1, k % 4) {
+            return false;
+        }
+        rest = rest / 2;
+        k = k / 4;
+        a += 1;
+    }
+    k == 0
+}

@@ -1,0 +1,176 @@
+// Positions of a strategic row: how many stock places each resource has, how many positions there are, and their numbers.
+use crate::moves;
+use block::layout;
+use block::widths::wide;
+ghost use mathlib.Core.Path.{_≡_};
+ghost use Prim.Native.Nat.{_≤_, _<_};
+ghost use lib.ListN.{length};
+ghost use Rattle.block.specs.Decide.{Decides};
+ghost use Rattle.block.specs.Layout as L;
+ghost use Rattle.block.specs.Valid.{Valid};
+ghost use Rattle.game.specs.Rbatl.{moveCost};
+ghost use Rattle.game.specs.Position as P;
+ghost use Rattle.game.specs.Model.{structureOf, coalitionOf, boundsOf, arenaOf};
+ghost use Rattle.turns.specs.Rules.{Pays};
+
+// The stock places of resource j in row i.
+pub fn places(block: &[u8], i: usize, j: usize) -> usize
+    requires { ⌜ Valid (now block) ⌝ }
+    requires { ⌜ (i < L.rows (now block)) × (j < L.resources (now block)) × L.Strategic (L.kind (now block) i) ⌝ }
+    ensures { λ r. ⌜ r ≡ P.places (boundsOf (now (block .entry)) i j) ⌝ }
+{
+    let bound = layout::bound(block, i, j);
+    if bound == 255 {
+        return 1;
+    }
+    bound + 1
+}
+
+// How many stock places row i has in each state.
+pub fn stock_places(block: &[u8], i: usize) -> usize
+    requires { ⌜ Valid (now block) ⌝ }
+    requires { ⌜ (i < L.rows (now block)) × L.Strategic (L.kind (now block) i) ⌝ }
+    ensures { λ r. ⌜ (r ≡ P.stockPlaces (arenaOf (now (block .entry)) i)) × (r ≤ 256) ⌝ }
+{
+    let n = layout::resources(block);
+    let mut c = 1;
+    let mut j = 0;
+    while j < n {
+        c = c * places(block, i, j);
+        j += 1;
+    }
+    c
+}
+
+// How many positions row i has.
+pub fn count(block: &[u8], i: usize) -> usize
+    requires { ⌜ Valid (now block) ⌝ }
+    requires { ⌜ (i < L.rows (now block)) × L.Strategic (L.kind (now block) i) ⌝ }
+    ensures { λ r. ⌜ (r ≡ P.positions (arenaOf (now (block .entry)) i)) × (r ≤ 6144) ⌝ }
+{
+    layout::states(block) * stock_places(block, i)
+}
+
+// The number of the position with state s and the stocks of the list, resource 0 first.
+pub fn number(block: &[u8], i: usize, s: usize, stocks: &[u8]) -> usize
+    requires { ⌜ Valid (now block) ⌝ }
+    requires { ⌜ (i < L.rows (now block)) × L.Strategic (L.kind (now block) i) × (L.resources (now block) ≤ length (now stocks)) ⌝ }
+    requires { ⌜ P.IsPosition (arenaOf (now block) i) (P.position s (now stocks)) ⌝ }
+    ensures { λ r. ⌜ r ≡ P.number (arenaOf (now (block .entry)) i) (P.position s (now (stocks .entry))) ⌝ }
+{
+    let n = layout::resources(block);
+    let mut x = s;
+    let mut j = 0;
+    while j < n {
+        x = x * places(block, i, j) + wide(stocks[j]);
+        j += 1;
+    }
+    x
+}
+
+// What the move m of row i's team takes of resource j in state s: its cost, and nothing of an unlimited resource.
+pub fn taken(block: &[u8], i: usize, s: usize, m: usize, j: usize) -> usize
+    requires { ⌜ Valid (now block) ⌝ }
+    requires { ⌜ (i < L.rows (now block)) × (s < L.states (now block)) × (j < L.resources (now block)) ⌝ }
+    requires { ⌜ P.MoveOf (structureOf (now block)) (coalitionOf (now block) i) s m ⌝ }
+    ensures { λ r. ⌜ (r ≡ P.taken (boundsOf (now (block .entry)) i j) (moveCost (structureOf (now (block .entry))) (coalitionOf (now (block .entry)) i) s (L.digit m) j)) × (r ≤ 45) ⌝ }
+{
+    if layout::bound(block, i, j) == 255 {
+        return 0;
+    }
+    moves::cost(block, s, layout::team(block, i), m, j)
+}
+
+// The number of what the move m of row i's team takes of the stocks in state s.
+pub fn offset(block: &[u8], i: usize, s: usize, m: usize) -> usize
+    requires { ⌜ Valid (now block) ⌝ }
+    requires { ⌜ (i < L.rows (now block)) × L.Strategic (L.kind (now block) i) × (s < L.states (now block)) ⌝ }
+    requires { ⌜ P.MoveOf (structureOf (now block)) (coalitionOf (now block) i) s m ⌝ }
+    ensures { λ r. ⌜ r ≡ P.offset (arenaOf (now (block .entry)) i) (P.full (arenaOf (now (block .entry)) i) s) m ⌝ }
+{
+    let n = layout::resources(block);
+    let mut x = 0;
+    let mut j = 0;
+    while j < n {
+        x = x * places(block, i, j) + taken(block, i, s, m, j);
+        j += 1;
+    }
+    x
+}
+
+// Whether a stock of resource j pays for the move m of row i's team in state s; an unlimited resource binds nothing.
+pub fn pays(block: &[u8], i: usize, s: usize, m: usize, j: usize, stock: usize) -> bool
+    requires { ⌜ Valid (now block) ⌝ }
+    requires { ⌜ (i < L.rows (now block)) × (s < L.states (now block)) × (j < L.resources (now block)) ⌝ }
+    requires { ⌜ P.MoveOf (structureOf (now block)) (coalitionOf (now block) i) s m ⌝ }
+    ensures { λ r. ⌜ Decides (Pays (now (block .entry)) i s m j stock) r ⌝ }
+{
+    taken(block, i, s, m, j) <= stock
+}
+
+// Whether the move m of row i's team is affordable in state s with the stocks of the list.
+pub fn affordable(block: &[u8], i: usize, s: usize, stocks: &[u8], m: usize) -> bool
+    requires { ⌜ Valid (now block) ⌝ }
+    requires { ⌜ (i < L.rows (now block)) × (s < L.states (now block)) × (L.resources (now block) ≤ length (now stocks)) ⌝ }
+    requires { ⌜ P.MoveOf (structureOf (now block)) (coalitionOf (now block) i) s m ⌝ }
+    ensures { λ r. ⌜ Decides (P.Affordable (arenaOf (now (block .entry)) i) (P.position s (now (stocks .entry))) m) r ⌝ }
+{
+    let n = layout::resources(block);
+    let mut j = 0;
+    while j < n {
+        if !pays(block, i, s, m, j, wide(stocks[j])) {
+            return false;
+        }
+        j += 1;
+    }
+    true
+}
+
+// What remains of a stock of resource j after the move m of row i's team in state s.
+pub fn remaining(block: &[u8], i: usize, s: usize, m: usize, j: usize, stock: usize) -> usize
+    requires { ⌜ Valid (now block) ⌝ }
+    requires { ⌜ (i < L.rows (now block)) × (s < L.states (now block)) × (j < L.resources (now block)) ⌝ }
+    requires { ⌜ P.MoveOf (structureOf (now block)) (coalitionOf (now block) i) s m ⌝ }
+    requires { ⌜ Pays (now block) i s m j stock ⌝ }
+    ensures { λ r. ⌜ r ≡ P.remaining (boundsOf (now (block .entry)) i j) stock (moveCost (structureOf (now (block .entry))) (coalitionOf (now (block .entry)) i) s (L.digit m) j) ⌝ }
+{
+    if layout::bound(block, i, j) == 255 {
+        return 0;
+    }
+    stock - taken(block, i, s, m, j)
+}
+
+// The number of the position where the move m and the reply r lead from state s with the stocks of the list.
+pub fn outcome(block: &[u8], i: usize, s: usize, stocks: &[u8], m: usize, r: usize) -> usize
+    requires { ⌜ Valid (now block) ⌝ }
+    requires { ⌜ (i < L.rows (now block)) × L.Strategic (L.kind (now block) i) × (L.resources (now block) ≤ length (now stocks)) ⌝ }
+    requires { ⌜ P.IsPosition (arenaOf (now block) i) (P.position s (now stocks)) ⌝ }
+    requires { ⌜ P.Allowed (arenaOf (now block) i) (P.position s (now stocks)) m × P.Reply (arenaOf (now block) i) (P.position s (now stocks)) r ⌝ }
+    ensures { λ n. ⌜ n ≡ P.number (arenaOf (now (block .entry)) i) (P.outcome (arenaOf (now (block .entry)) i) (P.position s (now (stocks .entry))) m r) ⌝ }
+{
+    let n = layout::resources(block);
+    let mut x = layout::next(block, s, m + r);
+    let mut j = 0;
+    while j < n {
+        x = x * places(block, i, j) + remaining(block, i, s, m, j, wide(stocks[j]));
+        j += 1;
+    }
+    x
+}
+
+// The number of state s at full stock.
+pub fn full(block: &[u8], i: usize, s: usize) -> usize
+    requires { ⌜ Valid (now block) ⌝ }
+    requires { ⌜ (i < L.rows (now block)) × L.Strategic (L.kind (now block) i) × (s < L.states (now block)) ⌝ }
+    ensures { λ r. ⌜ r ≡ P.number (arenaOf (now (block .entry)) i) (P.full (arenaOf (now (block .entry)) i) s) ⌝ }
+{
+    let n = layout::resources(block);
+    let mut x = s;
+    let mut j = 0;
+    while j < n {
+        let c = places(block, i, j);
+        x = x * c + (c - 1);
+        j += 1;
+    }
+    x
+}
