@@ -29,11 +29,11 @@ use Rattle.game.proofs.Blocks.Reading.{outcome-state}
 use Rattle.turns.proofs.Outcomes.{outcome-at}
 use Rattle.game.proofs.Solving.Sweeping.{same-by-number}
 use Rattle.game.proofs.Local.Exist.{good-exists}
-use Rattle.solver.specs.Places.{PlacedAt, PaysAt}
+use Rattle.sweeps.specs.Places.{PlacedAt, PaysAt}
 use Rattle.solver.specs.Next.{LeadsInto}
 use Rattle.solver.specs.Tables.{RanksOf, MovesOf}
 use Rattle.solver.specs.Choices.{asks, ClaimedBy, MetBy, AimedBy, FirstMove, Tried, OneHits, Chosen, HitAt, HitsIn, HitsAny, OpenAt, ranksOnly}
-use Rattle.solver.proofs.Placing.{stocks-below, placed-number, allowed-here, left-over, replies-here}
+use Rattle.sweeps.proofs.Placing.{stocks-below, placed-number, allowed-here, left-over, replies-here}
 use Rattle.solver.proofs.Choosing.{tried-same}
 
 told : {P : Type 0} {t : Bool} → Decides P t → P → t ≡ true

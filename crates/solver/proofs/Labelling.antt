@@ -28,7 +28,7 @@ use Rattle.solver.specs.Tables.{tableIn, RanksOf}
 use Rattle.solver.specs.Rows.{ClaimsBy, TrueBy}
 use Rattle.solver.proofs.Words.{strategic-stands, until-claims}
 use Rattle.solver.proofs.Ranking.{until-by}
-use Rattle.solver.proofs.Starting.{bit?}
+use Rattle.sweeps.proofs.Starting.{bit?}
 
 says-same : (b : Block) (w : ℕ) (Q Q′ : ℕ → Type 0) → ((s : ℕ) → s < L.states b → Q s ↔ Q′ s) → Says b w Q → Says b w Q′
 says-same b w Q Q′ same (word, (few, says)) = (word, (few, λ s l. ((λ h. same s l .0 (says s l .0 h)), λ q. says s l .1 (same s l .1 q))))

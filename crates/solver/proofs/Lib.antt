@@ -1,15 +1,6 @@
 -- The laws that the solver's parts rest on.
 pub mod Spreading
 pub mod Paying
-pub mod Gathering
-pub mod Placing
-pub mod Widening
-pub mod Valuing
-pub mod Worsts
-pub mod Entries
-pub mod Lowering
-pub mod Sweeping
-pub mod Starting
 pub mod Marking
 pub mod Words
 pub mod Ranking

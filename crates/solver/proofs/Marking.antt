@@ -26,11 +26,11 @@ use Rattle.game.proofs.Solving.Sweeping.{same-by-number}
 use Rattle.game.proofs.Solving.Sides.{unforced}
 use Rattle.game.proofs.Blocks.Passing.{valid-proper, few-positions}
 use Rattle.game.proofs.Blocks.Reading.{outcome-state}
-use Rattle.solver.specs.Places.{PlacedAt, PaysAt}
-use Rattle.solver.specs.Solving.{FirstRank}
+use Rattle.sweeps.specs.Places.{PlacedAt, PaysAt}
+use Rattle.sweeps.specs.Solving.{FirstRank}
 use Rattle.solver.specs.Next.{LeadsInto, Marked, AnyOf, PlaceMarks, MoveMarks, StateMarks, NextRanks}
-use Rattle.solver.proofs.Placing.{placed-number}
-use Rattle.solver.proofs.Starting.{bit?}
+use Rattle.sweeps.proofs.Placing.{placed-number}
+use Rattle.sweeps.proofs.Starting.{bit?}
 
 pub marked-nothing : (Marks : ℕ → Type 0) → ((n : ℕ) → Marks n → ⊥) → (l : List ℕ) → Marked Marks l l
 marked-nothing Marks nothing l = record { each = λ n. inr (nothing n, refl); long = refl }

@@ -16,7 +16,7 @@ use Rattle.turns.specs.Extremes.{Lists}
 use Rattle.game.proofs.Numbers.Decide.{eq?}
 use Rattle.game.proofs.Numbers.Stocks.{taken-fits}
 use Rattle.game.proofs.Local.Same.{same-number-upto}
-use Rattle.solver.specs.Places.{PaysAt, Expanded}
+use Rattle.sweeps.specs.Places.{PaysAt, Expanded}
 
 -- the stocks alone, as a position
 abbrev stocks : (ℕ → ℕ) → Position

@@ -13,7 +13,7 @@ use Rattle.game.specs.Play.{Objective, next, always, until}
 use Rattle.game.specs.Facts.{CanForce, CanAnswer, Ranked, RankFacts}
 use Rattle.turns.specs.Buffers.{rankIn}
 use Rattle.game.specs.Model.{arenaOf, objectiveBy, Says}
-use Rattle.solver.specs.Solving.{Solved}
+use Rattle.sweeps.specs.Solving.{Solved}
 use Rattle.solver.specs.Next.{NextRanks}
 use Rattle.solver.specs.Tables.{RanksOf}
 use Rattle.solver.proofs.Words.{no-bits}

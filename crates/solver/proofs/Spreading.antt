@@ -7,7 +7,7 @@ use native.Mathlib.Omega.{arith}
 use lib.ListN.{getD, length, set, length-set}
 use lib.Seq.{getD-set-same, getD-set-other}
 use Rattle.game.proofs.Numbers.Decide.{eq?}
-use Rattle.solver.specs.Places.{Spread, Expanded}
+use Rattle.sweeps.specs.Places.{Spread, Expanded}
 
 pub spread-none : (l : List ℕ) (at first : ℕ) → Spread l l at 0 first
 spread-none l at first = record { written = λ d below. absurd (omega arith); lower = λ k h. refl; higher = λ k h. refl; kept = refl }

@@ -1,7 +1,7 @@
 // The ranks of a next row: 1 where some affordable move leads into the set whatever the reply.
 use crate::payable;
-use crate::solve;
 use block::layout;
+use sweeps::solve;
 use turns::buffers;
 use turns::moves;
 use turns::positions;
@@ -126,7 +126,7 @@ fn mark_all(block: &[u8], i: usize, c: usize, set: usize, ranks: &mut [u8])
 // The ranks of a next row over the set: 1 where the coalition can, else 65535. Past the last position they are 0.
 pub fn next_ranks(block: &[u8], i: usize, set: usize, ranks: &mut [u8])
     requires { ⌜ Valid (now block) ⌝ }
-    requires { ⌜ (i < L.rows (now block)) × L.Strategic (L.kind (now block) i) × (12288 ≤ length (now ranks)) ⌝ }
+    requires { ⌜ (i < L.rows (now block)) × L.Strategic (L.kind (now block) i) × (length (now ranks) ≡ 12288) ⌝ }
     ensures { λ _. ⌜ NextRanks (now (block .entry)) i set (now (ranks .exit)) × (length (now (ranks .exit)) ≡ length (now (ranks .entry))) ⌝ }
 {
     let c = positions::stock_places(block, i);

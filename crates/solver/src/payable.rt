@@ -9,7 +9,7 @@ ghost use Rattle.block.specs.Valid.{Valid};
 ghost use Rattle.turns.specs.Extremes.{Lists};
 ghost use Rattle.game.specs.Position.{MoveOf};
 ghost use Rattle.game.specs.Model.{structureOf, coalitionOf, arenaOf};
-ghost use Rattle.solver.specs.Places.{PaysAt, Spread, Expanded};
+ghost use Rattle.sweeps.specs.Places.{PaysAt, Spread, Expanded};
 
 // Writes first, first + 1, .. to the n places from `at` on.
 fn spread(out: &mut [usize], at: usize, n: usize, first: usize)

@@ -1,7 +1,7 @@
 // The set of a row: where it is true, with lower rows told by their sets and a strategic row by its ranks.
 use crate::next;
-use crate::solve;
 use block::layout;
+use sweeps::solve;
 use turns::buffers;
 use turns::positions;
 ghost use mathlib.Core.Path.{_≡_};

@@ -11,7 +11,7 @@ use Rattle.turns.specs.Extremes.{Lists}
 use Rattle.game.specs.Model.{arenaOf}
 use Rattle.turns.specs.Rules.{ReplyTo}
 use Rattle.game.proofs.Blocks.Passing.{few-stocks, few-positions}
-use Rattle.solver.proofs.Placing.{some-reply, place-fits}
+use Rattle.sweeps.proofs.Placing.{some-reply, place-fits}
 use Rattle.solver.proofs.Hitting.{lists-tried, place-inside}
 use Rattle.solver.proofs.choose.choose_move.Statement.{statement}
 use Rattle.solver.proofs.choose.choose_move.Tie as tie

@@ -6,7 +6,7 @@ use borrow.Author.Needs.{needs}
 use Rattle.game.specs.Position.{positions}
 use Rattle.turns.specs.Buffers.{rankIn}
 use Rattle.game.specs.Model.{arenaOf}
-use Rattle.solver.specs.Solving.{FirstRank}
+use Rattle.sweeps.specs.Solving.{FirstRank}
 use Rattle.solver.proofs.Marking.{next-found}
 use Rattle.solver.proofs.next.next_ranks.Statement.{statement}
 use Rattle.solver.proofs.next.next_ranks.Tie as tie

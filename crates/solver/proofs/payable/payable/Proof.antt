@@ -13,7 +13,7 @@ use Rattle.turns.specs.Extremes.{Lists}
 use Rattle.game.specs.Position.{places, stockPlacesUpTo}
 use Rattle.game.specs.Model.{boundsOf, arenaOf}
 use Rattle.game.proofs.Blocks.Passing.{few-places, few-stocks}
-use Rattle.solver.specs.Places.{Expanded}
+use Rattle.sweeps.specs.Places.{Expanded}
 use Rattle.solver.proofs.Paying.{PaysUpTo, spent, paying-start, paying-small, paying-next, paying-lists}
 use Rattle.solver.proofs.payable.payable.Statement.{statement}
 use Rattle.solver.proofs.payable.payable.Tie as tie

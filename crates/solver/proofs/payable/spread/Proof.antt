@@ -2,7 +2,7 @@
 use mathlib.Core.Path.{subst}
 use Prim.Native.Nat.{ℕ, _-_, _≤_}
 use native.Mathlib.Omega.{arith}
-use Rattle.solver.specs.Places.{Spread}
+use Rattle.sweeps.specs.Places.{Spread}
 use Rattle.solver.proofs.Spreading.{spread-none, spread-next}
 use Rattle.solver.proofs.payable.spread.Statement.{statement}
 use Rattle.solver.proofs.payable.spread.Tie as tie

@@ -1,0 +1,146 @@
+-- `first_ranks` stores one rank after another, and counts states and their places on the way. Assumes nothing.
+use mathlib.Core.List.{List}
+use mathlib.Core.Path.{_≡_, refl, sym, _∙_, ap, subst}
+use Prim.Native.Nat.{ℕ, suc, _+_, _*_, _-_, _/_, _≤_, _<_}
+use native.Mathlib.Nat.{mul-le-mul-right, suc-mul, mul-add-div-right, div-eq-of-lt, div-lt-iff-lt-mul}
+use native.Mathlib.Numerals.{add-one}
+use native.Mathlib.Omega.{arith}
+use lib.ListN.{length}
+use Rattle.block.specs.Layout as L
+use Rattle.game.specs.Position.{stockPlaces, positions, full}
+use Rattle.turns.specs.Buffers.{rankIn, Stored}
+use Rattle.game.specs.Model.{arenaOf}
+use Rattle.game.proofs.Numbers.Decide.{eq?}
+use Rattle.game.proofs.Bridge.Truth.{full-fits}
+use Rattle.game.proofs.Blocks.Passing.{states-times}
+use Rattle.sweeps.specs.Solving.{FirstRank}
+use Rattle.sweeps.proofs.Placing.{stocks-below}
+use Rattle.sweeps.proofs.solve.first_ranks.Statement.{statement}
+use Rattle.sweeps.proofs.solve.first_ranks.Tie as tie
+
+-- n is the x-th position of state s
+abbrev Placed : ℕ → ℕ → ℕ → ℕ → Type 0
+Placed c n s x = (s ≤ n) × (n ≡ s * c + x) × (x < c)
+
+abbrev Inv-loop : tie.InvT-loop
+Inv-loop block i c goal ranks₀ count n₀ s₀ x₀ ranks n s x =
+    (n ≤ 6144) × (length ranks ≡ length ranks₀) × Placed c n s x × ((k : ℕ) → k < n → FirstRank goal c (positions (arenaOf block i)) k (rankIn ranks k))
+
+abbrev μ-loop : tie.MeasureT-loop
+μ-loop block i c goal ranks₀ count n₀ s₀ x₀ ranks n s x = 6144 - n
+
+count-requires : tie.Need-count-requires Inv-loop μ-loop
+count-requires c κs = (c .before .before .pre .0, c .before .before .pre .1 .0)
+
+module _ (start : tie.Start Inv-loop μ-loop) where
+  some : 0 < start .args .c
+  some =
+      let G = arenaOf (start .args .block .now) (start .args .i) in
+      omega (arith, stocks-below G (full G 0) (full-fits G 0 (omega (arith, start .pre .0 .sized .states-fit))), start .pre .1 .1 .0)
+
+  all : positions (arenaOf (start .args .block .now) (start .args .i)) ≤ 24 * start .args .c
+  all =
+      let b = start .args .block .now in
+      let G = arenaOf b (start .args .i) in
+      let most : L.states b * stockPlaces G ≤ 24 * stockPlaces G = mul-le-mul-right (stockPlaces G) (start .pre .0 .sized .states-fit .1) in
+      omega (arith, most, states-times b (start .pre .0) (start .args .i) (L.resources b), start .pre .1 .1 .0)
+
+loop-holds : tie.Need-loop-holds Inv-loop μ-loop
+loop-holds c = (omega arith, refl, (omega arith, omega arith, some (c .before .before .before)), λ k l. absurd (omega arith))
+
+-- the state of a position is its number's quotient
+quotient : (c n s x : ℕ) → 0 < c → Placed c n s x → n / c ≡ s
+quotient c n s x positive (_, is, small) = ap (λ (k : ℕ). k / c) is ∙ mul-add-div-right positive s x ∙ ap (s +_) (div-eq-of-lt small) ∙ omega arith
+
+first-rank-requires : tie.Need-first-rank-requires Inv-loop μ-loop
+first-rank-requires c κs = λ inside.
+    let start = c .before .before .before .before .before .before in
+    let at = c .before .before .loop in
+    let same = quotient (start .args .c) (at .n) (at .s) (at .x) (some start) (at .inv .2) in
+    let below : at .n / start .args .c < 24 = div-lt-iff-lt-mul (some start) .1 (omega (arith, inside, all start, c .before .before .before .count .ensures .0)) in
+    (same, omega (arith, same, below))
+
+set-rank-requires : tie.Need-set-rank-requires Inv-loop μ-loop
+set-rank-requires c κs = (omega (arith, c .before .before .before .before .before .before .before .pre .1 .1 .1, c .before .before .before .loop .inv .1, c .before .before .loop-test .taken), c .first-rank .ensures .1)
+
+add-n : tie.Need-add-n Inv-loop μ-loop
+add-n c = record { fits = omega (arith, c .before .before .before .before .before .loop-test .taken) }
+
+add-x : tie.Need-add-x Inv-loop μ-loop
+add-x c = record { fits = omega (arith, c .before .before .before .before .before .before .loop .inv .2, c .before .before .before .before .before .loop-test .taken) }
+
+add-s : tie.Need-add-s Inv-loop μ-loop
+add-s c = record { fits = omega (arith, c .before .before .before .before .before .before .before .loop .inv .2 .0, c .before .before .before .before .before .before .loop-test .taken) }
+
+loop-less : tie.Need-loop-less Inv-loop μ-loop
+loop-less c = omega (arith, c .before .before .before .before .before .before .loop-test .taken)
+
+-- one more rank is stored
+more : (goal c count n v : ℕ) (l l′ : List ℕ) → ((k : ℕ) → k < n → FirstRank goal c count k (rankIn l k)) → FirstRank goal c count n v → Stored rankIn l l′ n v → (k : ℕ) → k < n + 1 → FirstRank goal c count k (rankIn l′ k)
+more goal c count n v l l′ so-far first stored k small = go (eq? k n)
+  where
+    go : Dec (k ≡ n) → FirstRank goal c count k (rankIn l′ k)
+    go (yes e) = subst (λ (j : ℕ). FirstRank goal c count j (rankIn l′ j)) (sym e) (subst (FirstRank goal c count n) (sym (stored .stored)) first)
+    go (no ne) = subst (FirstRank goal c count k) (sym (stored .others k ne)) (so-far k (omega arith))
+
+-- the next position, in the next state or in the same
+over : (c n s x : ℕ) → Placed c n s x → x + 1 ≡ c → Placed c (n + 1) (s + 1) 0
+over c n s x (low, is, small) e = (omega arith, omega (arith, suc-mul s c, ap (λ (k : ℕ). k * c) (add-one s)), omega arith)
+
+along : (c n s x : ℕ) → Placed c n s x → (x + 1 ≡ c → ⊥) → Placed c (n + 1) s (x + 1)
+along c n s x (low, is, small) ne = (omega arith, omega arith, omega arith)
+
+loop-again : tie.Need-loop-again Inv-loop μ-loop
+loop-again c =
+    let args = c .before .before .before .before .before .before .before .before .before .before .before .args in
+    let at = c .before .before .before .before .before .before .before .loop in
+    let put = c .before .before .before .set-rank in
+    let first = c .before .before .before .before .first-rank in
+    let rank = subst (λ (count : ℕ). FirstRank (args .goal) (args .c) count (at .n) (first .result)) (c .before .before .before .before .before .before .before .before .count .ensures .0) (first .ensures .0) in (
+      omega (arith, c .before .before .before .before .before .before .loop-test .taken),
+      put .ensures .kept ∙ at .inv .1,
+      over (args .c) (at .n) (at .s) (at .x) (at .inv .2) (c .if1 .taken),
+      more (args .goal) (args .c) (positions (arenaOf (args .block .now) (args .i))) (at .n) (first .result) (at .ranks) (put .last .0) (at .inv .3) rank (put .ensures),
+    )
+
+loop-less-2 : tie.Need-loop-less-2 Inv-loop μ-loop
+loop-less-2 c = omega (arith, c .before .before .before .before .before .before .loop-test .taken)
+
+loop-again-2 : tie.Need-loop-again-2 Inv-loop μ-loop
+loop-again-2 c =
+    let args = c .before .before .before .before .before .before .before .before .before .before .before .args in
+    let at = c .before .before .before .before .before .before .before .loop in
+    let put = c .before .before .before .set-rank in
+    let first = c .before .before .before .before .first-rank in
+    let rank = subst (λ (count : ℕ). FirstRank (args .goal) (args .c) count (at .n) (first .result)) (c .before .before .before .before .before .before .before .before .count .ensures .0) (first .ensures .0) in (
+      omega (arith, c .before .before .before .before .before .before .loop-test .taken),
+      put .ensures .kept ∙ at .inv .1,
+      along (args .c) (at .n) (at .s) (at .x) (at .inv .2) (c .if1 .left),
+      more (args .goal) (args .c) (positions (arenaOf (args .block .now) (args .i))) (at .n) (first .result) (at .ranks) (put .last .0) (at .inv .3) rank (put .ensures),
+    )
+
+same-length : tie.Need-same-length Inv-loop μ-loop
+same-length c = c .before .loop .inv .1
+
+returns : tie.Need-returns Inv-loop μ-loop
+returns c = (λ n l. c .before .loop .inv .3 n (omega (arith, c .loop-test .left)), c .before .loop .inv .1)
+
+pub first-ranks-spec : {M : Type 1} → statement M
+first-ranks-spec =
+    tie.close
+    (tie.spec
+    Inv-loop
+    μ-loop
+    count-requires
+    loop-holds
+    first-rank-requires
+    set-rank-requires
+    add-n
+    add-x
+    add-s
+    loop-less
+    loop-again
+    loop-less-2
+    loop-again-2
+    same-length
+    returns)

@@ -1,0 +1,22 @@
+-- The ranks of an until or an always row, as they are first and as they are found.
+use mathlib.Core.Bool.{Bool}
+use mathlib.Core.List.{List}
+use mathlib.Core.Path.{_≡_}
+use Prim.Native.Nat.{ℕ, _/_, _≤_, _<_}
+use Rattle.block.specs.Decide.{Bit}
+use Rattle.game.specs.Position.{Arena, number, positions}
+use Rattle.game.specs.Table.{never}
+use Rattle.game.specs.Facts.{Ranked}
+use Rattle.turns.specs.Buffers.{rankIn}
+use Rattle.sweeps.specs.Values.{Attacks, Defends}
+
+-- the first rank of position n of count, with c of them in each state
+pub record FirstRank (goal c count n rank : ℕ) : Type 0 where
+  pub at-goal : n < count → Bit goal (n / c) → rank ≡ 0
+  pub elsewhere : n < count → (Bit goal (n / c) → ⊥) → rank ≡ never
+  pub outside : count ≤ n → rank ≡ 0
+
+-- the ranks are right, and 0 past the last position
+pub record Solved (G : Arena) (most : Bool) (safe goal : ℕ) (ranks : List ℕ) : Type 0 where
+  pub ranked : Ranked G (Bit safe) (Bit goal) (λ p. rankIn ranks (number G p)) (Attacks G most) (Defends G most)
+  pub outside : (n : ℕ) → positions G ≤ n → n < 6144 → rankIn ranks n ≡ 0
