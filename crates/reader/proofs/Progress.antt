@@ -11,8 +11,8 @@ use Rattle.block.specs.Layout.{Block}
 use Rattle.text.specs.declared.sizes.Sizes.{Sizes}
 use Rattle.text.specs.Format.{Format, read}
 use Rattle.text.specs.Job.{actsLine, agentLines, noCounts}
-use Rattle.reader.specs.Step.{resume}
-use Rattle.reader.specs.declared.step.Step.{Step}
+use Rattle.scan.specs.Step.{resume}
+use Rattle.scan.specs.declared.step.Step.{Step}
 use Rattle.text.proofs.Loops.{Loop, left-more, turn, finish}
 
 -- the reader's loop has read j turns: it stands at next with the block b, and what is left is the rest of the turns

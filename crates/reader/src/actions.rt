@@ -1,8 +1,8 @@
 // The actions of an agent in a state and their costs.
-use crate::step::Step;
-use crate::steps::past_field;
 use block::layout::Place;
 use block::refusal::Refusal;
+use scan::step::Step;
+use scan::steps::past_field;
 use text::ends::cost_end;
 use text::sizes::Sizes;
 ghost use mathlib.Core.Path.{_≡_};
@@ -11,7 +11,7 @@ ghost use lib.ListN.{length};
 ghost use Rattle.block.specs.Layout.{blockBytes, maxStates, maxAgents, maxActions, maxResources};
 ghost use Rattle.text.specs.Format.{Format, value, read};
 ghost use Rattle.text.specs.Job as J;
-ghost use Rattle.reader.specs.Step.{resume, Inside, Fitting};
+ghost use Rattle.scan.specs.Step.{resume, Inside, Fitting};
 
 fn cost_limit(k: usize) -> usize
     ensures { λ r. ⌜ r ≡ J.costLimit k ⌝ }

@@ -1,14 +1,14 @@
 // The acts lines of a state.
 use crate::actions::actions;
-use crate::step::Step;
-use crate::step::Valued;
-use crate::steps::past_index;
-use crate::steps::past_value;
-use crate::steps::past_word;
-use crate::steps::value_at;
-use crate::steps::value_or;
 use block::layout::Place;
 use block::refusal::Refusal;
+use scan::step::Step;
+use scan::step::Valued;
+use scan::steps::past_index;
+use scan::steps::past_value;
+use scan::steps::past_word;
+use scan::steps::value_at;
+use scan::steps::value_or;
 use text::sizes::Sizes;
 ghost use mathlib.Core.List.{List};
 ghost use mathlib.Core.Path.{_≡_};
@@ -17,7 +17,7 @@ ghost use lib.ListN.{length};
 ghost use Rattle.block.specs.Layout.{blockBytes, maxStates, maxAgents, maxActions};
 ghost use Rattle.text.specs.Format.{Format, read};
 ghost use Rattle.text.specs.Job as J;
-ghost use Rattle.reader.specs.Step.{resume, Inside, Fitting};
+ghost use Rattle.scan.specs.Step.{resume, Inside, Fitting};
 
 // How many actions an agent has, and the step past its line.
 pub fn acts(text: &[u8], at: Step, job: &mut [u8], z: Sizes, s: usize, a: usize) -> Valued

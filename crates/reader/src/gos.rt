@@ -1,10 +1,10 @@
 // The go lines of a state.
-use crate::step::Step;
-use crate::steps::past_field;
-use crate::steps::past_index;
-use crate::steps::past_word;
 use block::layout::Place;
 use block::refusal::Refusal;
+use scan::step::Step;
+use scan::steps::past_field;
+use scan::steps::past_index;
+use scan::steps::past_word;
 use text::joint::digit;
 use text::joint::possible;
 use text::sizes::Sizes;
@@ -15,7 +15,7 @@ ghost use lib.ListN.{length};
 ghost use Rattle.block.specs.Layout.{Block, blockBytes, maxStates, maxAgents, maxJoint};
 ghost use Rattle.text.specs.Format.{Format, read};
 ghost use Rattle.text.specs.Job as J;
-ghost use Rattle.reader.specs.Step.{resume, Inside, Fitting};
+ghost use Rattle.scan.specs.Step.{resume, Inside, Fitting};
 
 // The actions of a joint action, one for each of n agents.
 fn joint_fields(text: &[u8], at: Step, joint: usize, n: usize) -> Step

@@ -1,12 +1,12 @@
 // The first line.
-use crate::step::Step;
-use crate::step::Valued;
-use crate::steps::past_value;
-use crate::steps::past_word;
-use crate::steps::value_at;
-use crate::steps::value_or;
 use block::layout::Place;
 use block::refusal::Refusal;
+use scan::step::Step;
+use scan::step::Valued;
+use scan::steps::past_value;
+use scan::steps::past_word;
+use scan::steps::value_at;
+use scan::steps::value_or;
 use text::sizes::Sizes;
 ghost use mathlib.Core.Path.{_≡_};
 ghost use Prim.Native.Nat.{ℕ, suc, _≤_, _<_};
@@ -14,7 +14,7 @@ ghost use lib.ListN.{length};
 ghost use Rattle.block.specs.Layout.{blockBytes};
 ghost use Rattle.text.specs.Format.{Format, read};
 ghost use Rattle.text.specs.Job as J;
-ghost use Rattle.reader.specs.Step.{resume, Inside, Fitting};
+ghost use Rattle.scan.specs.Step.{resume, Inside, Fitting};
 
 // The sizes of the job, or what stands in for them after a refusal, and the step past the line.
 pub struct Opened {

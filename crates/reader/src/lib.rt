@@ -1,30 +1,25 @@
 // The reader: a text into a block.
 mod actions;
 mod agents;
-mod fields;
 mod gos;
 mod header;
-mod numeral;
 mod rows;
 mod states;
-mod step;
-mod steps;
-mod words;
 
 use block::layout::BLOCK_BYTES;
 use block::refusal::Checked;
 use block::refusal::Refusal;
 use header::header;
 use rows::rows;
+use scan::step::Step;
 use states::states;
-use step::Step;
 use text::TEXT_BYTES;
 ghost use mathlib.Core.Path.{_≡_};
 ghost use lib.ListN.{length};
 ghost use Rattle.block.specs.Layout.{blockBytes};
 ghost use Rattle.text.specs.Format.{end, read};
 ghost use Rattle.text.specs.Job as J;
-ghost use Rattle.reader.specs.Step.{resume, Inside};
+ghost use Rattle.scan.specs.Step.{resume, Inside};
 ghost use Rattle.text.specs.Text.{outcomeOf, readCall, answerTo, blockAfter, Exact, Numbered};
 
 // All lines of the text.

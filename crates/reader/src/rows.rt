@@ -1,12 +1,12 @@
 // The lines of the rows.
-use crate::step::Step;
-use crate::steps::kind_at;
-use crate::steps::past_bound;
-use crate::steps::past_field;
-use crate::steps::past_value;
-use crate::steps::value_or;
 use block::layout::Place;
 use block::refusal::Refusal;
+use scan::step::Step;
+use scan::steps::kind_at;
+use scan::steps::past_bound;
+use scan::steps::past_field;
+use scan::steps::past_value;
+use scan::steps::value_or;
 use text::kinds::binary;
 use text::sizes::Sizes;
 use text::sizes::masks;
@@ -19,7 +19,7 @@ ghost use Rattle.block.specs.Layout.{blockBytes, maxRows, maxResources, propKin
 ghost use Rattle.text.specs.Numeral.{comma, lineEnd};
 ghost use Rattle.text.specs.Format.{Format, value, read};
 ghost use Rattle.text.specs.Job as J;
-ghost use Rattle.reader.specs.Step.{resume, Inside, Fitting};
+ghost use Rattle.scan.specs.Step.{resume, Inside, Fitting};
 
 fn bounds(text: &[u8], at: Step, job: &mut [u8], i: usize, count: usize) -> Step
     requires { ⌜ Inside (now text) at × (length (now job) ≡ blockBytes) ⌝ }

@@ -1,12 +1,12 @@
 // The lines of the states.
 use crate::agents::acts;
 use crate::gos::gos;
-use crate::step::Step;
-use crate::steps::past_field;
-use crate::steps::past_index;
-use crate::steps::past_word;
 use block::layout::Place;
 use block::refusal::Refusal;
+use scan::step::Step;
+use scan::steps::past_field;
+use scan::steps::past_index;
+use scan::steps::past_word;
 use text::sizes::Sizes;
 use text::sizes::masks;
 ghost use mathlib.Core.Path.{_≡_};
@@ -15,7 +15,7 @@ ghost use lib.ListN.{length};
 ghost use Rattle.block.specs.Layout.{blockBytes, maxStates, maxJoint};
 ghost use Rattle.text.specs.Format.{Format, read};
 ghost use Rattle.text.specs.Job as J;
-ghost use Rattle.reader.specs.Step.{resume, Inside, Fitting};
+ghost use Rattle.scan.specs.Step.{resume, Inside, Fitting};
 
 fn state_line(text: &[u8], at: Step, job: &mut [u8], z: Sizes, s: usize) -> Step
     requires { ⌜ Inside (now text) at × (length (now job) ≡ blockBytes) ⌝ }

@@ -6,7 +6,7 @@ use lib.Dec.{lit<, lit≤}
 use Rattle.block.specs.declared.layout.Place.the-variants.{Count}
 use Rattle.text.specs.Format.{Format, value}
 use Rattle.text.specs.Job as J
-use Rattle.reader.proofs.Reading.{ranged-or}
+use Rattle.scan.proofs.Reading.{ranged-or}
 use borrow.Author.Needs.{needs}
 use Rattle.reader.proofs.agents.acts.Statement.{statement}
 use Rattle.reader.proofs.agents.acts.Tie as tie

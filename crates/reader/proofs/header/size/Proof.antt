@@ -3,7 +3,7 @@ use native.Mathlib.Numerals.{add-one}
 use native.Mathlib.Omega.{arith}
 use lib.Dec.{lit≤}
 use Rattle.text.specs.Job as J
-use Rattle.reader.proofs.Reading.{ranged-or}
+use Rattle.scan.proofs.Reading.{ranged-or}
 use borrow.Author.Needs.{needs}
 use Rattle.reader.proofs.header.size.Statement.{statement}
 use Rattle.reader.proofs.header.size.Tie as tie

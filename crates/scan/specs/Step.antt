@@ -1,0 +1,64 @@
+-- What the steps of the reader come to, as reading goes on from there.
+use mathlib.Core.List.{List}
+use Prim.Native.Nat.{ℕ, _≤_, _<_}
+use lib.ListN.{length, drop}
+use Rattle.text.specs.Numeral.{Found, found, missing}
+use Rattle.text.specs.Format.{Outcome, refused}
+use Rattle.block.specs.Layout.{maxAgents, maxResources, maxStates, maxPropositions, maxRows}
+use Rattle.text.specs.declared.sizes.Sizes.{Sizes}
+use Rattle.scan.specs.declared.step.Step.{Step}
+use Rattle.scan.specs.declared.step.Step.the-variants as step
+use Rattle.scan.specs.declared.step.Value.{Value}
+use Rattle.scan.specs.declared.step.Value.the-variants as value
+use Rattle.scan.specs.declared.step.Numeral.{Numeral}
+use Rattle.scan.specs.declared.step.Numeral.the-variants as numeral
+
+-- reading goes on with the text from the next place, or ends
+abbrev pub resume : List ℕ → Step → (List ℕ → Outcome) → Outcome
+resume t (step.Next next) f = f (drop next t)
+resume t (step.Refused r) f = refused r
+
+abbrev pub resumeWith : List ℕ → Value → (ℕ → List ℕ → Outcome) → Outcome
+resumeWith t (value.At v next) f = f v (drop next t)
+resumeWith t (value.Refused r) f = refused r
+
+-- the step past a value
+abbrev pub pastValue : Value → Step
+pastValue (value.At v next) = step.Next next
+pastValue (value.Refused r) = step.Refused r
+
+-- a value, or another number where there is none
+abbrev pub valueOr : ℕ → Value → ℕ
+valueOr d (value.At v next) = v
+valueOr d (value.Refused r) = d
+
+-- a value, where there is one, is from low to below limit
+abbrev pub Ranged : ℕ → ℕ → Value → Type 0
+Ranged low limit (value.At v next) = (low ≤ v) × (v < limit)
+Ranged low limit (value.Refused r) = Unit {0}
+
+-- the number found in the text, as a search finds it
+abbrev pub foundAt : List ℕ → Numeral → Found
+foundAt t (numeral.Found n next) = found n (drop next t)
+foundAt t numeral.Missing = missing
+
+-- the next place lies within the text
+abbrev pub Inside : List ℕ → Step → Type 0
+Inside t (step.Next next) = next ≤ length t
+Inside t (step.Refused r) = Unit {0}
+
+abbrev pub InsideWith : List ℕ → Value → Type 0
+InsideWith t (value.At v next) = (v < 256) × (next ≤ length t)
+InsideWith t (value.Refused r) = Unit {0}
+
+abbrev pub InsideNumeral : List ℕ → Numeral → Type 0
+InsideNumeral t (numeral.Found n next) = (n < 258) × (next ≤ length t)
+InsideNumeral t numeral.Missing = Unit {0}
+
+-- the sizes are in range
+pub record Fitting (z : Sizes) : Type 0 where
+  pub agents-fit : (1 ≤ z .agents) × (z .agents ≤ maxAgents)
+  pub resources-fit : (1 ≤ z .resources) × (z .resources ≤ maxResources)
+  pub states-fit : (1 ≤ z .states) × (z .states ≤ maxStates)
+  pub propositions-fit : (1 ≤ z .propositions) × (z .propositions ≤ maxPropositions)
+  pub rows-fit : (1 ≤ z .rows) × (z .rows ≤ maxRows)

@@ -1,0 +1,141 @@
+// The fields of a line: numbers that are known, bytes of the block, bounds, and the words of the rows.
+use crate::numeral::number;
+use crate::step::Numeral;
+use crate::step::Step;
+use crate::step::Value;
+use crate::words::word_or;
+use block::layout;
+use block::layout::Place;
+use block::refusal::Refusal;
+ghost use mathlib.Core.Path.{_≡_};
+ghost use Prim.Native.Nat.{ℕ, _≤_, _<_};
+ghost use lib.ListN.{length, drop, set};
+ghost use Rattle.block.specs.Layout.{Block, blockBytes, placeOf, InLayout};
+ghost use Rattle.text.specs.Format.{Format, value, read};
+ghost use Rattle.text.specs.Job as J;
+ghost use Rattle.scan.specs.Step.{resume, resumeWith, Inside, InsideWith, InsideNumeral, Ranged, foundAt};
+ghost use Rattle.text.specs.Numeral.{search};
+
+// Past the number n and a comma, which must stand there.
+pub fn index(text: &[u8], at: usize, n: usize) -> Step
+    requires { ⌜ (at ≤ length (now text)) × (n < 256) ⌝ }
+    ensures { λ r. ⌜ ((f : Format) (b : Block) → read (J.index n f) b (drop at (now (text .entry))) ≡ resume (now (text .entry)) r (read f b)) ⌝ }
+    ensures { λ r. ⌜ Inside (now (text .entry)) r ⌝ }
+{
+    match number(text, at, 44) {
+        Numeral::Found(m, next) => {
+            if m == n {
+                Step::Next(next)
+            } else {
+                Step::Refused(Refusal::Form)
+            }
+        }
+        Numeral::Missing => Step::Refused(Refusal::Form),
+    }
+}
+
+// Stores a byte of the block.
+fn put(job: &mut [u8], x: Place, v: usize)
+    requires { ⌜ length (now job) ≡ blockBytes ⌝ }
+    requires { ⌜ InLayout x × (v < 256) ⌝ }
+    ensures { λ _. ⌜ now (job .exit) ≡ set (now (job .entry)) (placeOf x) v ⌝ }
+{
+    let p = layout::offset(x);
+    job[p] = (v % 256) as u8;
+}
+
+// A number from low to below limit, stored at a place of the block.
+pub fn field(
+    text: &[u8],
+    at: usize,
+    job: &mut [u8],
+    x: Place,
+    sep: usize,
+    low: usize,
+    limit: usize,
+    refusal: Refusal,
+) -> Value
+    requires { ⌜ (at ≤ length (now text)) × ((0 < sep) × (sep < 48)) ⌝ }
+    requires { ⌜ (length (now job) ≡ blockBytes) × InLayout x ⌝ }
+    ensures { λ r. ⌜ ((k : ℕ → Format) → read (value (J.number sep low limit refusal) x k) (now (job .entry)) (drop at (now (text .entry))) ≡ resumeWith (now (text .entry)) r (λ v rest. read (k v) (now (job .exit)) rest)) ⌝ }
+    ensures { λ r. ⌜ InsideWith (now (text .entry)) r ⌝ }
+    ensures { λ r. ⌜ Ranged low limit r ⌝ }
+{
+    match number(text, at, sep) {
+        Numeral::Found(n, next) => {
+            if n < low {
+                return Value::Refused(refusal);
+            }
+            if limit <= n {
+                return Value::Refused(refusal);
+            }
+            put(job, x, n);
+            Value::At(n, next)
+        }
+        Numeral::Missing => Value::Refused(Refusal::Form), // the form comes before the value
+    }
+}
+
+// A bound, stored at a place of the block.
+pub fn bound(text: &[u8], at: usize, job: &mut [u8], x: Place) -> Value
+    requires { ⌜ at ≤ length (now text) ⌝ }
+    requires { ⌜ (length (now job) ≡ blockBytes) × InLayout x ⌝ }
+    ensures { λ r. ⌜ ((k : ℕ → Format) → read (value J.bound x k) (now (job .entry)) (drop at (now (text .entry))) ≡ resumeWith (now (text .entry)) r (λ v rest. read (k v) (now (job .exit)) rest)) ⌝ }
+    ensures { λ r. ⌜ InsideWith (now (text .entry)) r ⌝ }
+{
+    match bound_at(text, at) {
+        Numeral::Found(o, next) => {
+            if 256 <= o {
+                put(job, x, 255);
+                return Value::At(255, next);
+            }
+            if 16 <= o {
+                return Value::Refused(Refusal::Row);
+            }
+            put(job, x, o);
+            Value::At(o, next)
+        }
+        Numeral::Missing => Value::Refused(Refusal::Form),
+    }
+}
+
+// The spelling of a bound that stands at a place of the text.
+fn bound_at(text: &[u8], at: usize) -> Numeral
+    requires { ⌜ at ≤ length (now text) ⌝ }
+    ensures { λ r. ⌜ search (J.bound .spell) 258 (drop at (now (text .entry))) ≡ foundAt (now (text .entry)) r ⌝ }
+    ensures { λ r. ⌜ InsideNumeral (now (text .entry)) r ⌝ }
+{
+    let n = number(text, at, 44);
+    let inf = word_or(text, at, b"inf,", 256, n);
+    word_or(text, at, b",", 257, inf)
+}
+
+// The word of a row, stored as the row's kind.
+pub fn kind(text: &[u8], at: usize, job: &mut [u8], x: Place) -> Value
+    requires { ⌜ at ≤ length (now text) ⌝ }
+    requires { ⌜ (length (now job) ≡ blockBytes) × InLayout x ⌝ }
+    ensures { λ r. ⌜ ((k : ℕ → Format) → read (value J.kindSpelling x k) (now (job .entry)) (drop at (now (text .entry))) ≡ resumeWith (now (text .entry)) r (λ v rest. read (k v) (now (job .exit)) rest)) ⌝ }
+    ensures { λ r. ⌜ InsideWith (now (text .entry)) r ⌝ }
+    ensures { λ r. ⌜ Ranged 0 6 r ⌝ }
+{
+    match kind_at(text, at) {
+        Numeral::Found(k, next) => {
+            put(job, x, k);
+            Value::At(k, next)
+        }
+        Numeral::Missing => Value::Refused(Refusal::Form),
+    }
+}
+
+fn kind_at(text: &[u8], at: usize) -> Numeral
+    requires { ⌜ at ≤ length (now text) ⌝ }
+    ensures { λ r. ⌜ search J.kindWord 6 (drop at (now (text .entry))) ≡ foundAt (now (text .entry)) r ⌝ }
+    ensures { λ r. ⌜ InsideNumeral (now (text .entry)) r ⌝ }
+{
+    let a = word_or(text, at, b"prop,", 0, Numeral::Missing);
+    let b = word_or(text, at, b"not,", 1, a);
+    let c = word_or(text, at, b"or,", 2, b);
+    let d = word_or(text, at, b"next,", 3, c);
+    let e = word_or(text, at, b"always,", 4, d);
+    word_or(text, at, b"until,", 5, e)
+}

@@ -1,0 +1,128 @@
+// One step of reading after another: each goes on from the last, and a refusal stays.
+use crate::fields::bound;
+use crate::fields::field;
+use crate::fields::index;
+use crate::fields::kind;
+use crate::step::Step;
+use crate::step::Value;
+use crate::words::word;
+use block::layout::Place;
+use block::refusal::Refusal;
+ghost use mathlib.Core.List.{List};
+ghost use mathlib.Core.Path.{_≡_};
+ghost use Prim.Native.Nat.{ℕ, _≤_, _<_};
+ghost use lib.ListN.{length};
+ghost use Rattle.block.specs.Layout.{Block, blockBytes, InLayout};
+ghost use Rattle.text.specs.Format.{Format, exactly, value, read};
+ghost use Rattle.text.specs.Job as J;
+ghost use Rattle.scan.specs.Step.{resume, pastValue, valueOr, Ranged, Inside};
+
+// Past the word.
+pub fn past_word(text: &[u8], at: Step, w: &[u8]) -> Step
+    requires { ⌜ Inside (now text) at ⌝ }
+    ensures { λ r. ⌜ ((f : Format) (b : Block) → resume (now (text .entry)) at (read (exactly (now (w .entry)) f) b) ≡ resume (now (text .entry)) r (read f b)) ⌝ }
+    ensures { λ r. ⌜ Inside (now (text .entry)) r ⌝ }
+{
+    match at {
+        Step::Next(next) => word(text, next, w),
+        Step::Refused(r) => Step::Refused(r),
+    }
+}
+
+// Past the number n and a comma.
+pub fn past_index(text: &[u8], at: Step, n: usize) -> Step
+    requires { ⌜ Inside (now text) at × (n < 256) ⌝ }
+    ensures { λ r. ⌜ ((f : Format) (b : Block) → resume (now (text .entry)) at (read (J.index n f) b) ≡ resume (now (text .entry)) r (read f b)) ⌝ }
+    ensures { λ r. ⌜ Inside (now (text .entry)) r ⌝ }
+{
+    match at {
+        Step::Next(next) => index(text, next, n),
+        Step::Refused(r) => Step::Refused(r),
+    }
+}
+
+// A number from low to below limit, stored at a place of the block.
+pub fn value_at(
+    text: &[u8],
+    at: Step,
+    job: &mut [u8],
+    x: Place,
+    sep: usize,
+    low: usize,
+    limit: usize,
+    refusal: Refusal,
+) -> Value
+    requires { ⌜ Inside (now text) at × ((0 < sep) × (sep < 48)) ⌝ }
+    requires { ⌜ (length (now job) ≡ blockBytes) × InLayout x ⌝ }
+    ensures { λ r. ⌜ ((d : ℕ) (k : ℕ → Format) → resume (now (text .entry)) at (read (value (J.number sep low limit refusal) x k) (now (job .entry))) ≡ resume (now (text .entry)) (pastValue r) (read (k (valueOr d r)) (now (job .exit)))) ⌝ }
+    ensures { λ r. ⌜ Inside (now (text .entry)) (pastValue r) × Ranged low limit r ⌝ }
+{
+    match at {
+        Step::Next(next) => field(text, next, job, x, sep, low, limit, refusal),
+        Step::Refused(r) => Value::Refused(r),
+    }
+}
+
+// Past such a number.
+pub fn past_field(
+    text: &[u8],
+    at: Step,
+    job: &mut [u8],
+    x: Place,
+    sep: usize,
+    low: usize,
+    limit: usize,
+    refusal: Refusal,
+) -> Step
+    requires { ⌜ Inside (now text) at × ((0 < sep) × (sep < 48)) ⌝ }
+    requires { ⌜ (length (now job) ≡ blockBytes) × InLayout x ⌝ }
+    ensures { λ r. ⌜ ((f : Format) → resume (now (text .entry)) at (read (value (J.number sep low limit refusal) x (λ v. f)) (now (job .entry))) ≡ resume (now (text .entry)) r (read f (now (job .exit)))) ⌝ }
+    ensures { λ r. ⌜ Inside (now (text .entry)) r ⌝ }
+{
+    past_value(value_at(text, at, job, x, sep, low, limit, refusal))
+}
+
+// A bound, and the kind of a row by its word.
+pub fn past_bound(text: &[u8], at: Step, job: &mut [u8], x: Place) -> Step
+    requires { ⌜ Inside (now text) at ⌝ }
+    requires { ⌜ (length (now job) ≡ blockBytes) × InLayout x ⌝ }
+    ensures { λ r. ⌜ ((f : Format) → resume (now (text .entry)) at (read (value J.bound x (λ v. f)) (now (job .entry))) ≡ resume (now (text .entry)) r (read f (now (job .exit)))) ⌝ }
+    ensures { λ r. ⌜ Inside (now (text .entry)) r ⌝ }
+{
+    match at {
+        Step::Next(next) => past_value(bound(text, next, job, x)),
+        Step::Refused(r) => Step::Refused(r),
+    }
+}
+
+pub fn kind_at(text: &[u8], at: Step, job: &mut [u8], x: Place) -> Value
+    requires { ⌜ Inside (now text) at ⌝ }
+    requires { ⌜ (length (now job) ≡ blockBytes) × InLayout x ⌝ }
+    ensures { λ r. ⌜ ((d : ℕ) (k : ℕ → Format) → resume (now (text .entry)) at (read (value J.kindSpelling x k) (now (job .entry))) ≡ resume (now (text .entry)) (pastValue r) (read (k (valueOr d r)) (now (job .exit)))) ⌝ }
+    ensures { λ r. ⌜ Inside (now (text .entry)) (pastValue r) × Ranged 0 6 r ⌝ }
+{
+    match at {
+        Step::Next(next) => kind(text, next, job, x),
+        Step::Refused(r) => Value::Refused(r),
+    }
+}
+
+// Past a value, whatever it is.
+pub fn past_value(v: Value) -> Step
+    ensures { λ r. ⌜ r ≡ pastValue v ⌝ }
+{
+    match v {
+        Value::At(_, next) => Step::Next(next),
+        Value::Refused(r) => Step::Refused(r),
+    }
+}
+
+// A value, or d where there is none.
+pub fn value_or(d: usize, v: Value) -> usize
+    ensures { λ r. ⌜ r ≡ valueOr d v ⌝ }
+{
+    match v {
+        Value::At(n, _) => n,
+        Value::Refused(_) => d,
+    }
+}
