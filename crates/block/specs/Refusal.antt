@@ -6,6 +6,8 @@ use Rattle.block.specs.declared.refusal.Refusal.{Refusal}
 use Rattle.block.specs.declared.refusal.Refusal.the-variants.{Length, Sizes, State, Next, Row, Unused, Form, RowChoice, Position, WrongSide, Move}
 use Rattle.block.specs.declared.refusal.Checked.{Checked}
 use Rattle.block.specs.declared.refusal.Checked.the-variants.{Passed, Refused}
+use Rattle.block.specs.declared.refusal.Answer.{Answer}
+use Rattle.block.specs.declared.refusal.Answer.the-variants as answer
 
 abbrev pub numberOf : Refusal → ℕ
 numberOf Length = 1
@@ -24,6 +26,11 @@ numberOf Move = 11
 abbrev pub answerOf : Checked → ℕ
 answerOf Passed = 0
 answerOf (Refused r) = numberOf r
+
+-- the number of an answer: 0 for a value
+abbrev pub answerNumber : Answer → ℕ
+answerNumber (answer.Value n) = 0
+answerNumber (answer.Refused r) = numberOf r
 
 -- n is the number of the first refusal of a list whose condition holds, or 0 where none holds
 pub data First (Holds : Refusal → Type 0) : List Refusal → ℕ → Type 0 where

@@ -22,6 +22,12 @@ pub enum Checked {
     Refused(Refusal),
 }
 
+// The answer of a call that gives a value.
+pub enum Answer {
+    Value(usize),
+    Refused(Refusal),
+}
+
 // Document 01's number.
 pub fn number(r: Refusal) -> u8
     ensures { λ n. ⌜ n ≡ numberOf r ⌝ }

@@ -1,8 +1,8 @@
 // Reads the text of a job on standard input and prints its listing. It only moves bytes: what is printed is made by `report`.
+use block::refusal::Answer;
 use block::refusal::Refusal;
 use libc::STDIN_FILENO;
 use libc::STDOUT_FILENO;
-use lookup::answer::Answer;
 use solver::sizes;
 use text::TEXT_BYTES;
 ghost use Prim.Native.Nat.{_≤_};

@@ -2,7 +2,7 @@
 use mathlib.Core.List.{List, _++_}
 use mathlib.Core.Logic.{_⊎_, ⊎-elim}
 use mathlib.Core.Path.{_≡_, refl}
-use Prim.Native.Nat.{ℕ, _-_, _^_, _≤_, _<_}
+use Prim.Native.Nat.{ℕ, _-_, _≤_, _<_}
 use native.Mathlib.Omega.{arith}
 use lib.Count.{ones}
 use lib.ListN.{length, take, replicate}
@@ -11,31 +11,19 @@ use Rattle.block.specs.Layout as L
 use Rattle.block.specs.Layout.{Block}
 use Rattle.block.specs.Refusal.{numberOf, First}
 use Rattle.block.specs.Check.{Verdict}
-use Rattle.block.specs.Valid.{Valid}
 use Rattle.block.specs.declared.refusal.Refusal.{Refusal}
 use Rattle.block.specs.declared.refusal.Refusal.the-variants.{Length, RowChoice}
 use Rattle.block.specs.declared.refusal.Checked.the-variants as checked
-use Rattle.block.proofs.Masks.{bit-above}
 use Rattle.block.proofs.Passing.{passing}
 use Rattle.game.specs.Model.{RowSet}
-use Rattle.game.proofs.Numbers.Decide.{lt?}
 use Rattle.solver.specs.Calls.{roomBytes, rowOrder, RoomAfter}
-use Rattle.solver.proofs.Calls.{cleared, row-length, row-broken, row-missing, row-answered}
-use Rattle.lookup.specs.declared.answer.Answer.{Answer}
-use Rattle.lookup.specs.declared.answer.Answer.the-variants as answer
-use Rattle.lookup.specs.Sets.{statesBytes, Lists}
+use Rattle.turns.proofs.Bytes.{cleared}
+use Rattle.solver.proofs.Calls.{row-length, row-broken, row-missing, row-answered}
+use Rattle.block.specs.declared.refusal.Answer.{Answer}
+use Rattle.block.specs.declared.refusal.Answer.the-variants as answer
+use Rattle.turns.specs.Listed.{statesBytes, Lists}
 use Rattle.lookup.specs.States.{Unlisted, Admitted, StatesIn, frontOf, StatesCall}
-use Rattle.lookup.proofs.Listing.{lists-same}
-
--- a row's set has bits of states alone
-pub set-small : (b : Block) → Valid b → (i w : ℕ) → RowSet b i w → w < 2 ^ 24
-set-small b valid i w told = go (lt? w (2 ^ 24))
-  where
-    go : Dec (w < 2 ^ 24) → w < 2 ^ 24
-    go (yes l) = l
-    go (no large) =
-        let (s, far, one) = bit-above 24 w (λ none. omega arith) in
-        absurd (omega (arith, told .1 s .0 one .0, valid .sized .states-fit))
+use Rattle.turns.proofs.Listing.{lists-same}
 
 -- the states of a row's set are those in which the row is true
 pub set-states : (b : Block) (i w : ℕ) (list : List ℕ) (n : ℕ) → RowSet b i w → Lists (Bit w) list n × (n ≡ ones w) → StatesIn b i list n

@@ -4,5 +4,4 @@ pub mod Searching
 pub mod Answering
 pub mod Refusing
 pub mod Replying
-pub mod Listing
 pub mod Calls

@@ -21,8 +21,8 @@ use Rattle.solver.specs.Calls.{roomBytes, NoChoice}
 use Rattle.lookup.specs.Aims.{NoPosition}
 use Rattle.game.specs.Demand.{RowMove, RowReply}
 use Rattle.lookup.specs.Calls.{CoalitionAnswer, OpponentsAnswer, Unplaced, Found, MoveFound, ReplyFound, Call}
-use Rattle.lookup.specs.declared.answer.Answer.{Answer}
-use Rattle.lookup.specs.declared.answer.Answer.the-variants as answer
+use Rattle.block.specs.declared.refusal.Answer.{Answer}
+use Rattle.block.specs.declared.refusal.Answer.the-variants as answer
 
 -- a position that is not refused is one of the row
 pub placed : (b : Block) → Valid b → (i s : ℕ) (stocks : List ℕ) → (NoPosition b i s stocks → ⊥) → IsPosition (arenaOf b i) (position s stocks)

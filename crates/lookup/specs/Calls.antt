@@ -5,7 +5,7 @@ use mathlib.Core.Path.{_≡_}
 use Prim.Native.Nat.{ℕ, _<_}
 use lib.ListN.{length}
 use Rattle.block.specs.Layout.{Block}
-use Rattle.block.specs.Refusal.{numberOf, First}
+use Rattle.block.specs.Refusal.{First, answerNumber}
 use Rattle.block.specs.Check.{Broken, blockOrder}
 use Rattle.block.specs.declared.refusal.Refusal.{Refusal}
 use Rattle.block.specs.declared.refusal.Refusal.the-variants as refusal
@@ -15,13 +15,8 @@ use Rattle.game.specs.Model.{arenaOf, objectiveOf}
 use Rattle.game.specs.Demand.{RowMove, RowReply}
 use Rattle.solver.specs.Calls.{roomBytes, RoomAfter, NoChoice}
 use Rattle.lookup.specs.Aims.{NoPosition}
-use Rattle.lookup.specs.declared.answer.Answer.{Answer}
-use Rattle.lookup.specs.declared.answer.Answer.the-variants as answer
-
--- the number of an answer, 0 for a value
-abbrev pub answerNumber : Answer → ℕ
-answerNumber (answer.Value n) = 0
-answerNumber (answer.Refused r) = numberOf r
+use Rattle.block.specs.declared.refusal.Answer.{Answer}
+use Rattle.block.specs.declared.refusal.Answer.the-variants as answer
 
 -- the conditions that both calls refuse: those of the block and the room, 8 and 9
 abbrev pub Unplaced : Block → ℕ → ℕ → List ℕ → List ℕ → Refusal → Type 0

@@ -1,5 +1,4 @@
 -- What the calls about one position or one row promise.
 pub mod Aims
 pub mod Calls
-pub mod Sets
 pub mod States

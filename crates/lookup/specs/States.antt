@@ -7,7 +7,7 @@ use lib.Count.{ones}
 use lib.ListN.{length, take}
 use Rattle.block.specs.Layout as L
 use Rattle.block.specs.Layout.{Block}
-use Rattle.block.specs.Refusal.{numberOf, answerOf, First}
+use Rattle.block.specs.Refusal.{numberOf, answerOf, First, answerNumber}
 use Rattle.block.specs.Check.{Broken}
 use Rattle.block.specs.Valid.{Valid}
 use Rattle.block.specs.declared.refusal.Refusal.{Refusal}
@@ -16,10 +16,9 @@ use Rattle.block.specs.declared.refusal.Checked.{Checked}
 use Rattle.block.specs.declared.refusal.Checked.the-variants as checked
 use Rattle.game.specs.Model.{RowTrue, RowSet}
 use Rattle.solver.specs.Calls.{roomBytes, rowOrder, RoomAfter}
-use Rattle.lookup.specs.declared.answer.Answer.{Answer}
-use Rattle.lookup.specs.declared.answer.Answer.the-variants as answer
-use Rattle.lookup.specs.Calls.{answerNumber}
-use Rattle.lookup.specs.Sets.{statesBytes, Lists}
+use Rattle.block.specs.declared.refusal.Answer.{Answer}
+use Rattle.block.specs.declared.refusal.Answer.the-variants as answer
+use Rattle.turns.specs.Listed.{statesBytes, Lists}
 
 -- the conditions that are refused, with a list and a room of these lengths. Every kind of row has states, so 8 is a row that does not exist
 abbrev pub Unlisted : Block → ℕ → ℕ → ℕ → Refusal → Type 0

@@ -1,9 +1,9 @@
 // The team's move at a position.
 use crate::aims;
-use crate::answer::Answer;
 use crate::place;
 use block::fill;
 use block::layout;
+use block::refusal::Answer;
 use block::refusal::Checked;
 use block::refusal::Refusal;
 use solver::sizes;

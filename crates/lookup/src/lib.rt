@@ -1,9 +1,7 @@
 // What may be asked about one position or one row: the team's move, the reply to it, and the states of a row.
 mod aims;
-pub mod answer;
 pub mod coalition;
 pub mod opponents;
 mod place;
 mod room;
-pub mod sets;
 pub mod states;

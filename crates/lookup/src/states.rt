@@ -1,14 +1,14 @@
 // The states in which a row is true, listed in a lent buffer of 24 bytes.
-use crate::answer::Answer;
 use crate::room;
-use crate::sets;
 use block::fill;
 use block::layout;
+use block::refusal::Answer;
 use block::refusal::Checked;
 use block::refusal::Refusal;
 use solver::label;
 use solver::sizes;
 use turns::buffers;
+use turns::sets;
 ghost use mathlib.Core.Path.{_≡_};
 ghost use Prim.Native.Nat.{_<_};
 ghost use lib.ListN.{length};

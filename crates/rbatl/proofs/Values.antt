@@ -9,12 +9,13 @@ use mir.Syntax.{w32}
 use mir.Val.{SFits}
 use Rattle.block.specs.Layout.{Block}
 use Rattle.block.specs.declared.refusal.Refusal.{Refusal}
+use Rattle.block.specs.declared.refusal.Answer.{Answer}
+use Rattle.block.specs.declared.refusal.Answer.the-variants as answer
 use Rattle.lookup.specs.Calls.{ValueIs, Call}
 use Rattle.lookup.specs.States.{StatesCall}
-use Rattle.lookup.specs.declared.answer.Answer.{Answer}
-use Rattle.lookup.specs.declared.answer.Answer.the-variants as answer
 use Rattle.report.specs.Call.{listingBytes, ListingCall}
 use Rattle.report.proofs.Printing.{listing-fits}
+use Rattle.writer.specs.Call.{Filled, WriteCall}
 use Rattle.rbatl.specs.Answer.{Small}
 
 pub small : {n : ℕ} → n ≤ listingBytes → SFits w32 (pos n)
@@ -30,6 +31,13 @@ small-value {right = right} {a = a} call least = go a (call .found .value)
 pub small-count : (b : Block) (i : ℕ) (list room list′ room′ : List ℕ) (a : Answer) → StatesCall b i list room list′ room′ a → Small a
 small-count b i list room list′ room′ (answer.Value n) call = omega (arith, call .list-after .lists .fits)
 small-count b i list room list′ room′ (answer.Refused r) call = tt
+
+pub small-text : {b : Block} {t u : List ℕ} {a : Answer} → WriteCall b t u a → Small a
+small-text {b} {t} {u} {a} call = go a (call .filled)
+  where
+    go : (a : Answer) → Filled b t u a → Small a
+    go (answer.Value n) filled = filled .fits
+    go (answer.Refused r) _ = tt
 
 pub small-listing : (text out ranks moves out′ ranks′ moves′ : List ℕ) (a : Answer) → ListingCall text out ranks moves out′ ranks′ moves′ a → Small a
 small-listing text out ranks moves out′ ranks′ moves′ (answer.Value n) call = listing-fits text out ranks moves out′ ranks′ moves′ n call

@@ -7,20 +7,28 @@ use Rattle.block.specs.Layout.{Block}
 use Rattle.block.specs.Refusal.{numberOf, answerOf}
 use Rattle.block.specs.Check.{Verdict}
 use Rattle.block.specs.declared.refusal.Checked.{Checked}
+use Rattle.block.specs.declared.refusal.Answer.{Answer}
+use Rattle.block.specs.declared.refusal.Answer.the-variants as answer
 use Rattle.text.specs.Text.{readCall, answerTo}
 use Rattle.solver.specs.Calls.{LabelCall, TableCall}
 use Rattle.lookup.specs.Calls.{MoveCall, ReplyCall}
 use Rattle.lookup.specs.States.{StatesCall, RefusalCall}
-use Rattle.lookup.specs.declared.answer.Answer.{Answer}
-use Rattle.lookup.specs.declared.answer.Answer.the-variants as answer
 use Rattle.report.specs.Call.{listingBytes, ListingCall}
 use Rattle.writer.specs.Call.{WriteCall}
-use Rattle.writer.specs.declared.written.Written.{Written}
-use Rattle.writer.specs.declared.written.Written.the-variants as written
 
 -- minus the number of a refusal, and 0 for none
 abbrev pub minus : ℕ → ℤ
 minus n = negℤ (pos n)
+
+-- what a value or a refusal is handed back as
+abbrev pub answerCode : Answer → ℤ
+answerCode (answer.Value n) = pos n
+answerCode (answer.Refused r) = minus (numberOf r)
+
+-- a value is the number of a joint action, a count of states or the length of a text or a listing
+abbrev pub Small : Answer → Type 0
+Small (answer.Value n) = n ≤ listingBytes
+Small (answer.Refused r) = Unit {0}
 
 -- r is 0 where the block passes, or minus the number of its refusal
 abbrev pub CheckAnswer : Block → ℤ → Type 0
@@ -30,14 +38,9 @@ CheckAnswer b r = (n : ℕ) × Verdict b n × (r ≡ minus n)
 abbrev pub readAnswer : List ℕ → Block → ℤ
 readAnswer t b = minus (answerOf (answerTo (readCall t b)))
 
--- what an answer of the write call is handed back as: the length, or minus the number of the refusal
-abbrev pub writtenCode : Written → ℤ
-writtenCode (written.Length n) = pos n
-writtenCode (written.Refused r) = minus (numberOf r)
-
 -- what the write call promises of its answer and of the text buffer, t before it and u after it
 abbrev pub WriteAnswer : Block → List ℕ → List ℕ → ℤ → Type 0
-WriteAnswer b t u r = (a : Written) × WriteCall b t u a × (r ≡ writtenCode a)
+WriteAnswer b t u r = (a : Answer) × WriteCall b t u a × (r ≡ answerCode a)
 
 -- what the label call promises of its answer, the sets and the room, each before and after it
 abbrev pub LabelAnswer : Block → List ℕ → List ℕ → List ℕ → List ℕ → ℤ → Type 0
@@ -46,16 +49,6 @@ LabelAnswer b sets room sets′ room′ r = (a : Checked) × LabelCall b sets ro
 -- what the table call promises of its answer, the ranks and the moves, each before and after it
 abbrev pub TableAnswer : Block → ℕ → List ℕ → List ℕ → List ℕ → List ℕ → ℤ → Type 0
 TableAnswer b i ranks moves ranks′ moves′ r = (a : Checked) × TableCall b i ranks moves ranks′ moves′ a × (r ≡ minus (answerOf a))
-
--- what a value or a refusal is handed back as
-abbrev pub answerCode : Answer → ℤ
-answerCode (answer.Value n) = pos n
-answerCode (answer.Refused r) = minus (numberOf r)
-
--- a value is the number of a joint action, a count of states or the length of a listing
-abbrev pub Small : Answer → Type 0
-Small (answer.Value n) = n ≤ listingBytes
-Small (answer.Refused r) = Unit {0}
 
 -- what the team's move and the reply calls promise of their answer and of the room, before and after
 abbrev pub MoveAnswer : Block → ℕ → ℕ → List ℕ → List ℕ → List ℕ → ℤ → Type 0

@@ -1,8 +1,7 @@
 // The C library: each call of document 01 under its C name, and nothing else. include/rbatl.h is its header.
+use block::refusal::Answer;
 use block::refusal::Checked;
 use block::refusal::Refusal;
-use lookup::answer::Answer;
-use writer::written::Written;
 ghost use mathlib.Core.List.{[], _∷_};
 ghost use mathlib.Core.Path.{_≡_};
 ghost use Rattle.block.specs.Refusal.{numberOf, answerOf};
@@ -70,10 +69,7 @@ pub extern "C" fn rbatl_read(text: &[u8], block: &mut [u8]) -> i32
 pub extern "C" fn rbatl_write(block: &[u8], text: &mut [u8]) -> i32
     ensures { λ r. ⌜ WriteAnswer (now (block .entry)) (now (text .entry)) (now (text .exit)) r ⌝ }
 {
-    match writer::write(block, text) {
-        Written::Length(n) => n as i32,
-        Written::Refused(r) => refused(r),
-    }
+    value(writer::write(block, text))
 }
 
 #[no_mangle]

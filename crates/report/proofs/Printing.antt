@@ -8,6 +8,7 @@ use lib.Dec.{ltb, eqb}
 use lib.ListN.{length, take, replicate, length-append, length-replicate}
 use lib.Seq.{length-take-le}
 use borrow.Author.Tests.{eq-eqb, eqb-true}
+use Rattle.block.specs.Refusal.{answerNumber}
 use Rattle.block.specs.Layout.{Block, blockBytes}
 use Rattle.block.specs.Valid.{Valid}
 use Rattle.block.specs.declared.refusal.Refusal.the-variants.{Length}
@@ -19,9 +20,8 @@ use Rattle.text.specs.Text.{textBytes, blank, readText, readCall, answerTo, blo
 use Rattle.text.proofs.Formats.{never}
 use Rattle.text.proofs.Accepts.{accepts}
 use Rattle.solver.specs.Calls.{roomBytes, movesBytes}
-use Rattle.lookup.specs.Calls.{answerNumber}
-use Rattle.lookup.specs.declared.answer.Answer.{Answer}
-use Rattle.lookup.specs.declared.answer.Answer.the-variants.{Value, Refused}
+use Rattle.block.specs.declared.refusal.Answer.{Answer}
+use Rattle.block.specs.declared.refusal.Answer.the-variants.{Value, Refused}
 use Rattle.report.specs.Call.{listingBytes, Filled, listCall, ListingAfter, RoomsAfter, ListingCall}
 
 -- the answer and the block afterwards tell the outcome

@@ -5,15 +5,15 @@ use mathlib.Core.Path.{_≡_}
 use Prim.Native.Nat.{ℕ, _-_, _≤_}
 use lib.Dec.{eqb}
 use lib.ListN.{length, replicate}
+use Rattle.block.specs.Refusal.{answerNumber}
 use Rattle.block.specs.Layout.{Block}
 use Rattle.block.specs.declared.refusal.Refusal.the-variants.{Length}
 use Rattle.text.specs.Format.{Outcome, accepted, refused}
 use Rattle.text.specs.Job.{either}
 use Rattle.text.specs.Text.{textBytes, blank, readCall}
 use Rattle.solver.specs.Calls.{roomBytes, movesBytes}
-use Rattle.lookup.specs.Calls.{answerNumber}
-use Rattle.lookup.specs.declared.answer.Answer.{Answer}
-use Rattle.lookup.specs.declared.answer.Answer.the-variants.{Value, Refused}
+use Rattle.block.specs.declared.refusal.Answer.{Answer}
+use Rattle.block.specs.declared.refusal.Answer.the-variants.{Value, Refused}
 use Rattle.report.specs.Listing.{Listed}
 
 -- the listing is at most as long as a text, so its buffer has the length of one

@@ -1,8 +1,8 @@
 // The lines of the listing. Each number is given room for eight digits.
 use block::widths::wide;
-use lookup::sets;
 use text::output::field;
 use text::output::word;
+use turns::sets;
 ghost use mathlib.Core.Path.{_≡_};
 ghost use Prim.Native.Nat.{_+_, _^_, _≤_, _<_};
 ghost use lib.ListN.{length};

@@ -1,8 +1,8 @@
 // The plan lines of a strategic row: for each state in its set, rank and move at full stock.
 use crate::lines::plan_line;
-use lookup::sets;
 use turns::buffers;
 use turns::positions;
+use turns::sets;
 ghost use mathlib.Core.Path.{_≡_};
 ghost use Prim.Native.Nat.{ℕ, _+_, _^_, _≤_, _<_};
 ghost use lib.ListN.{length};

@@ -1,10 +1,10 @@
 -- The promises of the label and the table calls (specs' LabelCall and TableCall), from what their parts ensure. Assumes nothing.
 use mathlib.Core.List.{List, [], _∷_, _++_}
 use mathlib.Core.Logic.{_⊎_, inl, inr, ⊎-elim}
-use mathlib.Core.Path.{_≡_, refl, sym, _∙_, ap}
-use Prim.Native.Nat.{ℕ, _+_, _*_, _-_, _≤_, _<_}
+use mathlib.Core.Path.{_≡_, refl, ap}
+use Prim.Native.Nat.{ℕ, _≤_, _<_}
 use native.Mathlib.Omega.{arith}
-use lib.ListN.{getD, length, take, replicate, length-replicate, getD-replicate, List·getD-eq-default}
+use lib.ListN.{length, replicate}
 use Rattle.block.specs.Layout as L
 use Rattle.block.specs.Layout.{Block}
 use Rattle.block.specs.Valid.{Valid}
@@ -20,20 +20,6 @@ use Rattle.game.proofs.Numbers.Decide.{lt?}
 use Rattle.game.proofs.Blocks.Tables.{set-won}
 use Rattle.solver.specs.Calls.{setsBytes, roomBytes, movesBytes, rowOrder, Unlabelled, RoomAfter, LabelCall, NoChoice, RowTable, TableCall}
 use Rattle.solver.specs.Labels.{LowerSets}
-
--- a buffer of zeros
-pub cleared : (l l′ : List ℕ) (n : ℕ) → l′ ≡ take 0 l ++ replicate (length l - 0) 0 → length l ≡ n → l′ ≡ replicate n 0
-cleared l l′ n e long = let size : length l - 0 ≡ n = omega arith in e ∙ ap (λ (k : ℕ). replicate k 0) size
-
-pub zero-byte : (n k : ℕ) → getD {A = ℕ} (replicate n 0) k 0 ≡ 0
-zero-byte n k = go (lt? k n)
-  where
-    go : Dec (k < n) → getD {A = ℕ} (replicate n 0) k 0 ≡ 0
-    go (yes h) = getD-replicate n k 0 0 h
-    go (no h) = List·getD-eq-default (replicate {A = ℕ} n 0) 0 {n = k} (omega (arith, length-replicate {A = ℕ} n 0))
-
-pub zero-word : (n i : ℕ) → wordIn (replicate n 0) i ≡ 0
-zero-word n i = omega (arith, zero-byte n (4 * i), zero-byte n (4 * i + 1), zero-byte n (4 * i + 2), zero-byte n (4 * i + 3))
 
 module _ (b : Block) (sets room : List ℕ) where
   pub label-length : ((length b ≡ L.blockBytes → ⊥) ⊎ ((length sets ≡ setsBytes → ⊥) ⊎ (length room ≡ roomBytes → ⊥))) → LabelCall b sets room sets room (checked.Refused Length)

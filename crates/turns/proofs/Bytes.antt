@@ -1,16 +1,31 @@
 -- Words that stand as bytes in a buffer: what storing one does to it and to the others; and one more bit of a word. Assumes nothing.
-use mathlib.Core.List.{List}
+use mathlib.Core.List.{List, _++_}
 use mathlib.Core.Logic.{_↔_, _⊎_, inl, inr, ⊎-elim}
 use mathlib.Core.Path.{_≡_, sym, _∙_, ap, subst}
 use Prim.Native.Nat.{ℕ, suc, _+_, _*_, _-_, _/_, _%_, _^_, _≤_, _<_}
 use native.Mathlib.Nat.{add-mul-div-right, div-eq-of-lt, div-div-eq-div-mul, div-eq-of-lt-le, mod-eq-of-lt, pow-succ'}
 use native.Mathlib.Omega.{arith}
 use lib.Pow.{pow-pos, pow-mono, pow-add}
-use lib.ListN.{getD, length, set, length-set}
+use lib.ListN.{getD, length, take, set, replicate, length-set, length-replicate, getD-replicate, List·getD-eq-default}
 use lib.Seq.{getD-set-same, getD-set-other, lt-length-set}
 use Rattle.block.specs.Decide.{Bit}
 use Rattle.turns.specs.Buffers.{rankIn, wordIn, Stored}
 use Rattle.game.proofs.Numbers.Decide.{eq?, lt?}
+
+-- a buffer of zeros
+pub cleared : (l l′ : List ℕ) (n : ℕ) → l′ ≡ take 0 l ++ replicate (length l - 0) 0 → length l ≡ n → l′ ≡ replicate n 0
+cleared l l′ n e long = let size : length l - 0 ≡ n = omega arith in e ∙ ap (λ (k : ℕ). replicate k 0) size
+
+-- its bytes and words
+pub zero-byte : (n k : ℕ) → getD {A = ℕ} (replicate n 0) k 0 ≡ 0
+zero-byte n k = go (lt? k n)
+  where
+    go : Dec (k < n) → getD {A = ℕ} (replicate n 0) k 0 ≡ 0
+    go (yes h) = getD-replicate n k 0 0 h
+    go (no h) = List·getD-eq-default (replicate {A = ℕ} n 0) 0 {n = k} (omega (arith, length-replicate {A = ℕ} n 0))
+
+pub zero-word : (n i : ℕ) → wordIn (replicate n 0) i ≡ 0
+zero-word n i = omega (arith, zero-byte n (4 * i), zero-byte n (4 * i + 1), zero-byte n (4 * i + 2), zero-byte n (4 * i + 3))
 
 module _ (l : List ℕ) (p v : ℕ) where
   abbrev pub withRank : List ℕ

@@ -6,3 +6,4 @@ pub mod Numbering
 pub mod Opponents
 pub mod Offsets
 pub mod Outcomes
+pub mod Listing

@@ -1,4 +1,6 @@
--- What the code of a turn is held to: words in lent buffers, listed numbers and their extremes, what a stock pays and which replies there are.
+-- What the code of a turn is held to: words in lent buffers, listed numbers and their extremes, what a stock pays, which replies there
+-- are, and the states of a set.
 pub mod Buffers
 pub mod Extremes
 pub mod Rules
+pub mod Listed

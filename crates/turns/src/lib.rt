@@ -3,3 +3,4 @@ pub mod buffers;
 pub mod moves;
 pub mod positions;
 pub mod replies;
+pub mod sets;

@@ -14,7 +14,7 @@ use Rattle.block.specs.declared.refusal.Refusal.{Refusal}
 use Rattle.block.specs.declared.refusal.Refusal.the-variants.{Length}
 use Rattle.text.specs.Text.{textBytes, textOf}
 use Rattle.writer.specs.Call.{Unwritable, WriteCall}
-use Rattle.writer.specs.declared.written.Written.the-variants as written
+use Rattle.block.specs.declared.refusal.Answer.the-variants as answer
 use Rattle.block.proofs.Refusals.{first-same}
 use Rattle.text.proofs.Accepts.{round-trip}
 
@@ -23,13 +23,13 @@ module _ {b : Block} (t : List ℕ) where
   verdict : {n : ℕ} → length t ≡ textBytes → Verdict b n → First (Unwritable b t) blockOrder n
   verdict l v = first-same (λ r h. inl h) (λ r. ⊎-elim (λ h. h) (λ w. absurd (w .1 l))) v
 
-  pub another-length : (length t ≡ textBytes → ⊥) → WriteCall b t t (written.Refused Length)
+  pub another-length : (length t ≡ textBytes → ⊥) → WriteCall b t t (answer.Refused Length)
   another-length h = record { number = here (inr (refl, h)) refl; filled = refl }
 
-  pub not-passing : {r : Refusal} → length t ≡ textBytes → Verdict b (numberOf r) → WriteCall b t t (written.Refused r)
+  pub not-passing : {r : Refusal} → length t ≡ textBytes → Verdict b (numberOf r) → WriteCall b t t (answer.Refused r)
   not-passing l v = record { number = verdict l v; filled = refl }
 
-  pub text-and-zeros : {n : ℕ} {u : List ℕ} (w : List ℕ) → length t ≡ textBytes → Verdict b 0 → length w ≡ textBytes → take n w ≡ textOf b → n ≤ textBytes → u ≡ take n w ++ replicate (length w - n) 0 → WriteCall b t u (written.Length n)
+  pub text-and-zeros : {n : ℕ} {u : List ℕ} (w : List ℕ) → length t ≡ textBytes → Verdict b 0 → length w ≡ textBytes → take n w ≡ textOf b → n ≤ textBytes → u ≡ take n w ++ replicate (length w - n) 0 → WriteCall b t u (answer.Value n)
   text-and-zeros {n} w l v k e h z = record {
     number = verdict l v;
     filled = record {

@@ -4,29 +4,28 @@ mod job;
 mod output;
 mod rows;
 mod states;
-pub mod written;
 
 use block::fill;
+use block::refusal::Answer;
 use block::refusal::Checked;
 use block::refusal::Refusal;
 use job::job;
 use text::TEXT_BYTES;
-use written::Written;
 ghost use Rattle.writer.specs.Call.{WriteCall};
 
 // Writes the text of a block that passes the check, with zeros after it.
-pub fn write(block: &[u8], text: &mut [u8]) -> Written
+pub fn write(block: &[u8], text: &mut [u8]) -> Answer
     ensures { λ r. ⌜ WriteCall (now (block .entry)) (now (text .entry)) (now (text .exit)) r ⌝ }
 {
     if text.len() != TEXT_BYTES {
-        return Written::Refused(Refusal::Length);
+        return Answer::Refused(Refusal::Length);
     }
     match block::check(block) {
         Checked::Passed => {
             let length = job(block, text);
             fill::zeros(text, length);
-            Written::Length(length)
+            Answer::Value(length)
         }
-        Checked::Refused(r) => Written::Refused(r),
+        Checked::Refused(r) => Answer::Refused(r),
     }
 }

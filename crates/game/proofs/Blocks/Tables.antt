@@ -1,20 +1,33 @@
 -- Tables of the rows of a block that passes: with the local facts, demand 3 holds at every position, and the row's set is what the table
 -- claims at full stock. Assumes nothing.
 use mathlib.Core.Logic.{_↔_, Iff·trans}
-use Prim.Native.Nat.{ℕ, _<_}
+use Prim.Native.Nat.{ℕ, _^_, _<_}
+use native.Mathlib.Omega.{arith}
 use Rattle.block.specs.Layout as L
 use Rattle.block.specs.Layout.{Block, Strategic}
 use Rattle.block.specs.Valid.{Valid}
+use Rattle.block.proofs.Masks.{bit-above}
 use Rattle.game.specs.Position.{full}
 use Rattle.game.specs.Play.{CoalitionWins}
 use Rattle.game.specs.Table.{Table}
 use Rattle.game.specs.Facts.{Claims, Facts}
 use Rattle.game.specs.Model.{RowTrue, RowSet, WonSet, arenaOf, objectiveOf}
 use Rattle.game.specs.Demand.{TableOf}
+use Rattle.game.proofs.Numbers.Decide.{lt?}
 use Rattle.game.proofs.Blocks.Passing.{valid-proper}
 use Rattle.game.proofs.Whole.Decided.{decided, claims-win, wins-claimed}
 use Rattle.game.proofs.Blocks.Formulas.{row-wins}
 use Rattle.game.proofs.Bridge.Truth.{full-fits}
+
+-- a row's set has bits of states alone
+pub set-small : (b : Block) → Valid b → (i w : ℕ) → RowSet b i w → w < 2 ^ 24
+set-small b valid i w told = go (lt? w (2 ^ 24))
+  where
+    go : Dec (w < 2 ^ 24) → w < 2 ^ 24
+    go (yes l) = l
+    go (no large) =
+        let (s, far, one) = bit-above 24 w (λ none. omega arith) in
+        absurd (omega (arith, told .1 s .0 one .0, valid .sized .states-fit))
 
 -- a strategic row's set is its states whose positions at full stock the coalition wins
 pub set-won : (b : Block) → Valid b → (i w : ℕ) → i < L.rows b → Strategic (L.kind b i) → RowSet b i w → WonSet b i w

@@ -2,7 +2,7 @@
 use mathlib.Core.Path.{_≡_, refl, sym, _∙_}
 use Rattle.block.specs.Refusal.{numberOf}
 use Rattle.solver.specs.Calls.{roomBytes, movesBytes}
-use Rattle.solver.proofs.Calls.{cleared}
+use Rattle.turns.proofs.Bytes.{cleared}
 use Rattle.report.proofs.Printing.{rooms-cleared}
 use borrow.Author.Needs.{needs}
 use Rattle.report.proofs.leave.Statement.{statement}

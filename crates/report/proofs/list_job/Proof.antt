@@ -2,7 +2,7 @@
 use mathlib.Core.Path.{refl, _∙_}
 use lib.ListN.{take}
 use Rattle.solver.specs.Calls.{roomBytes, movesBytes}
-use Rattle.solver.proofs.Calls.{cleared}
+use Rattle.turns.proofs.Bytes.{cleared}
 use Rattle.report.specs.Call.{listingBytes}
 use Rattle.report.proofs.Printing.{filled}
 use borrow.Author.Needs.{needs}

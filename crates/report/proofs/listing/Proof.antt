@@ -4,7 +4,7 @@ use native.Mathlib.Omega.{arith}
 use Rattle.block.specs.declared.refusal.Checked.{Checked}
 use Rattle.text.specs.Format.{accepted, refused}
 use Rattle.text.specs.Text.{blank, readCall, outcomeOf}
-use Rattle.lookup.specs.declared.answer.Answer.the-variants.{Value, Refused}
+use Rattle.block.specs.declared.refusal.Answer.the-variants.{Value, Refused}
 use Rattle.report.proofs.Printing.{outcome-is, read-valid, misfit, called, rooms-cleared}
 use borrow.Author.Needs.{needs}
 use Rattle.report.proofs.listing.Statement.{statement}

@@ -3,7 +3,7 @@ use mathlib.Core.List.{[], _∷_}
 use mathlib.Core.Logic.{inl, inr}
 use native.Mathlib.Omega.{arith}
 use borrow.Author.Needs.{needs}
-use Rattle.solver.proofs.Calls.{cleared}
+use Rattle.turns.proofs.Bytes.{cleared}
 use Rattle.block.specs.declared.refusal.Refusal.the-variants as refusal
 use Rattle.game.specs.Position.{position}
 use Rattle.game.specs.Demand.{RowMove}

@@ -2,7 +2,8 @@
 use mathlib.Core.Path.{sym, _∙_, subst}
 use native.Mathlib.Omega.{arith}
 use Rattle.game.specs.Model.{RowSet}
-use Rattle.lookup.proofs.Calls.{set-small, set-states}
+use Rattle.game.proofs.Blocks.Tables.{set-small}
+use Rattle.lookup.proofs.Calls.{set-states}
 use borrow.Author.Needs.{needs}
 use Rattle.lookup.proofs.states.list_row.Statement.{statement}
 use Rattle.lookup.proofs.states.list_row.Tie as tie

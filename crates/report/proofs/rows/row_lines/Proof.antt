@@ -8,7 +8,7 @@ use Rattle.block.specs.Layout as L
 use Rattle.text.proofs.Adding.{adds-then}
 use Rattle.game.specs.Model.{RowSet}
 use Rattle.solver.specs.Tables.{tableIn}
-use Rattle.lookup.proofs.Calls.{set-small}
+use Rattle.game.proofs.Blocks.Tables.{set-small}
 use Rattle.report.specs.Listing.{setLine, planLines}
 use Rattle.report.proofs.Rowwise.{set-inside, plain-listed, strategic-listed}
 use borrow.Author.Needs.{needs}

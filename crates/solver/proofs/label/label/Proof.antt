@@ -9,7 +9,8 @@ use Rattle.block.specs.Layout as L
 use Rattle.block.proofs.Passing.{passing}
 use Rattle.turns.specs.Buffers.{wordIn}
 use Rattle.solver.specs.Labels.{LowerSets}
-use Rattle.solver.proofs.Calls.{cleared, zero-word, label-length, label-refused, label-passed}
+use Rattle.turns.proofs.Bytes.{cleared, zero-word}
+use Rattle.solver.proofs.Calls.{label-length, label-refused, label-passed}
 use borrow.Author.Needs.{needs}
 use Rattle.solver.proofs.label.label.Statement.{statement}
 use Rattle.solver.proofs.label.label.Tie as tie

@@ -13,8 +13,8 @@ use Rattle.block.specs.Decide.{Some, Bit, Lowest}
 use Rattle.block.proofs.Masks.{no-bit-above}
 use Rattle.block.proofs.Ones.{ones-above, ones-none, ones-zero, lowest-from}
 use Rattle.game.proofs.Numbers.Decide.{eq?, lt?}
-use Rattle.solver.proofs.Calls.{zero-byte}
-use Rattle.lookup.specs.Sets.{Lists}
+use Rattle.turns.proofs.Bytes.{zero-byte}
+use Rattle.turns.specs.Listed.{Lists}
 
 pub lists-same : {P Q : ℕ → Type 0} {list : List ℕ} {n : ℕ} → ((s : ℕ) → P s ↔ Q s) → Lists P list n → Lists Q list n
 lists-same same l = record {

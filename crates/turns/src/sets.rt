@@ -5,7 +5,7 @@ ghost use Prim.Native.Nat.{_^_, _<_};
 ghost use lib.Count.{ones};
 ghost use lib.ListN.{length};
 ghost use Rattle.block.specs.Decide.{Bit, Lowest};
-ghost use Rattle.lookup.specs.Sets.{Lists};
+ghost use Rattle.turns.specs.Listed.{Lists};
 
 // How many states a set has.
 pub fn count(set: usize) -> usize

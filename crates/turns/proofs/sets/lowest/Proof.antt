@@ -3,8 +3,8 @@ use native.Mathlib.Omega.{arith}
 use lib.Count.{trailing-le}
 use Rattle.block.proofs.Ones.{trailing-lowest}
 use borrow.Author.Needs.{needs}
-use Rattle.lookup.proofs.sets.lowest.Statement.{statement}
-use Rattle.lookup.proofs.sets.lowest.Tie as tie
+use Rattle.turns.proofs.sets.lowest.Statement.{statement}
+use Rattle.turns.proofs.sets.lowest.Tie as tie
 
 cast-result : tie.Need-cast-result
 cast-result c = search needs

@@ -2,8 +2,8 @@
 use native.Mathlib.Omega.{arith}
 use lib.Count.{ones-le}
 use borrow.Author.Needs.{needs}
-use Rattle.lookup.proofs.sets.count.Statement.{statement}
-use Rattle.lookup.proofs.sets.count.Tie as tie
+use Rattle.turns.proofs.sets.count.Statement.{statement}
+use Rattle.turns.proofs.sets.count.Tie as tie
 
 cast-result : tie.Need-cast-result
 cast-result c = search needs

@@ -5,12 +5,12 @@ use native.Mathlib.Omega.{arith}
 use lib.Count.{ones-le}
 use lib.ListN.{set}
 use Rattle.block.specs.Decide.{Bit}
-use Rattle.solver.proofs.Calls.{cleared}
-use Rattle.lookup.specs.Sets.{Lists}
+use Rattle.turns.proofs.Bytes.{cleared}
+use Rattle.turns.specs.Listed.{Lists}
 use borrow.Author.Needs.{needs}
-use Rattle.lookup.proofs.Listing.{Listing, listing-none, left-over, listing-next, listing-all}
-use Rattle.lookup.proofs.sets.list_set.Statement.{statement}
-use Rattle.lookup.proofs.sets.list_set.Tie as tie
+use Rattle.turns.proofs.Listing.{Listing, listing-none, left-over, listing-next, listing-all}
+use Rattle.turns.proofs.sets.list_set.Statement.{statement}
+use Rattle.turns.proofs.sets.list_set.Tie as tie
 
 abbrev Inv-loop : tie.InvT-loop
 Inv-loop set list₀ n from₀ k₀ list from k = (k ≤ n) × Listing set list k from
