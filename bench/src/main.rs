@@ -13,7 +13,7 @@ use cases::{Case, ROW};
 use rbatl_tests::checker::splits;
 use rbatl_tests::checker::structure::Structure;
 use rbatl_tests::ffi;
-use rbatl_tests::layout::{row, KIND, NEXT};
+use rbatl_tests::layout::{row, KIND, MAX_ROWS, NEXT};
 use rbatl_tests::listing::LISTING_BYTES;
 use rbatl_tests::solver::{MOVES_BYTES, RANKS_BYTES, ROOM_BYTES, SETS_BYTES, STATES_BYTES};
 use rbatl_tests::text;
@@ -48,7 +48,11 @@ impl Buffers {
     }
 
     fn table(&mut self, job: &[u8]) {
-        let answer = ffi::table(black_box(job), ROW as u8, &mut self.ranks, &mut self.moves);
+        self.table_of(job, ROW);
+    }
+
+    fn table_of(&mut self, job: &[u8], i: usize) {
+        let answer = ffi::table(black_box(job), i as u8, &mut self.ranks, &mut self.moves);
         assert_eq!(answer, 0);
     }
 
@@ -183,7 +187,24 @@ fn main() {
         let [table, label] = largest.map(|ratios| ratios[k]);
         println!("largest ratio to the {program}: table {table:.2}, label {label:.2}");
     }
+    print_crowd();
     print_stack();
+}
+
+/// Rows that the asked one does not need cost nothing.
+fn print_crowd() {
+    let [crowd, alone] = cases::crowd();
+    let (mut first, mut second) = (Buffers::new(), Buffers::new());
+    let [crowded, uncrowded] =
+        timing::best_of([&mut || first.table_of(&crowd, MAX_ROWS - 1), &mut || {
+            second.table(&alone)
+        }]);
+    assert!(first.ranks == second.ranks && first.moves == second.moves);
+    println!(
+        "table of the last of 32 rows, which names two: {:.3}, ratio to these rows alone: {:.2}",
+        1e3 * crowded,
+        crowded / uncrowded
+    );
 }
 
 /// Gives the ratios to the sweeps and to the splits.
