@@ -1,8 +1,8 @@
 //! How long `rbatl_table` and `rbatl_label` take on jobs of full size (24
 //! states, three agents with four actions, bounds 15 and 15), as ratios to a
 //! Rust program that does the same sweeps, to plain sweeps and to section 4 of
-//! document 003; and how much stack they, `rbatl_list` and `rbatl_states_refusal`
-//! use.
+//! document 003; what rows cost that the asked one does not need; and how much
+//! stack these calls, `rbatl_list` and `rbatl_states_refusal` use.
 
 mod cases;
 mod stack;
@@ -191,7 +191,8 @@ fn main() {
     print_stack();
 }
 
-/// Rows that the asked one does not need cost nothing.
+/// Rows that the asked one does not need cost next to nothing: the ratio is to
+/// be at most 1.1.
 fn print_crowd() {
     let [crowd, alone] = cases::crowd();
     let (mut first, mut second) = (Buffers::new(), Buffers::new());
@@ -201,7 +202,7 @@ fn print_crowd() {
         }]);
     assert!(first.ranks == second.ranks && first.moves == second.moves);
     println!(
-        "table of the last of 32 rows, which names two: {:.3}, ratio to these rows alone: {:.2}",
+        "table of the last of 32 rows, which names two: {:.3}, ratio to these alone: {:.2}",
         1e3 * crowded,
         crowded / uncrowded
     );

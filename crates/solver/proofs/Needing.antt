@@ -1,8 +1,8 @@
 -- The rows that a row needs, gathered in a word from the row downwards; and the rows of a word, labelled one after another. Assumes nothing.
 use mathlib.Core.List.{List}
 use mathlib.Core.Logic.{_⊎_, _↔_, inl, inr, ⊎-elim}
-use mathlib.Core.Path.{_≡_, refl, sym, _∙_, ap, subst}
-use Prim.Native.Nat.{ℕ, suc, _+_, _*_, _-_, _/_, _%_, _^_, _≤_, _<_}
+use mathlib.Core.Path.{_≡_, sym, _∙_, ap, subst}
+use Prim.Native.Nat.{ℕ, suc, _+_, _*_, _-_, _/_, _^_, _≤_, _<_}
 use native.Mathlib.Nat.{pow-succ'}
 use native.Mathlib.Omega.{arith}
 use lib.Pow.{pow-pos, ones-lt, ones-split, high}
@@ -15,8 +15,10 @@ use Rattle.game.specs.Model.{RowSet}
 use Rattle.game.proofs.Numbers.Decide.{eq?}
 use Rattle.solver.specs.Labels.{LowerSets, NamedSets, InWord, Closed, RowsLabelled, RowLabelled}
 use Rattle.solver.specs.Needs.{Names, Needs, directly, through}
+use Rattle.solver.proofs.Words.{no-bits}
+use Rattle.solver.proofs.Labelling.{set-more}
 
--- the word of the first n rows
+-- the word 2 ^ n - 1 has every bit below n
 pub all-ones : (n j : ℕ) → j < n → Bit (2 ^ n - 1) j
 all-ones n j l =
     let split : n ≡ suc (n - suc j) + j = omega arith in
@@ -53,8 +55,8 @@ module _ (b : Block) (valid : Valid b) where
     needs-lower (directly named) = names-lower inside named
     needs-lower (through {k} so-far named) = let l = needs-lower so-far in omega (arith, names-lower {i = k} (omega arith) named)
 
-    pub needs-first : {r : ℕ} → ((x : ℕ) → Bit 0 x → ⊥) → WithNamed b i 0 r → NeedsFrom b i i r
-    needs-first {r} empty (small, bits) = record {
+    pub needs-first : {r : ℕ} → WithNamed b i 0 r → NeedsFrom b i i r
+    needs-first {r} (small, bits) = record {
       few = omega arith;
       small = small;
       sound = λ x one. directly (only x one);
@@ -63,7 +65,7 @@ module _ (b : Block) (valid : Valid b) where
     }
       where
         only : (x : ℕ) → Bit r x → Names b i x
-        only x one = ⊎-elim (λ h. absurd (empty x h)) (λ named. named) (bits x .0 one)
+        only x one = ⊎-elim (λ h. absurd (no-bits x h)) (λ named. named) (bits x .0 one)
 
     module _ {n w : ℕ} (so-far : NeedsFrom b i n w) (j : ℕ) (next : n ≡ j + 1) where
       pub needs-with : {r : ℕ} → Bit w j → WithNamed b j w r → NeedsFrom b i j r
@@ -114,15 +116,11 @@ module _ (b : Block) (valid : Valid b) where
 -- one more row of the word
 module _ (b : Block) (w i : ℕ) {l l′ : List ℕ} (so-far : RowsLabelled b (InWord i w) l l′) where
   pub labelled-with : {l″ : List ℕ} → RowLabelled b i l′ l″ → Bit w i → RowsLabelled b (InWord (i + 1) w) l l″
-  labelled-with {l″} one has = record {
-    each = λ j (small, bit). each j small bit (eq? j i);
+  labelled-with one has = record {
+    each = λ j (small, bit). set-more b i (Bit w) (λ k less h. so-far .each k (less, h)) one j small bit;
     others = λ j idle. one .others j (λ e. idle (omega arith, subst (Bit w) (sym e) has)) ∙ so-far .others j (λ (small, bit). idle (omega arith, bit));
     long = one .long ∙ so-far .long;
   }
-    where
-      each : (j : ℕ) → j < i + 1 → Bit w j → Dec (j ≡ i) → RowSet b j (wordIn l″ j)
-      each j small bit (yes e) = subst (λ (k : ℕ). RowSet b k (wordIn l″ k)) (sym e) (one .set)
-      each j small bit (no ne) = subst (RowSet b j) (sym (one .others j ne)) (so-far .each j (omega arith, bit))
 
   pub labelled-skip : (Bit w i → ⊥) → RowsLabelled b (InWord (i + 1) w) l l′
   labelled-skip idle = record {

@@ -40,8 +40,7 @@ pub fn right_set(block: &[u8], sets: &[u8], i: usize) -> usize
     ensures { λ r. ⌜ (L.Binary (L.kind (now (block .entry)) i) → r ≡ wordIn (now (sets .entry)) (L.right (now (block .entry)) i)) ⌝ }
     ensures { λ r. ⌜ ((L.Binary (L.kind (now (block .entry)) i) → ⊥) → r ≡ 0) ⌝ }
 {
-    let kind = layout::kind(block, i);
-    if kind == 2 || kind == 5 {
+    if needs::names_right(block, i) {
         return buffers::word_at(sets, layout::right(block, i));
     }
     0

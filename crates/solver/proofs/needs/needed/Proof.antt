@@ -1,9 +1,8 @@
 -- `needed` adds, from row i downwards, what each needed row names. Assumes nothing.
 use mathlib.Core.Path.{_≡_, subst}
-use Prim.Native.Nat.{ℕ, _+_, _-_, _≤_, _<_}
+use Prim.Native.Nat.{ℕ, _+_, _-_, _<_}
 use native.Mathlib.Omega.{arith}
 use Rattle.block.proofs.Decide as D
-use Rattle.solver.proofs.Words.{no-bits}
 use Rattle.solver.proofs.Needing.{NeedsFrom, needs-first, needs-with, needs-skip, needs-all}
 use Rattle.solver.proofs.needs.needed.Statement.{statement}
 use Rattle.solver.proofs.needs.needed.Tie as tie
@@ -18,7 +17,7 @@ with-named-requires : tie.Need-with-named-requires Inv-loop μ-loop
 with-named-requires c κs = (c .before .pre .0, (c .before .pre .1, omega arith))
 
 loop-holds : tie.Need-loop-holds Inv-loop μ-loop
-loop-holds c = needs-first (c .before .before .args .block .now) (c .before .before .pre .0) (c .before .before .args .i) (c .before .before .pre .1) no-bits (c .with-named .ensures)
+loop-holds c = needs-first (c .before .before .args .block .now) (c .before .before .pre .0) (c .before .before .args .i) (c .before .before .pre .1) (c .with-named .ensures)
 
 sub-j : tie.Need-sub-j Inv-loop μ-loop
 sub-j c = omega arith
