@@ -1,7 +1,7 @@
 //! The jobs that are timed. Each has one strategic row, over two propositions.
 
 use rbatl_tests::games;
-use rbatl_tests::layout::{ALWAYS, NEXT, UNTIL};
+use rbatl_tests::layout::{row, ALWAYS, MAX_ROWS, NEXT, ROWS, UNTIL};
 use rbatl_tests::random::Rng;
 
 /// The strategic row.
@@ -34,4 +34,17 @@ pub fn all() -> Vec<Case> {
         }
     }
     cases
+}
+
+/// A job of 32 rows whose last names two; the 29 between are as costly as the
+/// last, which names none of them. Then the job cut down to the last row and
+/// the two that it names.
+pub fn crowd() -> [Vec<u8>; 2] {
+    let alone = games::ring(UNTIL, 1, false);
+    let mut crowd = alone.clone();
+    crowd[ROWS] = MAX_ROWS as u8;
+    for i in ROW + 1..MAX_ROWS {
+        crowd.copy_within(row(ROW, 0)..row(ROW + 1, 0), row(i, 0));
+    }
+    [crowd, alone]
 }

@@ -1,8 +1,8 @@
 //! How long `rbatl_table` and `rbatl_label` take on jobs of full size (24
 //! states, three agents with four actions, bounds 15 and 15), as ratios to a
 //! Rust program that does the same sweeps, to plain sweeps and to section 4 of
-//! document 003; and how much stack they, `rbatl_list` and `rbatl_states_refusal`
-//! use.
+//! document 003; what rows cost that the asked one does not need; and how much
+//! stack these calls, `rbatl_list` and `rbatl_states_refusal` use.
 
 mod cases;
 mod stack;
@@ -13,7 +13,7 @@ use cases::{Case, ROW};
 use rbatl_tests::checker::splits;
 use rbatl_tests::checker::structure::Structure;
 use rbatl_tests::ffi;
-use rbatl_tests::layout::{row, KIND, NEXT};
+use rbatl_tests::layout::{row, KIND, MAX_ROWS, NEXT};
 use rbatl_tests::listing::LISTING_BYTES;
 use rbatl_tests::solver::{MOVES_BYTES, RANKS_BYTES, ROOM_BYTES, SETS_BYTES, STATES_BYTES};
 use rbatl_tests::text;
@@ -48,7 +48,11 @@ impl Buffers {
     }
 
     fn table(&mut self, job: &[u8]) {
-        let answer = ffi::table(black_box(job), ROW as u8, &mut self.ranks, &mut self.moves);
+        self.table_of(job, ROW);
+    }
+
+    fn table_of(&mut self, job: &[u8], i: usize) {
+        let answer = ffi::table(black_box(job), i as u8, &mut self.ranks, &mut self.moves);
         assert_eq!(answer, 0);
     }
 
@@ -183,7 +187,25 @@ fn main() {
         let [table, label] = largest.map(|ratios| ratios[k]);
         println!("largest ratio to the {program}: table {table:.2}, label {label:.2}");
     }
+    print_crowd();
     print_stack();
+}
+
+/// Rows that the asked one does not need cost next to nothing: the ratio is to
+/// be at most 1.1.
+fn print_crowd() {
+    let [crowd, alone] = cases::crowd();
+    let (mut first, mut second) = (Buffers::new(), Buffers::new());
+    let [crowded, uncrowded] =
+        timing::best_of([&mut || first.table_of(&crowd, MAX_ROWS - 1), &mut || {
+            second.table(&alone)
+        }]);
+    assert!(first.ranks == second.ranks && first.moves == second.moves);
+    println!(
+        "table of the last of 32 rows, which names two: {:.3}, ratio to these alone: {:.2}",
+        1e3 * crowded,
+        crowded / uncrowded
+    );
 }
 
 /// Gives the ratios to the sweeps and to the splits.

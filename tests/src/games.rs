@@ -77,6 +77,51 @@ fn punish_idling(rng: &mut Rng, block: &mut [u8], driver: u8) {
     }
 }
 
+/// Few positions and as many rows as there can be: a row needs few of those
+/// below it, and some of these through others.
+pub fn crowd(rng: &mut Rng) -> Vec<u8> {
+    let sizes = Sizes {
+        agents: 2,
+        resources: rng.within(1..=2),
+        states: rng.within(2..=5),
+        propositions: 2,
+        rows: MAX_ROWS,
+    };
+    let shape = Shape {
+        sizes,
+        actions: 2,
+        cost: 2,
+        bound: 2,
+        fixed: false,
+        driver: driver(rng, sizes.agents),
+    };
+    block(rng, shape)
+}
+
+/// The strategic rows that need a row only through others and leave one out.
+pub fn choosy_rows(block: &[u8]) -> Vec<u8> {
+    let choosy = |&i: &usize| {
+        let (named, needed) = (named(block, i), needed(block, i));
+        is_strategic(block[row(i, KIND)]) && needed & !named != 0 && needed != (1 << i) - 1
+    };
+    let rows = (0..Sizes::of(block).rows).filter(choosy);
+    rows.map(|i| i as u8).collect()
+}
+
+/// The rows that row i names, as a word.
+fn named(block: &[u8], i: usize) -> u32 {
+    let kind = block[row(i, KIND)];
+    let left = u32::from(kind != PROP) << block[row(i, LEFT)];
+    left | u32::from(uses_right(kind)) << block[row(i, RIGHT)]
+}
+
+/// The rows that row i names, directly or through others, as a word.
+fn needed(block: &[u8], i: usize) -> u32 {
+    let named = named(block, i);
+    let rows = (0..i).filter(|j| named >> j & 1 == 1);
+    rows.fold(named, |word, j| word | needed(block, j))
+}
+
 /// A job with something to play for, or any.
 pub fn mixed(rng: &mut Rng) -> Vec<u8> {
     match rng.below(4) {

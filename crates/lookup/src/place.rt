@@ -61,14 +61,14 @@ pub fn no_position(block: &[u8], i: usize, s: usize, stocks: &[u8]) -> bool
     false
 }
 
-// Labels the rows below row i and stores its ranks in the room. Answers the sets of the rows that it names.
+// Labels the rows that row i needs and stores its ranks in the room. Answers the sets of the rows that it names.
 fn prepare(block: &[u8], i: usize, room: &mut [u8]) -> Words
     requires { ⌜ Valid (now block) ⌝ }
     requires { ⌜ (i < L.rows (now block)) × L.Strategic (L.kind (now block) i) × (length (now room) ≡ 12288) ⌝ }
     ensures { λ w. ⌜ Prepared (now (block .entry)) i (w .left) (w .right) (now (room .exit)) × (length (now (room .exit)) ≡ length (now (room .entry))) ⌝ }
 {
     let mut sets = [0u8; 128];
-    label::label_rows(block, i, &mut sets, room);
+    label::label_needed(block, i, &mut sets, room);
     let left = label::left_set(block, &sets, i);
     let right = label::right_set(block, &sets, i);
     rows::rank_row(block, i, left, right, room);

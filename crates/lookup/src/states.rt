@@ -49,7 +49,8 @@ fn list_row(block: &[u8], i: usize, list: &mut [u8], room: &mut [u8]) -> usize
     ensures { λ r. ⌜ StatesIn (now (block .entry)) i (now (list .exit)) r × (length (now (room .exit)) ≡ 12288) ⌝ }
 {
     let mut words = [0u8; 128];
-    label::label_rows(block, i + 1, &mut words, room);
+    label::label_needed(block, i, &mut words, room);
+    label::label_row(block, i, &mut words, room);
     let set = buffers::word_at(&words, i);
     sets::list_set(set, list)
 }

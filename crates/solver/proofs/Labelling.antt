@@ -133,10 +133,13 @@ module _ (b : Block) (valid : Valid b) (i : ℕ) (inside : i < L.rows b) (left r
             let strategic : Strategic (L.kind b i) = (omega arith, valid .row-fits i inside .known) in
             strategic-set strategic (found strategic)
 
--- one more row has its set
-pub lower-more : (b : Block) (i : ℕ) (l l′ : List ℕ) → LowerSets b i l → RowLabelled b i l l′ → LowerSets b (i + 1) l′
-lower-more b i l l′ lower one j small = go (eq? j i)
+-- one more row has its set, where those below it of which Q holds have theirs
+pub set-more : (b : Block) (i : ℕ) {l l′ : List ℕ} (Q : ℕ → Type 0) → ((j : ℕ) → j < i → Q j → RowSet b j (wordIn l j)) → RowLabelled b i l l′ → (j : ℕ) → j < i + 1 → Q j → RowSet b j (wordIn l′ j)
+set-more b i {l} {l′} Q lower one j small q = go (eq? j i)
   where
     go : Dec (j ≡ i) → RowSet b j (wordIn l′ j)
     go (yes e) = subst (λ (k : ℕ). RowSet b k (wordIn l′ k)) (sym e) (one .set)
-    go (no ne) = subst (RowSet b j) (sym (one .others j ne)) (lower j (omega arith))
+    go (no ne) = subst (RowSet b j) (sym (one .others j ne)) (lower j (omega arith) q)
+
+pub lower-more : (b : Block) (i : ℕ) (l l′ : List ℕ) → LowerSets b i l → RowLabelled b i l l′ → LowerSets b (i + 1) l′
+lower-more b i l l′ lower one j small = set-more b i (λ _. Unit) (λ k less _. lower k less) one j small tt

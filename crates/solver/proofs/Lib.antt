@@ -5,6 +5,7 @@ pub mod Marking
 pub mod Words
 pub mod Ranking
 pub mod Labelling
+pub mod Needing
 pub mod Calls
 pub mod Choosing
 pub mod Hitting

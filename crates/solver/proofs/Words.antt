@@ -24,11 +24,14 @@ module _ (Q : ℕ → Type 0) where
     pub few : w < 2 ^ n
     pub says : (x : ℕ) → Bit w x ↔ ((x < n) × Q x)
 
+  pub longer : {s w : ℕ} → SaysBelow s w → (n : ℕ) → s ≤ n → w < 2 ^ n
+  longer so-far n more = omega (arith, so-far .few, pow-le-pow-right {n = 2} (omega arith) more)
+
   pub says-none : SaysBelow 0 0
   says-none = record { few = omega arith; says = λ x. ((λ h. absurd (no-bits x h)), λ (l, _). absurd (omega arith)) }
 
-  pub says-with : (s w r : ℕ) → SaysBelow s w → Q s → (r < 2 ^ (s + 1)) × ((x : ℕ) → Bit r x ↔ (Bit w x ⊎ (x ≡ s))) → SaysBelow (s + 1) r
-  says-with s w r so-far holds (few, bits) = record { few = few; says = λ x. ((λ h. from x (bits x .0 h)), λ (l, q). bits x .1 (to x l q (eq? x s))) }
+  pub says-with : (s w r : ℕ) → SaysBelow s w → Q s → ((n : ℕ) → s < n → w < 2 ^ n → r < 2 ^ n) × ((x : ℕ) → Bit r x ↔ (Bit w x ⊎ (x ≡ s))) → SaysBelow (s + 1) r
+  says-with s w r so-far holds (short, bits) = record { few = short (s + 1) (omega arith) (longer so-far (s + 1) (omega arith)); says = λ x. ((λ h. from x (bits x .0 h)), λ (l, q). bits x .1 (to x l q (eq? x s))) }
     where
       from : (x : ℕ) → Bit w x ⊎ (x ≡ s) → (x < s + 1) × Q x
       from x (inl h) = let (l, q) = so-far .says x .0 h in (omega arith, q)
@@ -40,19 +43,16 @@ module _ (Q : ℕ → Type 0) where
 
   pub says-skip : (s w : ℕ) → SaysBelow s w → (Q s → ⊥) → SaysBelow (s + 1) w
   says-skip s w so-far fails = record {
-    few = omega (arith, so-far .few, pow-le-pow-right {n = 2} (omega arith) larger);
+    few = longer so-far (s + 1) (omega arith);
     says = λ x. ((λ h. let (l, q) = so-far .says x .0 h in (omega arith, q)), λ (l, q). so-far .says x .1 (other x l q (eq? x s), q));
   }
     where
-      larger : s ≤ s + 1
-      larger = omega arith
-
       other : (x : ℕ) → x < s + 1 → Q x → Dec (x ≡ s) → x < s
       other x l q (yes e) = absurd (fails (subst Q e q))
       other x l q (no ne) = omega arith
 
   pub says-all : (b : Block) (w : ℕ) → L.states b ≤ 24 → SaysBelow (L.states b) w → Says b w Q
-  says-all b w few all = (omega (arith, all .few, pow-le-pow-right {n = 2} (omega arith) few), (all .few, λ s l. ((λ h. all .says s .0 h .1), λ q. all .says s .1 (l, q))))
+  says-all b w few all = (longer all 32 (omega arith), (all .few, λ s l. ((λ h. all .says s .0 h .1), λ q. all .says s .1 (l, q))))
 
 -- what stands for a strategic row, where it is one thing for all three kinds
 pub strategic-stands : (k : ℕ) (A B C X : Type 0) → (k ≡ 0 → ⊥) → (k ≡ 1 → ⊥) → (k ≡ 2 → ⊥) → byKind k A B C X X X ≡ X

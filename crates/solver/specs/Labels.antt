@@ -3,15 +3,35 @@ use mathlib.Core.List.{List}
 use mathlib.Core.Path.{_≡_}
 use Prim.Native.Nat.{ℕ, _<_}
 use lib.ListN.{length}
+use Rattle.block.specs.Decide.{Bit}
 use Rattle.block.specs.Layout as L
 use Rattle.block.specs.Layout.{Block}
 use Rattle.turns.specs.Buffers.{wordIn}
 use Rattle.game.specs.Model.{RowSet}
+use Rattle.solver.specs.Needs.{Names}
 use Rattle.solver.specs.Tables.{RanksOf}
 
 -- the rows below row i have their sets
 abbrev pub LowerSets : Block → ℕ → List ℕ → Type 0
 LowerSets b i sets = (j : ℕ) → j < i → RowSet b j (wordIn sets j)
+
+-- the rows that row i names have their sets
+abbrev pub NamedSets : Block → ℕ → List ℕ → Type 0
+NamedSets b i sets = (j : ℕ) → Names b i j → RowSet b j (wordIn sets j)
+
+-- the rows below row n that the word w has
+abbrev pub InWord : ℕ → ℕ → ℕ → Type 0
+InWord n w j = (j < n) × Bit w j
+
+-- with a row the word has those that it names
+abbrev pub Closed : Block → ℕ → ℕ → Type 0
+Closed b n w = (i j : ℕ) → InWord n w i → Names b i j → Bit w j
+
+-- the rows of a choice have their sets, and no other word changed
+pub record RowsLabelled (b : Block) (Choice : ℕ → Type 0) (sets sets′ : List ℕ) : Type 0 where
+  pub each : (j : ℕ) → Choice j → RowSet b j (wordIn sets′ j)
+  pub others : (j : ℕ) → (Choice j → ⊥) → wordIn sets′ j ≡ wordIn sets j
+  pub long : length sets′ ≡ length sets
 
 -- row i has its set, and no other word changed
 pub record RowLabelled (b : Block) (i : ℕ) (sets sets′ : List ℕ) : Type 0 where

@@ -3,5 +3,6 @@ pub mod Tables
 pub mod Next
 pub mod Rows
 pub mod Calls
+pub mod Needs
 pub mod Labels
 pub mod Choices

@@ -1,4 +1,5 @@
 // Labelling: the sets of the rows, each from the sets of lower rows.
+use crate::needs;
 use crate::rows;
 use crate::sizes;
 use block::fill;
@@ -7,13 +8,17 @@ use block::refusal::Checked;
 use block::refusal::Refusal;
 use turns::buffers;
 ghost use mathlib.Core.Path.{_≡_};
-ghost use Prim.Native.Nat.{ℕ, _≤_, _<_};
+ghost use Prim.Native.Nat.{_≤_, _<_};
 ghost use lib.ListN.{length};
 ghost use Rattle.block.specs.Layout as L;
 ghost use Rattle.block.specs.Valid.{Valid};
 ghost use Rattle.turns.specs.Buffers.{wordIn};
 ghost use Rattle.solver.specs.Calls.{LabelCall};
-ghost use Rattle.solver.specs.Labels.{LowerSets, RowLabelled, Ranked};
+ghost use Rattle.solver.specs.Labels.{NamedSets, InWord, Closed, RowsLabelled, RowLabelled, Ranked};
+ghost use Rattle.solver.specs.Needs.{Needs};
+
+// The word of all rows.
+const ALL_ROWS: usize = 4294967295;
 
 // The set of the row that row i names left; 0 where it names none.
 pub fn left_set(block: &[u8], sets: &[u8], i: usize) -> usize
@@ -35,18 +40,17 @@ pub fn right_set(block: &[u8], sets: &[u8], i: usize) -> usize
     ensures { λ r. ⌜ (L.Binary (L.kind (now (block .entry)) i) → r ≡ wordIn (now (sets .entry)) (L.right (now (block .entry)) i)) ⌝ }
     ensures { λ r. ⌜ ((L.Binary (L.kind (now (block .entry)) i) → ⊥) → r ≡ 0) ⌝ }
 {
-    let kind = layout::kind(block, i);
-    if kind == 2 || kind == 5 {
+    if needs::names_right(block, i) {
         return buffers::word_at(sets, layout::right(block, i));
     }
     0
 }
 
-// Stores the set of row i, where lower rows have theirs. The ranks become those of a strategic row, and stay as they are for any other.
+// Stores the set of row i, where the rows that it names have theirs. The ranks become those of a strategic row, and stay as they are for any other.
 pub fn label_row(block: &[u8], i: usize, sets: &mut [u8], ranks: &mut [u8])
     requires { ⌜ Valid (now block) ⌝ }
     requires { ⌜ (i < L.rows (now block)) × (128 ≤ length (now sets)) × (length (now ranks) ≡ 12288) ⌝ }
-    requires { ⌜ LowerSets (now block) i (now sets) ⌝ }
+    requires { ⌜ NamedSets (now block) i (now sets) ⌝ }
     ensures { λ _. ⌜ RowLabelled (now (block .entry)) i (now (sets .entry)) (now (sets .exit)) ⌝ }
     ensures { λ _. ⌜ Ranked (now (block .entry)) i (now (sets .exit)) (now (ranks .exit)) ⌝ }
     ensures { λ _. ⌜ ((L.Strategic (L.kind (now (block .entry)) i) → ⊥) → now (ranks .exit) ≡ now (ranks .entry)) ⌝ }
@@ -61,19 +65,32 @@ pub fn label_row(block: &[u8], i: usize, sets: &mut [u8], ranks: &mut [u8])
     buffers::set_word(sets, i, w);
 }
 
-// Stores the sets of the first n rows. The ranks are working room: what they hold afterwards is the program's choice.
-pub fn label_rows(block: &[u8], n: usize, sets: &mut [u8], ranks: &mut [u8])
+// Stores the sets of those of the first n rows that the word has. The ranks are working room: what they hold afterwards is the program's choice.
+fn label_rows(block: &[u8], n: usize, word: usize, sets: &mut [u8], ranks: &mut [u8])
     requires { ⌜ Valid (now block) ⌝ }
     requires { ⌜ (n ≤ L.rows (now block)) × (128 ≤ length (now sets)) × (length (now ranks) ≡ 12288) ⌝ }
-    ensures { λ _. ⌜ LowerSets (now (block .entry)) n (now (sets .exit)) ⌝ }
-    ensures { λ _. ⌜ ((j : ℕ) → n ≤ j → wordIn (now (sets .exit)) j ≡ wordIn (now (sets .entry)) j) ⌝ }
-    ensures { λ _. ⌜ (length (now (sets .exit)) ≡ length (now (sets .entry))) × (length (now (ranks .exit)) ≡ length (now (ranks .entry))) ⌝ }
+    requires { ⌜ Closed (now block) n word ⌝ }
+    ensures { λ _. ⌜ RowsLabelled (now (block .entry)) (InWord n word) (now (sets .entry)) (now (sets .exit)) ⌝ }
+    ensures { λ _. ⌜ length (now (ranks .exit)) ≡ length (now (ranks .entry)) ⌝ }
 {
     let mut i = 0;
     while i < n {
-        label_row(block, i, sets, ranks);
+        if buffers::has_bit(word, i) {
+            label_row(block, i, sets, ranks);
+        }
         i += 1;
     }
+}
+
+// Stores the sets of the rows that row i needs, and of no others. The ranks are working room.
+pub fn label_needed(block: &[u8], i: usize, sets: &mut [u8], ranks: &mut [u8])
+    requires { ⌜ Valid (now block) ⌝ }
+    requires { ⌜ (i < L.rows (now block)) × (128 ≤ length (now sets)) × (length (now ranks) ≡ 12288) ⌝ }
+    ensures { λ _. ⌜ RowsLabelled (now (block .entry)) (Needs (now (block .entry)) i) (now (sets .entry)) (now (sets .exit)) ⌝ }
+    ensures { λ _. ⌜ length (now (ranks .exit)) ≡ length (now (ranks .entry)) ⌝ }
+{
+    let word = needs::needed(block, i);
+    label_rows(block, i, word, sets, ranks);
 }
 
 // The sets of all rows of a block that passes the check. The room is left filled with zeros, unless a buffer has another length.
@@ -92,7 +109,7 @@ pub fn label(block: &[u8], sets: &mut [u8], room: &mut [u8]) -> Checked
     match block::check(block) {
         Checked::Passed => {
             fill::zeros(sets, 0);
-            label_rows(block, layout::rows(block), sets, room);
+            label_rows(block, layout::rows(block), ALL_ROWS, sets, room);
             fill::zeros(room, 0);
             Checked::Passed
         }

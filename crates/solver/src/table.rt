@@ -26,14 +26,14 @@ pub fn no_choice(block: &[u8], i: usize) -> bool
     layout::kind(block, i) < 3
 }
 
-// Fills the table of row i. The moves' buffer holds the lower rows' sets until the ranks are there.
+// Fills the table of row i. The moves' buffer holds the sets of the rows that it needs until the ranks are there.
 fn fill_table(block: &[u8], i: usize, ranks: &mut [u8], moves: &mut [u8])
     requires { ⌜ Valid (now block) ⌝ }
     requires { ⌜ (i < L.rows (now block)) × L.Strategic (L.kind (now block) i) ⌝ }
     requires { ⌜ (length (now ranks) ≡ 12288) × (length (now moves) ≡ 6144) ⌝ }
     ensures { λ _. ⌜ RowTable (now (block .entry)) i (now (ranks .exit)) (now (moves .exit)) ⌝ }
 {
-    label::label_rows(block, i, moves, ranks);
+    label::label_needed(block, i, moves, ranks);
     let left = label::left_set(block, moves, i);
     let right = label::right_set(block, moves, i);
     rows::rank_row(block, i, left, right, ranks);

@@ -2,13 +2,14 @@
 use mathlib.Core.List.{List, _++_}
 use mathlib.Core.Logic.{_↔_, _⊎_, inl, inr, ⊎-elim}
 use mathlib.Core.Path.{_≡_, sym, _∙_, ap, subst}
-use Prim.Native.Nat.{ℕ, suc, _+_, _*_, _-_, _/_, _%_, _^_, _≤_, _<_}
-use native.Mathlib.Nat.{add-mul-div-right, div-eq-of-lt, div-div-eq-div-mul, div-eq-of-lt-le, mod-eq-of-lt, pow-succ'}
+use Prim.Native.Nat.{ℕ, suc, _+_, _*_, _-_, _/_, _%_, _^_, _<_}
+use native.Mathlib.Nat.{add-mul-div-right, div-eq-of-lt, div-div-eq-div-mul, div-lt-iff-lt-mul, mod-eq-of-lt, pow-succ'}
 use native.Mathlib.Omega.{arith}
-use lib.Pow.{pow-pos, pow-mono, pow-add}
+use lib.Pow.{pow-pos, pow-add, shr-shr}
 use lib.ListN.{getD, length, take, set, replicate, length-set, length-replicate, getD-replicate, List·getD-eq-default}
 use lib.Seq.{getD-set-same, getD-set-other, lt-length-set}
 use Rattle.block.specs.Decide.{Bit}
+use Rattle.block.proofs.Masks.{bit-above, no-bit-above}
 use Rattle.turns.specs.Buffers.{rankIn, wordIn, Stored}
 use Rattle.game.proofs.Numbers.Decide.{eq?, lt?}
 
@@ -102,8 +103,8 @@ module _ (l : List ℕ) (i w : ℕ) where
     kept = word-length;
   }
 
--- a word with a bit besides, above its others
-module _ (w s : ℕ) (small : w < 2 ^ s) where
+-- a word with a bit besides that it does not have
+module _ (w s : ℕ) (free : Bit w s → ⊥) where
   bit-below : (x : ℕ) → x < s → (w + 2 ^ s) / 2 ^ x % 2 ≡ w / 2 ^ x % 2
   bit-below x l =
       let split : s ≡ suc (s - suc x) + x = omega arith in
@@ -111,22 +112,36 @@ module _ (w s : ℕ) (small : w < 2 ^ s) where
       let quotient : (w + 2 ^ s) / 2 ^ x ≡ w / 2 ^ x + 2 ^ suc (s - suc x) = ap (λ (n : ℕ). (w + n) / 2 ^ x) power ∙ add-mul-div-right w (2 ^ suc (s - suc x)) (pow-pos x) in
       omega (arith, quotient, pow-succ' 2 (s - suc x))
 
-  bit-itself : (w + 2 ^ s) / 2 ^ s ≡ 1
-  bit-itself = div-eq-of-lt-le (2 ^ s) (omega arith) (omega arith)
+  -- the word from bit s on is one more, and even before
+  bit-itself : (w + 2 ^ s) / 2 ^ s ≡ w / 2 ^ s + 1
+  bit-itself =
+      let one : 2 ^ s ≡ 1 * 2 ^ s = omega arith in
+      ap (λ (n : ℕ). (w + n) / 2 ^ s) one ∙ add-mul-div-right w 1 (pow-pos s)
 
-  pub bit-small : w + 2 ^ s < 2 ^ (s + 1)
-  bit-small = omega (arith, pow-add 2 s 1)
-
-  bit-beyond : (x : ℕ) → s < x → (v : ℕ) → v ≤ w + 2 ^ s → Bit v x → ⊥
-  bit-beyond x l v le one =
-      let above : 2 ^ (s + 1) ≤ 2 ^ x = pow-mono (omega arith) in
-      let none : v / 2 ^ x ≡ 0 = div-eq-of-lt (omega (arith, bit-small)) in
-      omega arith
+  bit-beyond : (x : ℕ) → s < x → (w + 2 ^ s) / 2 ^ x ≡ w / 2 ^ x
+  bit-beyond x l =
+      let split : s + 1 + (x - (s + 1)) ≡ x = omega arith in
+      let above : (v : ℕ) → v / 2 ^ x ≡ v / 2 ^ s / 2 ^ 1 / 2 ^ (x - (s + 1)) =
+      λ v. sym (ap (λ (n : ℕ). n / 2 ^ (x - (s + 1))) (shr-shr v s 1) ∙ shr-shr v (s + 1) (x - (s + 1)) ∙ ap (λ (n : ℕ). v / 2 ^ n) split) in
+      let half : (w + 2 ^ s) / 2 ^ s / 2 ^ 1 ≡ w / 2 ^ s / 2 ^ 1 = omega (arith, bit-itself) in
+      above (w + 2 ^ s) ∙ ap (λ (n : ℕ). n / 2 ^ (x - (s + 1))) half ∙ sym (above w)
 
   pub bit-besides : (x : ℕ) → Bit (w + 2 ^ s) x ↔ (Bit w x ⊎ (x ≡ s))
   bit-besides x = go (lt? x s) (eq? x s)
     where
       go : Dec (x < s) → Dec (x ≡ s) → Bit (w + 2 ^ s) x ↔ (Bit w x ⊎ (x ≡ s))
       go (yes l) _ = (λ one. inl (sym (bit-below x l) ∙ one), ⊎-elim (λ one. bit-below x l ∙ one) (λ e. absurd (omega arith)))
-      go (no _) (yes e) = (λ _. inr e, λ _. subst (λ (n : ℕ). Bit (w + 2 ^ s) n) (sym e) (ap (λ (n : ℕ). n % 2) bit-itself))
-      go (no nl) (no ne) = (λ one. absurd (bit-beyond x (omega arith) (w + 2 ^ s) (omega arith) one), ⊎-elim (λ one. absurd (bit-beyond x (omega arith) w (omega arith) one)) (λ e. absurd (ne e)))
+      go (no _) (yes e) = (λ _. inr e, λ _. subst (λ (n : ℕ). Bit (w + 2 ^ s) n) (sym e) (omega (arith, bit-itself)))
+      go (no nl) (no ne) =
+          let same = ap (λ (n : ℕ). n % 2) (bit-beyond x (omega arith)) in
+          (λ one. inl (sym same ∙ one), ⊎-elim (λ one. same ∙ one) (λ e. absurd (ne e)))
+
+-- a word whose bits are those of w and s is as short as both
+pub bits-short : {w s r : ℕ} → ((x : ℕ) → Bit r x ↔ (Bit w x ⊎ (x ≡ s))) → (n : ℕ) → s < n → w < 2 ^ n → r < 2 ^ n
+bits-short {w} {s} {r} bits n l small = go (eq? (r / 2 ^ n) 0)
+  where
+    go : Dec (r / 2 ^ n ≡ 0) → r < 2 ^ n
+    go (yes none) = omega (arith, div-lt-iff-lt-mul {x = r} {y = 1} (pow-pos n) .0 (omega arith))
+    go (no some) =
+        let (x, above, one) = bit-above n r some in
+        absurd (⊎-elim (λ h. no-bit-above n w (div-eq-of-lt small) (x, above, h)) (λ e. omega arith) (bits x .0 one))

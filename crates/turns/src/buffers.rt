@@ -69,10 +69,13 @@ pub fn has_bit(w: usize, s: usize) -> bool
     (w >> s) % 2 == 1
 }
 
-// The word w with bit s besides, where w has no bit from s on.
+// The word w with bit s besides.
 pub fn with_bit(w: usize, s: usize) -> usize
-    requires { ⌜ (s < 32) × (w < 2 ^ s) ⌝ }
-    ensures { λ r. ⌜ (r < 2 ^ (s + 1)) × ((x : ℕ) → Bit r x ↔ (Bit w x ⊎ (x ≡ s))) ⌝ }
+    requires { ⌜ (s < 32) × (w < 2 ^ 32) ⌝ }
+    ensures { λ r. ⌜ ((n : ℕ) → s < n → w < 2 ^ n → r < 2 ^ n) × ((x : ℕ) → Bit r x ↔ (Bit w x ⊎ (x ≡ s))) ⌝ }
 {
+    if has_bit(w, s) {
+        return w;
+    }
     w + (1 << s)
 }

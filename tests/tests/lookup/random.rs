@@ -9,6 +9,7 @@ use rbatl_tests::{games, jobs};
 const SEED: u64 = 0x6C6F_6F6B_7570;
 const CASES: u64 = 2_000;
 const FULL_CASES: u64 = 20;
+const CROWDED_CASES: u64 = 200;
 
 /// What the room holds beforehand must not matter.
 fn room(case: u64) -> Vec<u8> {
@@ -208,4 +209,24 @@ fn full_jobs() {
     }
     assert_each_came(&seen.moves, &[0, 9, 10], FULL_CASES / 2);
     assert_each_came(&seen.replies, &[0, 10, 11], FULL_CASES / 2);
+}
+
+/// 32 rows: only those that a row needs are labelled for it.
+#[test]
+fn crowded_jobs() {
+    let mut seen = Seen::default();
+    for case in 0..CROWDED_CASES.max(cases(CASES) / 10) {
+        let rng = &mut Rng::for_case(SEED ^ 6, case);
+        let job = games::crowd(rng);
+        let asked = Asked::new(&job, room(case), format!("case {case}"));
+        for row in games::choosy_rows(&job) {
+            let at = rng.pick(&asked.model.positions(row));
+            seen.coalition_move(&asked, at);
+            for mv in numbers(rng, &asked.model, at) {
+                seen.reply(&asked, at, mv);
+            }
+        }
+    }
+    assert_each_came(&seen.moves, &[0, 10], CROWDED_CASES);
+    assert_each_came(&seen.replies, &[0, 10, 11], CROWDED_CASES);
 }

@@ -9,6 +9,7 @@ use rbatl_tests::random::{block, cases, small_sizes, Rng};
 const SEED: u64 = 0x736F_6C76_6572;
 const CASES: u64 = 20_000;
 const FULL_CASES: u64 = 50;
+const CROWDED_CASES: u64 = 200;
 
 /// Some jobs with something to play for, some with rows of every shape.
 fn small_job(rng: &mut Rng) -> Vec<u8> {
@@ -82,4 +83,18 @@ fn full_jobs() {
         all_calls(&job, lent, &format!("case {case}"), &mut seen);
     }
     assert_each_came(&seen, &[0, 8], 3 * FULL_CASES);
+}
+
+/// 32 rows: only those that a row needs are labelled for it.
+#[test]
+fn crowded_jobs() {
+    let (lents, mut seen, mut choosy) = (lents(), [0; 9], 0);
+    for case in 0..CROWDED_CASES.max(cases(CASES) / 100) {
+        let job = games::crowd(&mut Rng::for_case(SEED ^ 2, case));
+        let lent = &lents[(case % 3) as usize];
+        all_calls(&job, lent, &format!("case {case}"), &mut seen);
+        choosy += games::choosy_rows(&job).len() as u64;
+    }
+    assert_each_came(&seen, &[0, 8], 3 * CROWDED_CASES);
+    assert!(choosy > 5 * CROWDED_CASES, "{choosy} rows leave some out");
 }

@@ -9,6 +9,7 @@ use Rattle.text.proofs.Adding.{adds-then}
 use Rattle.game.specs.Model.{RowSet}
 use Rattle.solver.specs.Tables.{tableIn}
 use Rattle.game.proofs.Blocks.Tables.{set-small}
+use Rattle.solver.proofs.Needing.{lower-named}
 use Rattle.report.specs.Listing.{setLine, planLines}
 use Rattle.report.proofs.Rowwise.{set-inside, plain-listed, strategic-listed}
 use borrow.Author.Needs.{needs}
@@ -16,7 +17,7 @@ use Rattle.report.proofs.rows.row_lines.Statement.{statement}
 use Rattle.report.proofs.rows.row_lines.Tie as tie
 
 label-row-requires : tie.Need-label-row-requires
-label-row-requires c κs = let pre = c .before .before .before .before .before .before .before .pre in (pre .0 .0, ((pre .0 .1, omega (arith, pre .1 .0 .0), omega (arith, pre .1 .0 .1)), pre .1 .1))
+label-row-requires c κs = let args = c .before .before .before .before .before .before .before .args in let pre = c .before .before .before .before .before .before .before .pre in (pre .0 .0, ((pre .0 .1, omega (arith, pre .1 .0 .0), omega (arith, pre .1 .0 .1)), lower-named (args .block .now) (pre .0 .0) (args .i) (args .sets .now) (pre .0 .1) (pre .1 .1)))
 
 -- the word that was read is the row's set
 told : (c : tie.After-word-at) → RowSet (c .before .before .before .before .before .before .before .before .before .before .before .before .before .before .args .block .now) (c .before .before .before .before .before .before .before .before .before .before .before .before .before .before .args .i) (c .word-at .result)

@@ -1,16 +1,16 @@
 -- `label` refuses first, and then labels every row into sets that hold zeros. Assumes nothing.
 use mathlib.Core.List.{List}
 use mathlib.Core.Logic.{inl, inr}
-use mathlib.Core.Path.{_≡_, sym, _∙_, ap, subst}
+use mathlib.Core.Path.{_≡_, _∙_, ap}
 use Prim.Native.Nat.{ℕ, _≤_, _<_}
 use native.Mathlib.Omega.{arith}
 use lib.ListN.{length}
 use Rattle.block.specs.Layout as L
 use Rattle.block.proofs.Passing.{passing}
 use Rattle.turns.specs.Buffers.{wordIn}
-use Rattle.solver.specs.Labels.{LowerSets}
 use Rattle.turns.proofs.Bytes.{cleared, zero-word}
 use Rattle.solver.proofs.Calls.{label-length, label-refused, label-passed}
+use Rattle.solver.proofs.Needing.{all-ones, all-closed}
 use borrow.Author.Needs.{needs}
 use Rattle.solver.proofs.label.label.Statement.{statement}
 use Rattle.solver.proofs.label.label.Tie as tie
@@ -37,10 +37,11 @@ rows-requires : tie.Need-rows-requires
 rows-requires c κs = search needs
 
 label-rows-requires : tie.Need-label-rows-requires
-label-rows-requires c κs = (
-  passing (rw (c .before .before .before .before .before .before .before .enum-told .given .1) at (c .before .before .before .before .before .before .before .before .before .check .ensures)),
-  (omega (arith, c .before .before .rows .ensures), omega (arith, c .before .before .before .before .before .zeros .kept .0, c .before .before .before .before .before .before .before .before .before .before .before .if2 .left), omega (arith, c .before .before .before .before .before .before .before .before .before .before .if3 .left)),
-)
+label-rows-requires c κs =
+    let b = c .before .before .before .before .before .before .before .before .before .before .before .before .before .before .before .before .args .block .now in
+    let valid = passing (rw (c .before .before .before .before .before .before .before .enum-told .given .1) at (c .before .before .before .before .before .before .before .before .before .check .ensures)) in
+    let few : c .before .before .rows .result ≤ L.rows b = omega (arith, c .before .before .rows .ensures) in
+    (valid, ((few, omega (arith, c .before .before .before .before .before .zeros .kept .0, c .before .before .before .before .before .before .before .before .before .before .before .if2 .left), omega (arith, c .before .before .before .before .before .before .before .before .before .before .if3 .left)), all-closed b valid (c .before .before .rows .result) few))
 
 zeros-requires-2 : tie.Need-zeros-requires-2
 zeros-requires-2 c κs = search needs
@@ -64,12 +65,13 @@ returns-4 c =
     let rows = c .before .before .before .before .before .before .before .before .label-rows in
     let first = cleared (args .sets .now) (c .before .before .before .before .before .before .before .before .before .before .before .before .before .before .zeros .last .0) 128 (c .before .before .before .before .before .before .before .before .before .before .before .before .before .before .zeros .ensures) (c .before .before .before .before .before .before .before .before .before .before .before .before .before .before .before .before .before .before .before .before .if2 .left) in
     let all = c .before .before .before .before .before .before .before .before .before .before .before .rows .ensures in
-    label-passed b (args .sets .now) (args .room .now) (c .before .before .before .before .before .before .before .before .before .before .before .before .before .before .before .before .before .before .before .before .before .if1 .left) (c .before .before .before .before .before .before .before .before .before .before .before .before .before .before .before .before .before .before .before .before .if2 .left) (c .before .before .before .before .before .before .before .before .before .before .before .before .before .before .before .before .before .before .before .if3 .left) (rows .last .1 .1 .0) (c .before .before .zeros2 .last .0)
-    (rw (c .before .before .before .before .before .before .before .before .before .before .before .before .before .before .before .before .enum-told .given .1) at (c .before .before .before .before .before .before .before .before .before .before .before .before .before .before .before .before .before .before .check .ensures))
-    (subst (λ (n : ℕ). LowerSets b n (rows .last .1 .1 .0)) all (rows .ensures .0))
-    (λ j l. rows .ensures .1 .0 j (omega (arith, all)) ∙ ap (λ (x : List ℕ). wordIn x j) first ∙ zero-word 128 j)
-    (omega (arith, rows .ensures .1 .1 .0, c .before .before .before .before .before .before .before .before .before .before .before .before .before .before .zeros .kept .0, c .before .before .before .before .before .before .before .before .before .before .before .before .before .before .before .before .before .before .before .before .if2 .left))
-    (cleared (rows .last .1 .1 .1 .0) (c .before .before .zeros2 .last .0) 12288 (c .before .before .zeros2 .ensures) (omega (arith, rows .ensures .1 .1 .1, c .before .before .before .before .before .before .before .before .before .before .before .before .before .before .before .before .before .before .before .if3 .left)))
+    let told = rw (c .before .before .before .before .before .before .before .before .before .before .before .before .before .before .before .before .enum-told .given .1) at (c .before .before .before .before .before .before .before .before .before .before .before .before .before .before .before .before .before .before .check .ensures) in
+    label-passed b (args .sets .now) (args .room .now) (c .before .before .before .before .before .before .before .before .before .before .before .before .before .before .before .before .before .before .before .before .before .if1 .left) (c .before .before .before .before .before .before .before .before .before .before .before .before .before .before .before .before .before .before .before .before .if2 .left) (c .before .before .before .before .before .before .before .before .before .before .before .before .before .before .before .before .before .before .before .if3 .left) (rows .last .1 .1 .1 .0) (c .before .before .zeros2 .last .0)
+    told
+    (λ j l. rows .ensures .0 .each j (omega (arith, all), all-ones 32 j (omega (arith, passing told .sized .rows-fit))))
+    (λ j l. rows .ensures .0 .others j (λ (small, _). omega (arith, all)) ∙ ap (λ (x : List ℕ). wordIn x j) first ∙ zero-word 128 j)
+    (omega (arith, rows .ensures .0 .long, c .before .before .before .before .before .before .before .before .before .before .before .before .before .before .zeros .kept .0, c .before .before .before .before .before .before .before .before .before .before .before .before .before .before .before .before .before .before .before .before .if2 .left))
+    (cleared (rows .last .1 .1 .1 .1 .0) (c .before .before .zeros2 .last .0) 12288 (c .before .before .zeros2 .ensures) (omega (arith, rows .ensures .1, c .before .before .before .before .before .before .before .before .before .before .before .before .before .before .before .before .before .before .before .if3 .left)))
 
 same-length-3 : tie.Need-same-length-3
 same-length-3 c = search needs

@@ -1,6 +1,6 @@
 -- `label_row` ranks a strategic row and stores the word of the states in which the row is true. Assumes nothing.
 use mathlib.Core.List.{List}
-use mathlib.Core.Logic.{⊎-elim}
+use mathlib.Core.Logic.{inl, inr, ⊎-elim}
 use mathlib.Core.Path.{_≡_, refl, sym, _∙_, ap, subst}
 use Prim.Native.Nat.{ℕ, _≤_, _<_}
 use native.Mathlib.Omega.{arith}
@@ -58,13 +58,13 @@ left-told : (c : tie.Joined1) → L.propKind < L.kind (c .before .before .before
 left-told c uses =
     let start = c .before .before .before .before .before .before .before .before .before in
     let b = start .args .block .now in
-    subst (RowSet b (L.left b (start .args .i))) (sym (c .before .before .before .before .left-set .ensures .0 uses)) (start .pre .1 .1 (L.left b (start .args .i)) (start .pre .0 .row-fits (start .args .i) (start .pre .1 .0 .0) .left-lower uses))
+    subst (RowSet b (L.left b (start .args .i))) (sym (c .before .before .before .before .left-set .ensures .0 uses)) (start .pre .1 .1 (L.left b (start .args .i)) (inl (uses, refl)))
 
 right-told : (c : tie.Joined1) → L.Binary (L.kind (c .before .before .before .before .before .before .before .before .before .args .block .now) (c .before .before .before .before .before .before .before .before .before .args .i)) → RowSet (c .before .before .before .before .before .before .before .before .before .args .block .now) (L.right (c .before .before .before .before .before .before .before .before .before .args .block .now) (c .before .before .before .before .before .before .before .before .before .args .i)) (c .before .before .right-set .result)
 right-told c uses =
     let start = c .before .before .before .before .before .before .before .before .before in
     let b = start .args .block .now in
-    subst (RowSet b (L.right b (start .args .i))) (sym (c .before .before .right-set .ensures .0 uses)) (start .pre .1 .1 (L.right b (start .args .i)) (start .pre .0 .row-fits (start .args .i) (start .pre .1 .0 .0) .right-lower uses))
+    subst (RowSet b (L.right b (start .args .i))) (sym (c .before .before .right-set .ensures .0 uses)) (start .pre .1 .1 (L.right b (start .args .i)) (inr (uses, refl)))
 
 -- the ranks of any other row stay
 plain : (c : tie.Joined1) → (L.Strategic (L.kind (c .before .before .before .before .before .before .before .before .before .args .block .now) (c .before .before .before .before .before .before .before .before .before .args .i)) → ⊥) → c .if1 .ranks ≡ c .before .before .before .before .before .before .before .before .before .args .ranks .now

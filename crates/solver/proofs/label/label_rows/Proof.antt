@@ -1,56 +1,67 @@
--- `label_rows` labels one row after another. Assumes nothing.
-use mathlib.Core.Path.{_≡_, refl, _∙_}
+-- `label_rows` labels one row of the word after another. Assumes nothing.
+use mathlib.Core.Logic.{⊎-elim}
+use mathlib.Core.Path.{_≡_, refl, sym, _∙_, ap, subst}
 use Prim.Native.Nat.{ℕ, _+_, _-_, _≤_, _<_}
 use native.Mathlib.Omega.{arith}
 use lib.ListN.{length}
-use Rattle.turns.specs.Buffers.{wordIn}
-use Rattle.solver.specs.Labels.{LowerSets}
-use Rattle.solver.proofs.Labelling.{lower-more}
+use Rattle.block.specs.Layout as L
+use Rattle.block.proofs.Decide as D
+use Rattle.solver.specs.Labels.{InWord, RowsLabelled}
+use Rattle.solver.proofs.Needing.{names-lower, labelled-with, labelled-skip}
 use Rattle.solver.proofs.label.label_rows.Statement.{statement}
 use Rattle.solver.proofs.label.label_rows.Tie as tie
 
 abbrev Inv-loop : tie.InvT-loop
-Inv-loop block n sets₀ ranks₀ i₀ sets ranks i = ((i ≤ n) × (length sets ≡ length sets₀) × (length ranks ≡ length ranks₀)) × LowerSets block i sets × ((j : ℕ) → i ≤ j → wordIn sets j ≡ wordIn sets₀ j)
+Inv-loop block n word sets₀ ranks₀ i₀ sets ranks i = (i ≤ n) × (length ranks ≡ length ranks₀) × RowsLabelled block (InWord i word) sets₀ sets
 
 abbrev μ-loop : tie.MeasureT-loop
-μ-loop block n sets₀ ranks₀ i₀ sets ranks i = n - i
+μ-loop block n word sets₀ ranks₀ i₀ sets ranks i = n - i
 
 loop-holds : tie.Need-loop-holds Inv-loop μ-loop
-loop-holds c = ((omega arith, refl, refl), (λ j l. absurd (omega arith)), λ j _. refl)
+loop-holds c = (omega arith, refl, record { each = λ j (l, _). absurd (omega arith); others = λ j _. refl; long = refl })
+
+has-bit-requires : tie.Need-has-bit-requires Inv-loop μ-loop
+has-bit-requires c κs = omega (arith, c .loop-test .taken, c .before .before .before .before .before .pre .1 .0 .0, c .before .before .before .before .before .pre .0 .sized .rows-fit)
 
 label-row-requires : tie.Need-label-row-requires Inv-loop μ-loop
 label-row-requires c κs =
-    let pre = c .before .before .before .before .before .before .before .pre in
-    let at = c .before .before .before .loop in
-    (pre .0, ((omega (arith, c .before .before .loop-test .taken, pre .1 .0), omega (arith, pre .1 .1, at .inv .0), omega (arith, pre .1 .2, at .inv .0)), at .inv .1))
+    let pre = c .before .before .before .before .before .before .before .before .before .pre in
+    let at = c .before .before .before .before .before .loop in
+    let small : at .i < c .before .before .before .before .before .before .before .before .before .args .n = c .before .before .before .before .loop-test .taken in
+    let has = D.truth (c .before .before .before .has-bit .ensures) (c .before .before .if1 .taken) in
+    let inside : at .i < L.rows (c .before .before .before .before .before .before .before .before .before .args .block .now) = omega (arith, small, pre .1 .0 .0) in
+    (pre .0, ((inside, omega (arith, pre .1 .0 .1, at .inv .2 .long), omega (arith, pre .1 .0 .2, at .inv .1)), λ j named. at .inv .2 .each j (names-lower (c .before .before .before .before .before .before .before .before .before .args .block .now) (pre .0) inside named, pre .1 .1 (at .i) j (small, has) named)))
 
 add-i : tie.Need-add-i Inv-loop μ-loop
 add-i c = omega arith
 
 loop-less : tie.Need-loop-less Inv-loop μ-loop
-loop-less c = omega arith
+loop-less c = omega (arith, c .before .before .loop-test .taken)
 
 loop-again : tie.Need-loop-again Inv-loop μ-loop
 loop-again c =
-    let at = c .before .before .before .before .before .before .before .before .loop in
-    let one = c .before .before .before .before .label-row in (
-      (omega (arith, c .before .before .before .before .before .before .before .loop-test .taken), one .ensures .0 .long ∙ at .inv .0 .1, one .ensures .1 .1 .1 ∙ at .inv .0 .2),
-      lower-more (c .before .before .before .before .before .before .before .before .before .before .before .before .args .block .now) (at .i) (at .sets) (one .last .1 .1 .0) (at .inv .1) (one .ensures .0),
-      λ j l. one .ensures .0 .others j (λ e. omega arith) ∙ at .inv .2 j (omega arith),
-    )
+    let args = c .before .before .before .before .before .before .before .args in
+    let b = args .block .now in
+    let at = c .before .before .before .loop in
+    let before : at .i < args .n = c .before .before .loop-test .taken in
+    let labelled = RowsLabelled b (InWord (at .i + 1) (args .word)) (args .sets .now) in
+    ⊎-elim
+    (λ w. (omega arith, ap length (w .9) ∙ w .3 .ensures .1 .1 .1 ∙ at .inv .1, subst labelled (sym (w .8)) (labelled-with b (args .word) (at .i) (at .inv .2) (w .3 .ensures .0) (D.truth (c .before .has-bit .ensures) (w .0 .taken)))))
+    (λ w. (omega arith, ap length (w .2) ∙ at .inv .1, subst labelled (sym (w .1)) (labelled-skip b (args .word) (at .i) (at .inv .2) (D.falsity (c .before .has-bit .ensures) (w .0 .left)))))
+    (c .if1 .came)
 
 same-length : tie.Need-same-length Inv-loop μ-loop
-same-length c = c .before .loop .inv .0 .1
+same-length c = c .before .loop .inv .2 .long
 
 same-length-2 : tie.Need-same-length-2 Inv-loop μ-loop
-same-length-2 c = c .before .loop .inv .0 .2
+same-length-2 c = c .before .loop .inv .1
 
 returns : tie.Need-returns Inv-loop μ-loop
 returns c =
-    let at = c .before .loop in (
-      (λ j l. at .inv .1 j (omega (arith, c .loop-test .left))),
-      ((λ j l. at .inv .2 j (omega (arith, at .inv .0))), (at .inv .0 .1, at .inv .0 .2)),
-    )
+    let args = c .before .before .before .before .before .args in
+    let at = c .before .loop in
+    let done : at .i ≡ args .n = omega (arith, at .inv .0, c .loop-test .left) in
+    (subst (λ (n : ℕ). RowsLabelled (args .block .now) (InWord n (args .word)) (args .sets .now) (at .sets)) done (at .inv .2), at .inv .1)
 
 pub label-rows-spec : {M : Type 1} → statement M
-label-rows-spec = tie.close (tie.spec Inv-loop μ-loop loop-holds label-row-requires add-i loop-less loop-again same-length same-length-2 returns)
+label-rows-spec = tie.close (tie.spec Inv-loop μ-loop loop-holds has-bit-requires label-row-requires add-i loop-less loop-again same-length same-length-2 returns)

@@ -7,7 +7,7 @@ use borrow.Author.Tests.{not-true, not-false}
 use Rattle.block.specs.Decide.{Bit}
 use Rattle.block.specs.Layout as L
 use Rattle.block.proofs.Decide as D
-use Rattle.solver.proofs.Words.{SaysBelow, says-none, says-with, says-skip, says-all}
+use Rattle.solver.proofs.Words.{SaysBelow, longer, says-none, says-with, says-skip, says-all}
 use Rattle.solver.proofs.rows.complement.Statement.{statement}
 use Rattle.solver.proofs.rows.complement.Tie as tie
 
@@ -30,7 +30,7 @@ has-bit-requires : tie.Need-has-bit-requires Inv-loop μ-loop
 has-bit-requires c κs = omega (arith, c .loop-test .taken, c .before .before .states .ensures, c .before .before .before .before .pre .sized .states-fit)
 
 with-bit-requires : tie.Need-with-bit-requires Inv-loop μ-loop
-with-bit-requires c κs = (omega (arith, c .before .before .loop-test .taken, c .before .before .before .before .states .ensures, c .before .before .before .before .before .before .pre .sized .states-fit), c .before .before .before .loop .inv .1 .few)
+with-bit-requires c κs = (omega (arith, c .before .before .loop-test .taken, c .before .before .before .before .states .ensures, c .before .before .before .before .before .before .pre .sized .states-fit), longer _ (c .before .before .before .loop .inv .1) 32 (omega (arith, c .before .before .loop-test .taken, c .before .before .before .before .states .ensures, c .before .before .before .before .before .before .pre .sized .states-fit)))
 
 add-s : tie.Need-add-s Inv-loop μ-loop
 add-s c = omega arith

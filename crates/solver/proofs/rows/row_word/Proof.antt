@@ -6,7 +6,7 @@ use native.Mathlib.Omega.{arith}
 use Rattle.block.specs.Layout as L
 use Rattle.block.proofs.Decide as D
 use Rattle.solver.specs.Rows.{TrueBy}
-use Rattle.solver.proofs.Words.{SaysBelow, says-none, says-with, says-skip, says-all}
+use Rattle.solver.proofs.Words.{SaysBelow, longer, says-none, says-with, says-skip, says-all}
 use Rattle.solver.proofs.rows.row_word.Statement.{statement}
 use Rattle.solver.proofs.rows.row_word.Tie as tie
 
@@ -26,7 +26,7 @@ true-at-requires : tie.Need-true-at-requires Inv-loop μ-loop
 true-at-requires c κs = let pre = c .before .before .before .before .before .pre in (pre .0, (pre .1 .0, omega (arith, c .loop-test .taken, c .before .before .states .ensures), pre .1 .1))
 
 with-bit-requires : tie.Need-with-bit-requires Inv-loop μ-loop
-with-bit-requires c κs = (omega (arith, c .before .before .loop-test .taken, c .before .before .before .before .states .ensures, c .before .before .before .before .before .before .before .pre .0 .sized .states-fit), c .before .before .before .loop .inv .1 .few)
+with-bit-requires c κs = (omega (arith, c .before .before .loop-test .taken, c .before .before .before .before .states .ensures, c .before .before .before .before .before .before .before .pre .0 .sized .states-fit), longer _ (c .before .before .before .loop .inv .1) 32 (omega (arith, c .before .before .loop-test .taken, c .before .before .before .before .states .ensures, c .before .before .before .before .before .before .before .pre .0 .sized .states-fit)))
 
 add-s : tie.Need-add-s Inv-loop μ-loop
 add-s c = omega arith
