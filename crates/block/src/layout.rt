@@ -8,6 +8,27 @@ ghost use Rattle.block.specs.Layout.{blockBytes, maxStates, maxAgents, m
 
 pub const BLOCK_BYTES: usize = 2469;
 
+// How many joint actions have a number, and how many rows there can be.
+pub const JOINT_ACTIONS: usize = 64;
+
+pub const MAX_ROWS: usize = 32;
+
+// The kinds of rows.
+pub const PROP_KIND: usize = 0;
+
+pub const NOT_KIND: usize = 1;
+
+pub const OR_KIND: usize = 2;
+
+pub const NEXT_KIND: usize = 3;
+
+pub const ALWAYS_KIND: usize = 4;
+
+pub const UNTIL_KIND: usize = 5;
+
+// The byte of an unlimited bound.
+pub const UNLIMITED: usize = 255;
+
 // A place of the layout: a header byte, the mask of a state, the count of a state and agent, the
 // cost of a state, agent, action and resource, the next state of a state and joint action, a
 // field of a row.

@@ -16,7 +16,8 @@ use Rattle.block.specs.declared.refusal.Refusal.the-variants.{Length, RowChoice
 use Rattle.block.specs.declared.refusal.Checked.the-variants as checked
 use Rattle.block.proofs.Passing.{passing}
 use Rattle.game.specs.Model.{RowSet}
-use Rattle.solver.specs.Calls.{roomBytes, rowOrder, RoomAfter}
+use Rattle.turns.specs.Sizes.{roomBytes}
+use Rattle.solver.specs.Calls.{rowOrder, RoomAfter}
 use Rattle.turns.proofs.Bytes.{cleared}
 use Rattle.solver.proofs.Calls.{row-length, row-broken, row-missing, row-answered}
 use Rattle.block.specs.declared.refusal.Answer.{Answer}

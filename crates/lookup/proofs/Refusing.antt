@@ -17,7 +17,8 @@ use Rattle.game.specs.Position.{places, position, IsPosition, Allowed}
 use Rattle.game.specs.Play.{CoalitionWins, OpponentsWin}
 use Rattle.game.specs.Model.{boundsOf, arenaOf, objectiveOf}
 use Rattle.game.proofs.Numbers.Decide.{lt?}
-use Rattle.solver.specs.Calls.{roomBytes, NoChoice}
+use Rattle.turns.specs.Sizes.{roomBytes}
+use Rattle.solver.specs.Calls.{NoChoice}
 use Rattle.lookup.specs.Aims.{NoPosition}
 use Rattle.game.specs.Demand.{RowMove, RowReply}
 use Rattle.lookup.specs.Calls.{CoalitionAnswer, OpponentsAnswer, Unplaced, Found, MoveFound, ReplyFound, Call}

@@ -13,7 +13,8 @@ use Rattle.game.specs.Position.{Position, position, Allowed}
 use Rattle.game.specs.Play.{CoalitionWins}
 use Rattle.game.specs.Model.{arenaOf, objectiveOf}
 use Rattle.game.specs.Demand.{RowMove, RowReply}
-use Rattle.solver.specs.Calls.{roomBytes, RoomAfter, NoChoice}
+use Rattle.turns.specs.Sizes.{roomBytes}
+use Rattle.solver.specs.Calls.{RoomAfter, NoChoice}
 use Rattle.lookup.specs.Aims.{NoPosition}
 use Rattle.block.specs.declared.refusal.Answer.{Answer}
 use Rattle.block.specs.declared.refusal.Answer.the-variants as answer

@@ -15,7 +15,8 @@ use Rattle.block.specs.declared.refusal.Refusal.the-variants.{Length, RowChoice
 use Rattle.block.specs.declared.refusal.Checked.{Checked}
 use Rattle.block.specs.declared.refusal.Checked.the-variants as checked
 use Rattle.game.specs.Model.{RowTrue, RowSet}
-use Rattle.solver.specs.Calls.{roomBytes, rowOrder, RoomAfter}
+use Rattle.turns.specs.Sizes.{roomBytes}
+use Rattle.solver.specs.Calls.{rowOrder, RoomAfter}
 use Rattle.block.specs.declared.refusal.Answer.{Answer}
 use Rattle.block.specs.declared.refusal.Answer.the-variants as answer
 use Rattle.turns.specs.Listed.{statesBytes, Lists}

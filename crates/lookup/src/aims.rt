@@ -4,6 +4,7 @@ use turns::buffers;
 use turns::moves;
 use turns::positions;
 use turns::replies;
+use turns::sizes;
 ghost use mathlib.Core.Bool.{true};
 ghost use mathlib.Core.Path.{_≡_};
 ghost use Prim.Native.Nat.{ℕ, _≤_, _<_};
@@ -14,17 +15,18 @@ ghost use Rattle.block.specs.Valid.{Valid};
 ghost use Rattle.game.specs.Position.{position, IsPosition, Reply, Allowed};
 ghost use Rattle.game.specs.Model.{arenaOf};
 ghost use Rattle.lookup.specs.Aims.{AimBy, CounterBy, SideBy, Aimed, GoodBy, CountersBy, FoundBelow};
+ghost use Rattle.turns.specs.Sizes.{roomBytes};
 
 // Whether an outcome in state q with this rank is one at which the coalition aims, from a position of rank own.
 fn aims(kind: usize, left: usize, own: usize, q: usize, rank: usize) -> bool
     requires { ⌜ q < 32 ⌝ }
     ensures { λ r. ⌜ Decides (AimBy kind left own q rank) r ⌝ }
 {
-    if kind == 3 {
+    if kind == layout::NEXT_KIND {
         return buffers::has_bit(left, q);
     }
-    if kind == 4 {
-        return rank == 65535;
+    if kind == layout::ALWAYS_KIND {
+        return rank == sizes::NEVER;
     }
     rank < own
 }
@@ -34,13 +36,13 @@ fn counters(kind: usize, left: usize, own: usize, q: usize, rank: usize) -> bool
     requires { ⌜ q < 32 ⌝ }
     ensures { λ r. ⌜ Decides (CounterBy kind left own q rank) r ⌝ }
 {
-    if kind == 3 {
+    if kind == layout::NEXT_KIND {
         return !buffers::has_bit(left, q);
     }
-    if kind == 4 {
+    if kind == layout::ALWAYS_KIND {
         return rank < own;
     }
-    !(rank < 65535)
+    !(rank < sizes::NEVER)
 }
 
 // The one or the other.
@@ -68,7 +70,7 @@ fn aimed(
     r: usize,
 ) -> bool
     requires { ⌜ Valid (now block) ⌝ }
-    requires { ⌜ (i < L.rows (now block)) × L.Strategic (L.kind (now block) i) × (L.resources (now block) ≤ length (now stocks)) × (12288 ≤ length (now ranks)) ⌝ }
+    requires { ⌜ (i < L.rows (now block)) × L.Strategic (L.kind (now block) i) × (L.resources (now block) ≤ length (now stocks)) × (roomBytes ≤ length (now ranks)) ⌝ }
     requires { ⌜ IsPosition (arenaOf (now block) i) (position s (now stocks)) ⌝ }
     requires { ⌜ Allowed (arenaOf (now block) i) (position s (now stocks)) m × Reply (arenaOf (now block) i) (position s (now stocks)) r ⌝ }
     ensures { λ t. ⌜ Decides (Aimed (now (block .entry)) i left own (now (ranks .entry)) (position s (now (stocks .entry))) ours m r) t ⌝ }
@@ -109,12 +111,12 @@ fn all_aimed(
     m: usize,
 ) -> bool
     requires { ⌜ Valid (now block) ⌝ }
-    requires { ⌜ (i < L.rows (now block)) × L.Strategic (L.kind (now block) i) × (L.resources (now block) ≤ length (now stocks)) × (12288 ≤ length (now ranks)) ⌝ }
+    requires { ⌜ (i < L.rows (now block)) × L.Strategic (L.kind (now block) i) × (L.resources (now block) ≤ length (now stocks)) × (roomBytes ≤ length (now ranks)) ⌝ }
     requires { ⌜ IsPosition (arenaOf (now block) i) (position s (now stocks)) × Allowed (arenaOf (now block) i) (position s (now stocks)) m ⌝ }
     ensures { λ t. ⌜ Decides ((r : ℕ) → Reply (arenaOf (now (block .entry)) i) (position s (now (stocks .entry))) r → Aimed (now (block .entry)) i left own (now (ranks .entry)) (position s (now (stocks .entry))) true m r) t ⌝ }
 {
     let mut r = 0;
-    while r < 64 {
+    while r < layout::JOINT_ACTIONS {
         if replies::is_reply(block, i, s, r) {
             if !aimed(block, i, left, own, ranks, s, stocks, true, m, r) {
                 return false;
@@ -136,12 +138,12 @@ pub fn find_move(
     stocks: &[u8],
 ) -> usize
     requires { ⌜ Valid (now block) ⌝ }
-    requires { ⌜ (i < L.rows (now block)) × L.Strategic (L.kind (now block) i) × (L.resources (now block) ≤ length (now stocks)) × (12288 ≤ length (now ranks)) ⌝ }
+    requires { ⌜ (i < L.rows (now block)) × L.Strategic (L.kind (now block) i) × (L.resources (now block) ≤ length (now stocks)) × (roomBytes ≤ length (now ranks)) ⌝ }
     requires { ⌜ IsPosition (arenaOf (now block) i) (position s (now stocks)) ⌝ }
     ensures { λ m. ⌜ FoundBelow (GoodBy (now (block .entry)) i left own (now (ranks .entry)) (position s (now (stocks .entry)))) m ⌝ }
 {
     let mut m = 0;
-    while m < 64 {
+    while m < layout::JOINT_ACTIONS {
         if allowed(block, i, s, stocks, m) {
             if all_aimed(block, i, left, own, ranks, s, stocks, m) {
                 return m;
@@ -149,7 +151,7 @@ pub fn find_move(
         }
         m += 1;
     }
-    64
+    layout::JOINT_ACTIONS
 }
 
 // The smallest reply that counters the move m, or 64 where there is none.
@@ -164,12 +166,12 @@ pub fn find_reply(
     m: usize,
 ) -> usize
     requires { ⌜ Valid (now block) ⌝ }
-    requires { ⌜ (i < L.rows (now block)) × L.Strategic (L.kind (now block) i) × (L.resources (now block) ≤ length (now stocks)) × (12288 ≤ length (now ranks)) ⌝ }
+    requires { ⌜ (i < L.rows (now block)) × L.Strategic (L.kind (now block) i) × (L.resources (now block) ≤ length (now stocks)) × (roomBytes ≤ length (now ranks)) ⌝ }
     requires { ⌜ IsPosition (arenaOf (now block) i) (position s (now stocks)) × Allowed (arenaOf (now block) i) (position s (now stocks)) m ⌝ }
     ensures { λ r. ⌜ FoundBelow (CountersBy (now (block .entry)) i left own (now (ranks .entry)) (position s (now (stocks .entry))) m) r ⌝ }
 {
     let mut r = 0;
-    while r < 64 {
+    while r < layout::JOINT_ACTIONS {
         if replies::is_reply(block, i, s, r) {
             if aimed(block, i, left, own, ranks, s, stocks, false, m, r) {
                 return r;
@@ -177,5 +179,5 @@ pub fn find_reply(
         }
         r += 1;
     }
-    64
+    layout::JOINT_ACTIONS
 }

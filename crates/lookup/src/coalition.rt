@@ -6,8 +6,8 @@ use block::layout;
 use block::refusal::Answer;
 use block::refusal::Checked;
 use block::refusal::Refusal;
-use solver::sizes;
 use solver::table;
+use turns::sizes;
 ghost use mathlib.Core.List.{[], _∷_};
 ghost use mathlib.Core.Path.{_≡_};
 ghost use Prim.Native.Nat.{_≤_, _<_};
@@ -18,11 +18,12 @@ ghost use Rattle.game.specs.Position.{position, IsPosition};
 ghost use Rattle.game.specs.Model.{arenaOf};
 ghost use Rattle.game.specs.Demand.{Demand3};
 ghost use Rattle.lookup.specs.Calls.{CoalitionAnswer, MoveFound, MoveCall};
+ghost use Rattle.turns.specs.Sizes.{roomBytes};
 
 // The team's move at a position of a strategic row.
 fn coalition_at(block: &[u8], i: usize, s: usize, stocks: &[u8], room: &mut [u8]) -> Answer
     requires { ⌜ Valid (now block) ⌝ }
-    requires { ⌜ (i < L.rows (now block)) × L.Strategic (L.kind (now block) i) × (L.resources (now block) ≤ length (now stocks)) × (length (now room) ≡ 12288) ⌝ }
+    requires { ⌜ (i < L.rows (now block)) × L.Strategic (L.kind (now block) i) × (L.resources (now block) ≤ length (now stocks)) × (length (now room) ≡ roomBytes) ⌝ }
     requires { ⌜ IsPosition (arenaOf (now block) i) (position s (now stocks)) ⌝ }
     ensures { λ a. ⌜ CoalitionAnswer (now (block .entry)) i (position s (now (stocks .entry))) a ⌝ }
     ensures { λ _. ⌜ length (now (room .exit)) ≡ length (now (room .entry)) ⌝ }
@@ -31,7 +32,7 @@ fn coalition_at(block: &[u8], i: usize, s: usize, stocks: &[u8], room: &mut [u8]
     if !here.wins {
         return Answer::Refused(Refusal::WrongSide);
     }
-    if layout::kind(block, i) == 5 && here.own == 0 {
+    if layout::kind(block, i) == layout::UNTIL_KIND && here.own == 0 {
         return Answer::Value(0);
     }
     let m = aims::find_move(block, i, here.left, here.own, room, s, stocks);
@@ -40,7 +41,7 @@ fn coalition_at(block: &[u8], i: usize, s: usize, stocks: &[u8], room: &mut [u8]
 
 // The same of any block, row and position; the room is left as it comes out.
 fn coalition_answer(block: &[u8], i: usize, s: usize, stocks: &[u8], room: &mut [u8]) -> Answer
-    requires { ⌜ (length (now stocks) ≡ 2) × (length (now room) ≡ 12288) ⌝ }
+    requires { ⌜ (length (now stocks) ≡ 2) × (length (now room) ≡ roomBytes) ⌝ }
     ensures { λ a. ⌜ MoveFound (now (block .entry)) i s (now (stocks .entry)) (now (room .entry)) a ⌝ }
     ensures { λ _. ⌜ length (now (room .exit)) ≡ length (now (room .entry)) ⌝ }
 {

@@ -6,9 +6,9 @@ use block::layout;
 use block::refusal::Answer;
 use block::refusal::Checked;
 use block::refusal::Refusal;
-use solver::sizes;
 use solver::table;
 use turns::buffers;
+use turns::sizes;
 ghost use mathlib.Core.List.{[], _∷_};
 ghost use mathlib.Core.Path.{_≡_};
 ghost use Prim.Native.Nat.{_≤_, _<_};
@@ -21,16 +21,17 @@ ghost use Rattle.game.specs.Model.{arenaOf};
 ghost use Rattle.game.specs.Demand.{Demand3};
 ghost use Rattle.lookup.specs.Aims.{FailedBy};
 ghost use Rattle.lookup.specs.Calls.{OpponentsAnswer, ReplyFound, ReplyCall};
+ghost use Rattle.turns.specs.Sizes.{roomBytes};
 
 // Whether the row has failed already in state s, at a position of rank own.
 fn failed(kind: usize, left: usize, right: usize, own: usize, s: usize) -> bool
     requires { ⌜ s < 32 ⌝ }
     ensures { λ r. ⌜ Decides (FailedBy kind left right own s) r ⌝ }
 {
-    if kind == 3 {
+    if kind == layout::NEXT_KIND {
         return false;
     }
-    if kind == 4 {
+    if kind == layout::ALWAYS_KIND {
         return own == 0;
     }
     if buffers::has_bit(left, s) {
@@ -49,7 +50,7 @@ fn opponents_at(
     room: &mut [u8],
 ) -> Answer
     requires { ⌜ Valid (now block) ⌝ }
-    requires { ⌜ (i < L.rows (now block)) × L.Strategic (L.kind (now block) i) × (L.resources (now block) ≤ length (now stocks)) × (length (now room) ≡ 12288) ⌝ }
+    requires { ⌜ (i < L.rows (now block)) × L.Strategic (L.kind (now block) i) × (L.resources (now block) ≤ length (now stocks)) × (length (now room) ≡ roomBytes) ⌝ }
     requires { ⌜ IsPosition (arenaOf (now block) i) (position s (now stocks)) ⌝ }
     ensures { λ a. ⌜ OpponentsAnswer (now (block .entry)) i (position s (now (stocks .entry))) m a ⌝ }
     ensures { λ _. ⌜ length (now (room .exit)) ≡ length (now (room .entry)) ⌝ }
@@ -77,7 +78,7 @@ fn opponents_answer(
     m: usize,
     room: &mut [u8],
 ) -> Answer
-    requires { ⌜ (length (now stocks) ≡ 2) × (length (now room) ≡ 12288) ⌝ }
+    requires { ⌜ (length (now stocks) ≡ 2) × (length (now room) ≡ roomBytes) ⌝ }
     ensures { λ a. ⌜ ReplyFound (now (block .entry)) i s (now (stocks .entry)) m (now (room .entry)) a ⌝ }
     ensures { λ _. ⌜ length (now (room .exit)) ≡ length (now (room .entry)) ⌝ }
 {

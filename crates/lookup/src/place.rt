@@ -5,6 +5,7 @@ use solver::label;
 use solver::rows;
 use turns::buffers;
 use turns::positions;
+use turns::sizes;
 ghost use mathlib.Core.Path.{_≡_};
 ghost use Prim.Native.Nat.{_≤_, _<_};
 ghost use lib.ListN.{length};
@@ -15,6 +16,7 @@ ghost use Rattle.game.specs.Position as P;
 ghost use Rattle.game.specs.Model.{boundsOf, arenaOf};
 ghost use Rattle.solver.specs.Labels.{Prepared};
 ghost use Rattle.lookup.specs.Aims.{NoPosition, Stands};
+ghost use Rattle.turns.specs.Sizes.{roomBytes};
 
 // The sets of the rows that a row names.
 struct Words {
@@ -64,10 +66,10 @@ pub fn no_position(block: &[u8], i: usize, s: usize, stocks: &[u8]) -> bool
 // Labels the rows that row i needs and stores its ranks in the room. Answers the sets of the rows that it names.
 fn prepare(block: &[u8], i: usize, room: &mut [u8]) -> Words
     requires { ⌜ Valid (now block) ⌝ }
-    requires { ⌜ (i < L.rows (now block)) × L.Strategic (L.kind (now block) i) × (length (now room) ≡ 12288) ⌝ }
+    requires { ⌜ (i < L.rows (now block)) × L.Strategic (L.kind (now block) i) × (length (now room) ≡ roomBytes) ⌝ }
     ensures { λ w. ⌜ Prepared (now (block .entry)) i (w .left) (w .right) (now (room .exit)) × (length (now (room .exit)) ≡ length (now (room .entry))) ⌝ }
 {
-    let mut sets = [0u8; 128];
+    let mut sets = [0u8; sizes::SETS_BYTES];
     label::label_needed(block, i, &mut sets, room);
     let left = label::left_set(block, &sets, i);
     let right = label::right_set(block, &sets, i);
@@ -81,7 +83,7 @@ fn prepare(block: &[u8], i: usize, room: &mut [u8]) -> Words
 // Makes row i ready, with its ranks in the room, and looks at the rank of a position.
 pub fn look(block: &[u8], i: usize, s: usize, stocks: &[u8], room: &mut [u8]) -> Standing
     requires { ⌜ Valid (now block) ⌝ }
-    requires { ⌜ (i < L.rows (now block)) × L.Strategic (L.kind (now block) i) × (L.resources (now block) ≤ length (now stocks)) × (length (now room) ≡ 12288) ⌝ }
+    requires { ⌜ (i < L.rows (now block)) × L.Strategic (L.kind (now block) i) × (L.resources (now block) ≤ length (now stocks)) × (length (now room) ≡ roomBytes) ⌝ }
     requires { ⌜ P.IsPosition (arenaOf (now block) i) (P.position s (now stocks)) ⌝ }
     ensures { λ t. ⌜ Stands (now (block .entry)) i (P.position s (now (stocks .entry))) (t .left) (t .right) (t .own) (t .wins) (now (room .exit)) × (length (now (room .exit)) ≡ length (now (room .entry))) ⌝ }
 {

@@ -6,9 +6,9 @@ use block::refusal::Answer;
 use block::refusal::Checked;
 use block::refusal::Refusal;
 use solver::label;
-use solver::sizes;
 use turns::buffers;
 use turns::sets;
+use turns::sizes;
 ghost use mathlib.Core.Path.{_≡_};
 ghost use Prim.Native.Nat.{_<_};
 ghost use lib.ListN.{length};
@@ -17,6 +17,7 @@ ghost use Rattle.block.specs.Refusal.{answerOf, First};
 ghost use Rattle.block.specs.Valid.{Valid};
 ghost use Rattle.solver.specs.Calls.{rowOrder};
 ghost use Rattle.lookup.specs.States.{Unlisted, Admitted, StatesIn, frontOf, StatesCall, RefusalCall, PartCall};
+ghost use Rattle.turns.specs.Sizes.{roomBytes};
 
 // The list has a byte for each state that a job can have.
 const STATES_BYTES: usize = 24;
@@ -45,10 +46,10 @@ fn turned_down(block: &[u8], i: usize, list: usize, room: usize) -> Checked
 // Lists the states of row i.
 fn list_row(block: &[u8], i: usize, list: &mut [u8], room: &mut [u8]) -> usize
     requires { ⌜ Valid (now block) ⌝ }
-    requires { ⌜ (i < L.rows (now block)) × (length (now list) ≡ 24) × (length (now room) ≡ 12288) ⌝ }
-    ensures { λ r. ⌜ StatesIn (now (block .entry)) i (now (list .exit)) r × (length (now (room .exit)) ≡ 12288) ⌝ }
+    requires { ⌜ (i < L.rows (now block)) × (length (now list) ≡ 24) × (length (now room) ≡ roomBytes) ⌝ }
+    ensures { λ r. ⌜ StatesIn (now (block .entry)) i (now (list .exit)) r × (length (now (room .exit)) ≡ roomBytes) ⌝ }
 {
-    let mut words = [0u8; 128];
+    let mut words = [0u8; sizes::SETS_BYTES];
     label::label_needed(block, i, &mut words, room);
     label::label_row(block, i, &mut words, room);
     let set = buffers::word_at(&words, i);

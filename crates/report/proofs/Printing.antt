@@ -19,7 +19,7 @@ use Rattle.text.specs.Job.{either}
 use Rattle.text.specs.Text.{textBytes, blank, readText, readCall, answerTo, blockAfter, outcomeOf}
 use Rattle.text.proofs.Formats.{never}
 use Rattle.text.proofs.Accepts.{accepts}
-use Rattle.solver.specs.Calls.{roomBytes, movesBytes}
+use Rattle.turns.specs.Sizes.{roomBytes, movesBytes}
 use Rattle.block.specs.declared.refusal.Answer.{Answer}
 use Rattle.block.specs.declared.refusal.Answer.the-variants.{Value, Refused}
 use Rattle.report.specs.Call.{listingBytes, Filled, listCall, ListingAfter, RoomsAfter, ListingCall}

@@ -11,7 +11,7 @@ use Rattle.block.specs.declared.refusal.Refusal.the-variants.{Length}
 use Rattle.text.specs.Format.{Outcome, accepted, refused}
 use Rattle.text.specs.Job.{either}
 use Rattle.text.specs.Text.{textBytes, blank, readCall}
-use Rattle.solver.specs.Calls.{roomBytes, movesBytes}
+use Rattle.turns.specs.Sizes.{roomBytes, movesBytes}
 use Rattle.block.specs.declared.refusal.Answer.{Answer}
 use Rattle.block.specs.declared.refusal.Answer.the-variants.{Value, Refused}
 use Rattle.report.specs.Listing.{Listed}

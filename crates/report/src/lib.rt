@@ -9,12 +9,12 @@ use block::refusal;
 use block::refusal::Answer;
 use block::refusal::Checked;
 use block::refusal::Refusal;
-use solver::sizes;
+use turns::sizes;
 ghost use mathlib.Core.Path.{_≡_};
 ghost use lib.ListN.{length, replicate};
 ghost use Rattle.block.specs.Refusal.{numberOf};
 ghost use Rattle.block.specs.Valid.{Valid};
-ghost use Rattle.solver.specs.Calls.{roomBytes, movesBytes};
+ghost use Rattle.turns.specs.Sizes.{roomBytes, movesBytes};
 ghost use Rattle.report.specs.Call.{listingBytes, refusedBytes, Filled, ListingIn, RoomsAfter, ListingCall};
 ghost use Rattle.report.specs.Listing.{refusedLine};
 

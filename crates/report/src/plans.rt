@@ -12,6 +12,7 @@ ghost use Rattle.block.specs.Valid.{Valid};
 ghost use Rattle.text.specs.Adding.{Adds};
 ghost use Rattle.solver.specs.Tables.{tableIn};
 ghost use Rattle.report.specs.Listing.{planAt, planLines};
+ghost use Rattle.turns.specs.Sizes.{roomBytes, maxPositions};
 
 // The plan line of state s.
 fn plan_at(
@@ -25,7 +26,7 @@ fn plan_at(
 ) -> usize
     requires { ⌜ Valid (now block) ⌝ }
     requires { ⌜ (i < L.rows (now block)) × L.Strategic (L.kind (now block) i) × (s < L.states (now block)) ⌝ }
-    requires { ⌜ (12288 ≤ length (now ranks)) × (6144 ≤ length (now moves)) × (at + 41 ≤ length (now out)) ⌝ }
+    requires { ⌜ (roomBytes ≤ length (now ranks)) × (maxPositions ≤ length (now moves)) × (at + 41 ≤ length (now out)) ⌝ }
     ensures { λ r. ⌜ Adds (planAt (now (block .entry)) i (tableIn (now (ranks .entry)) (now (moves .entry))) s) (now (out .entry)) at (now (out .exit)) r × (r ≤ at + 41) ⌝ }
 {
     let p = positions::full(block, i, s);
@@ -45,7 +46,7 @@ pub fn plan_lines(
     requires { ⌜ Valid (now block) ⌝ }
     requires { ⌜ (i < L.rows (now block)) × L.Strategic (L.kind (now block) i) ⌝ }
     requires { ⌜ (set < 2 ^ 24) × ((s : ℕ) → Bit set s → s < L.states (now block)) ⌝ }
-    requires { ⌜ (12288 ≤ length (now ranks)) × (6144 ≤ length (now moves)) × (at + 984 ≤ length (now out)) ⌝ }
+    requires { ⌜ (roomBytes ≤ length (now ranks)) × (maxPositions ≤ length (now moves)) × (at + 984 ≤ length (now out)) ⌝ }
     ensures { λ r. ⌜ Adds (planLines (now (block .entry)) i set (tableIn (now (ranks .entry)) (now (moves .entry)))) (now (out .entry)) at (now (out .exit)) r × (r ≤ at + 984) ⌝ }
 {
     let mut next = at;

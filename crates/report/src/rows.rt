@@ -6,6 +6,7 @@ use block::layout;
 use solver::choose;
 use solver::label;
 use turns::buffers;
+use turns::sizes;
 ghost use mathlib.Core.List.{List};
 ghost use mathlib.Core.Path.{_≡_};
 ghost use Prim.Native.Nat.{ℕ, _+_, _≤_, _<_};
@@ -13,7 +14,8 @@ ghost use lib.ListN.{length, take};
 ghost use Rattle.block.specs.Layout as L;
 ghost use Rattle.block.specs.Valid.{Valid};
 ghost use Rattle.text.specs.Adding.{Adds};
-ghost use Rattle.solver.specs.Calls.{setsBytes, roomBytes, movesBytes, RowTable};
+ghost use Rattle.turns.specs.Sizes.{setsBytes, roomBytes, movesBytes};
+ghost use Rattle.solver.specs.Calls.{RowTable};
 ghost use Rattle.solver.specs.Labels.{LowerSets, RowLabelled, Ranked};
 ghost use Rattle.report.specs.Call.{listingBytes};
 ghost use Rattle.report.specs.Listing.{RowListed, Listed};
@@ -50,7 +52,7 @@ fn row_lines(
     label::label_row(block, i, sets, ranks);
     let set = buffers::word_at(sets, i);
     let plans = set_line(out, at, i, set);
-    if layout::kind(block, i) < 3 {
+    if layout::kind(block, i) < layout::NEXT_KIND {
         return plans;
     }
     row_table(block, i, sets, ranks, moves);
@@ -64,7 +66,7 @@ pub fn job_lines(block: &[u8], out: &mut [u8], ranks: &mut [u8], moves: &mut [u8
     ensures { λ r. ⌜ Listed (now (block .entry)) (take r (now (out .exit))) × (r ≤ listingBytes) ⌝ }
     ensures { λ _. ⌜ (length (now (ranks .exit)) ≡ roomBytes) × (length (now (moves .exit)) ≡ movesBytes) ⌝ }
 {
-    let mut sets = [0u8; 128];
+    let mut sets = [0u8; sizes::SETS_BYTES];
     let n = layout::rows(block);
     let mut next = list_line(out, 0, n);
     let mut i = 0;

@@ -18,7 +18,8 @@ use Rattle.block.proofs.Refusals.{Each, first-same, first-same-in, block-number
 use Rattle.turns.specs.Buffers.{wordIn}
 use Rattle.game.proofs.Numbers.Decide.{lt?}
 use Rattle.game.proofs.Blocks.Tables.{set-won}
-use Rattle.solver.specs.Calls.{setsBytes, roomBytes, movesBytes, rowOrder, Unlabelled, RoomAfter, LabelCall, NoChoice, RowTable, TableCall}
+use Rattle.turns.specs.Sizes.{setsBytes, roomBytes, movesBytes}
+use Rattle.solver.specs.Calls.{rowOrder, Unlabelled, RoomAfter, LabelCall, NoChoice, RowTable, TableCall}
 use Rattle.solver.specs.Labels.{LowerSets}
 
 module _ (b : Block) (sets room : List ℕ) where

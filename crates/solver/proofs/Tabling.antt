@@ -10,7 +10,8 @@ use Rattle.game.specs.Facts.{Facts}
 use Rattle.game.specs.Model.{RowSet, arenaOf, objectiveBy}
 use Rattle.game.proofs.Blocks.Tables.{table-decided}
 use Rattle.solver.specs.Tables.{tableIn, RanksOf, MovesOf}
-use Rattle.solver.specs.Calls.{roomBytes, movesBytes, RowTable}
+use Rattle.turns.specs.Sizes.{roomBytes, movesBytes}
+use Rattle.solver.specs.Calls.{RowTable}
 use Rattle.solver.proofs.Labelling.{words-decided, facts-told}
 
 module _ (b : Block) (valid : Valid b) (i : ℕ) (inside : i < L.rows b) (strategic : Strategic (L.kind b i)) (left right : ℕ)

@@ -13,20 +13,11 @@ use Rattle.block.specs.declared.refusal.Refusal.the-variants.{Length, RowChoice
 use Rattle.block.specs.declared.refusal.Checked.{Checked}
 use Rattle.block.specs.declared.refusal.Checked.the-variants as checked
 use Rattle.game.specs.Position.{positions}
+use Rattle.turns.specs.Sizes.{setsBytes, roomBytes, movesBytes}
 use Rattle.turns.specs.Buffers.{rankIn, wordIn}
 use Rattle.game.specs.Model.{RowSet, WonSet, arenaOf}
 use Rattle.game.specs.Demand.{TableOf}
 use Rattle.solver.specs.Tables.{tableIn}
-
--- the bytes of 32 sets, of a row's ranks (and of the working room), and of its moves
-abbrev pub setsBytes : ℕ
-setsBytes = 128
-
-abbrev pub roomBytes : ℕ
-roomBytes = 12288
-
-abbrev pub movesBytes : ℕ
-movesBytes = 6144
 
 -- the conditions that the label call refuses: the block's, and under 1 also sets or a room of another length
 abbrev pub Unlabelled : Block → List ℕ → List ℕ → Refusal → Type 0

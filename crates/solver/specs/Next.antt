@@ -13,6 +13,7 @@ use Rattle.game.specs.Facts.{RankFacts}
 use Rattle.turns.specs.Buffers.{rankIn}
 use Rattle.game.specs.Model.{arenaOf}
 use Rattle.turns.specs.Rules.{ReplyTo}
+use Rattle.turns.specs.Sizes.{maxPositions}
 
 abbrev pub LeadsInto : Block → ℕ → ℕ → ℕ → ℕ → Type 0
 LeadsInto b i s m set = (r : ℕ) → ReplyTo b i s r → Bit set (L.next b s (m + r))
@@ -40,4 +41,4 @@ StateMarks b i set s = AnyOf 64 (MoveMarks b i set s)
 -- the ranks of a next row over the set, and 0 past the last position
 pub record NextRanks (b : Block) (i set : ℕ) (ranks : List ℕ) : Type 0 where
   pub facts : RankFacts (arenaOf b i) (next (Bit set)) (λ p. rankIn ranks (number (arenaOf b i) p))
-  pub outside : (n : ℕ) → positions (arenaOf b i) ≤ n → n < 6144 → rankIn ranks n ≡ 0
+  pub outside : (n : ℕ) → positions (arenaOf b i) ≤ n → n < maxPositions → rankIn ranks n ≡ 0

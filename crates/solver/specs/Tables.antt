@@ -10,6 +10,7 @@ use Rattle.game.specs.Table.{Table, moveAt, MoveIs}
 use Rattle.game.specs.Facts.{RankFacts, Claims}
 use Rattle.turns.specs.Buffers.{rankIn}
 use Rattle.game.specs.Model.{arenaOf, objectiveBy}
+use Rattle.turns.specs.Sizes.{maxPositions}
 
 abbrev pub tableIn : List ℕ → List ℕ → Table
 tableIn ranks moves = record { rank = rankIn ranks; move = λ n. getD moves n 0 }
@@ -17,10 +18,10 @@ tableIn ranks moves = record { rank = rankIn ranks; move = λ n. getD moves n 0 
 -- the ranks of row i, whose lower rows' sets are the words left and right; past the last position they are 0
 pub record RanksOf (b : Block) (i left right : ℕ) (ranks : List ℕ) : Type 0 where
   pub facts : RankFacts (arenaOf b i) (objectiveBy (L.kind b i) left right) (λ p. rankIn ranks (number (arenaOf b i) p))
-  pub outside : (n : ℕ) → positions (arenaOf b i) ≤ n → n < 6144 → rankIn ranks n ≡ 0
+  pub outside : (n : ℕ) → positions (arenaOf b i) ≤ n → n < maxPositions → rankIn ranks n ≡ 0
 
 -- the moves that go with these ranks; past the last position they are 0
 pub record MovesOf (b : Block) (i left right : ℕ) (ranks moves : List ℕ) : Type 0 where
   pub each : (p : Position) → IsPosition (arenaOf b i) p
       → MoveIs (arenaOf b i) (tableIn ranks moves) (objectiveBy (L.kind b i) left right) (Claims (arenaOf b i) (tableIn ranks moves) (objectiveBy (L.kind b i) left right)) p (moveAt (arenaOf b i) (tableIn ranks moves) p)
-  pub outside : (n : ℕ) → positions (arenaOf b i) ≤ n → n < 6144 → getD moves n 0 ≡ 0
+  pub outside : (n : ℕ) → positions (arenaOf b i) ≤ n → n < maxPositions → getD moves n 0 ≡ 0

@@ -6,6 +6,7 @@ use turns::buffers;
 use turns::moves;
 use turns::positions;
 use turns::replies;
+use turns::sizes;
 ghost use mathlib.Core.Bool.{true, false};
 ghost use mathlib.Core.Path.{_≡_};
 ghost use Prim.Native.Nat.{ℕ, _+_, _*_, _-_, _≤_, _<_};
@@ -21,6 +22,7 @@ ghost use Rattle.turns.specs.Rules.{ReplyTo};
 ghost use Rattle.solver.specs.Next.{LeadsInto};
 ghost use Rattle.solver.specs.Tables.{RanksOf, MovesOf};
 ghost use Rattle.solver.specs.Choices.{ClaimedBy, AimedBy, FirstMove, Tried, OneHits, Chosen, HitAt, HitsIn, HitsAny, OpenAt};
+ghost use Rattle.turns.specs.Sizes.{roomBytes, maxPositions};
 
 // Whether a rank says that the coalition wins: in a next row where soon, else in an always row where ever, else in an until row.
 fn claimed(soon: bool, ever: bool, rank: usize) -> bool
@@ -30,9 +32,9 @@ fn claimed(soon: bool, ever: bool, rank: usize) -> bool
         return rank == 1;
     }
     if ever {
-        return rank == 65535;
+        return rank == sizes::NEVER;
     }
-    rank < 65535
+    rank < sizes::NEVER
 }
 
 // Whether a move is aimed right from a position with this rank; `into` says whether it leads into the set.
@@ -54,7 +56,7 @@ fn aimed(
         return into;
     }
     if ever {
-        return replies::best_of(ranks, targets, n, at, false, 65534) == 65535;
+        return replies::best_of(ranks, targets, n, at, false, sizes::LARGEST_RANK) == sizes::NEVER;
     }
     replies::best_of(ranks, targets, n, at, true, rank) < rank
 }
@@ -64,7 +66,7 @@ fn is_open(ranks: &[u8], moves: &[u8], p: usize, soon: bool, ever: bool) -> bool
     requires { ⌜ (p < length (now moves)) × (2 * p + 1 < length (now ranks)) ⌝ }
     ensures { λ r. ⌜ Decides (OpenAt soon ever (now (ranks .entry)) (now (moves .entry)) p) r ⌝ }
 {
-    if moves[p] != 255 {
+    if moves[p] != sizes::NO_MOVE {
         return false;
     }
     claimed(soon, ever, buffers::rank_at(ranks, p))
@@ -112,9 +114,9 @@ fn choose(
     m: u8,
     moves: &mut [u8],
 )
-    requires { ⌜ (0 < n) × (n ≤ length (now targets)) × (count ≤ length (now places)) × (12288 ≤ length (now ranks)) × (6144 ≤ length (now moves)) × (m < 64) ⌝ }
-    requires { ⌜ ((k : ℕ) → k < count → (taken ≤ getD (now places) k 0) × (base + getD (now places) k 0 < 6144)) ⌝ }
-    requires { ⌜ ((k j : ℕ) → k < count → j < n → getD (now targets) j 0 + (getD (now places) k 0 - taken) < 6144) ⌝ }
+    requires { ⌜ (0 < n) × (n ≤ length (now targets)) × (count ≤ length (now places)) × (roomBytes ≤ length (now ranks)) × (maxPositions ≤ length (now moves)) × (m < L.maxJoint) ⌝ }
+    requires { ⌜ ((k : ℕ) → k < count → (taken ≤ getD (now places) k 0) × (base + getD (now places) k 0 < maxPositions)) ⌝ }
+    requires { ⌜ ((k j : ℕ) → k < count → j < n → getD (now targets) j 0 + (getD (now places) k 0 - taken) < maxPositions) ⌝ }
     ensures { λ _. ⌜ Tried (OneHits count (λ (k : ℕ). HitAt soon ever into (now (ranks .entry)) (now (targets .entry)) n (getD (now (places .entry)) k 0 - taken) (base + getD (now (places .entry)) k 0))) m (now (moves .entry)) (now (moves .exit)) ⌝ }
 {
     let mut k = 0;
@@ -176,12 +178,12 @@ fn choose_move(
 )
     requires { ⌜ Valid (now block) ⌝ }
     requires { ⌜ (i < L.rows (now block)) × L.Strategic (L.kind (now block) i) × (s < L.states (now block)) ⌝ }
-    requires { ⌜ MoveOf (structureOf (now block)) (coalitionOf (now block) i) s m × (m < 64) ⌝ }
-    requires { ⌜ Lists (ReplyTo (now block) i s) (λ (r : ℕ). r) (now answers) n × (n ≤ 64) × (n ≤ length (now answers)) ⌝ }
-    requires { ⌜ (c ≡ stockPlaces (arenaOf (now block) i)) × (12288 ≤ length (now ranks)) × (6144 ≤ length (now moves)) ⌝ }
+    requires { ⌜ MoveOf (structureOf (now block)) (coalitionOf (now block) i) s m × (m < L.maxJoint) ⌝ }
+    requires { ⌜ Lists (ReplyTo (now block) i s) (λ (r : ℕ). r) (now answers) n × (n ≤ L.maxJoint) × (n ≤ length (now answers)) ⌝ }
+    requires { ⌜ (c ≡ stockPlaces (arenaOf (now block) i)) × (roomBytes ≤ length (now ranks)) × (maxPositions ≤ length (now moves)) ⌝ }
     ensures { λ _. ⌜ Tried (HitsIn (now (block .entry)) i soon ever left (now (ranks .entry)) m s) m (now (moves .entry)) (now (moves .exit)) ⌝ }
 {
-    let mut targets = [0; 64];
+    let mut targets = [0; layout::JOINT_ACTIONS];
     let mut places = [0; 256];
     replies::targets(block, i, s, m, c, answers, n, &mut targets);
     let count = payable::payable(block, i, s, m, &mut places);
@@ -205,7 +207,7 @@ fn choose_move(
 
 // Whether one of the first c positions past base is open.
 fn any_open(ranks: &[u8], moves: &[u8], base: usize, c: usize, soon: bool, ever: bool) -> bool
-    requires { ⌜ (base + c ≤ 6144) × (12288 ≤ length (now ranks)) × (6144 ≤ length (now moves)) ⌝ }
+    requires { ⌜ (base + c ≤ maxPositions) × (roomBytes ≤ length (now ranks)) × (maxPositions ≤ length (now moves)) ⌝ }
     ensures { λ r. ⌜ Decides (Some c (λ (x : ℕ). OpenAt soon ever (now (ranks .entry)) (now (moves .entry)) (base + x))) r ⌝ }
 {
     let mut x = 0;
@@ -233,7 +235,7 @@ fn goes_on(
     requires { ⌜ Valid (now block) ⌝ }
     requires { ⌜ (i < L.rows (now block)) × L.Strategic (L.kind (now block) i) × (s < L.states (now block)) ⌝ }
     requires { ⌜ MoveOf (structureOf (now block)) (coalitionOf (now block) i) s m ⌝ }
-    requires { ⌜ (c ≡ stockPlaces (arenaOf (now block) i)) × (12288 ≤ length (now ranks)) × (6144 ≤ length (now moves)) ⌝ }
+    requires { ⌜ (c ≡ stockPlaces (arenaOf (now block) i)) × (roomBytes ≤ length (now ranks)) × (maxPositions ≤ length (now moves)) ⌝ }
     ensures { λ r. ⌜ (r ≡ false → (x : ℕ) → x < c → OpenAt soon ever (now (ranks .entry)) (now (moves .entry)) (s * c + x) → ⊥) ⌝ }
 {
     if 0 < positions::offset(block, i, s, m) {
@@ -256,14 +258,14 @@ fn choose_state(
 )
     requires { ⌜ Valid (now block) ⌝ }
     requires { ⌜ (i < L.rows (now block)) × L.Strategic (L.kind (now block) i) × (s < L.states (now block)) ⌝ }
-    requires { ⌜ (c ≡ stockPlaces (arenaOf (now block) i)) × (12288 ≤ length (now ranks)) × (6144 ≤ length (now moves)) ⌝ }
-    ensures { λ _. ⌜ Chosen (λ (n m : ℕ). HitsIn (now (block .entry)) i soon ever left (now (ranks .entry)) m s n) 64 (now (moves .entry)) (now (moves .exit)) ⌝ }
+    requires { ⌜ (c ≡ stockPlaces (arenaOf (now block) i)) × (roomBytes ≤ length (now ranks)) × (maxPositions ≤ length (now moves)) ⌝ }
+    ensures { λ _. ⌜ Chosen (λ (n m : ℕ). HitsIn (now (block .entry)) i soon ever left (now (ranks .entry)) m s n) L.maxJoint (now (moves .entry)) (now (moves .exit)) ⌝ }
 {
-    let mut answers = [0; 64];
+    let mut answers = [0; layout::JOINT_ACTIONS];
     let n = replies::replies(block, i, s, &mut answers);
     let team = layout::team(block, i);
     let mut m = 0;
-    while m < 64 {
+    while m < layout::JOINT_ACTIONS {
         if moves::is_move(block, s, team, m) {
             choose_move(
                 block,
@@ -300,8 +302,8 @@ fn choose_all(
 )
     requires { ⌜ Valid (now block) ⌝ }
     requires { ⌜ (i < L.rows (now block)) × L.Strategic (L.kind (now block) i) ⌝ }
-    requires { ⌜ (c ≡ stockPlaces (arenaOf (now block) i)) × (12288 ≤ length (now ranks)) × (6144 ≤ length (now moves)) ⌝ }
-    ensures { λ _. ⌜ Chosen (HitsAny (now (block .entry)) i soon ever left (now (ranks .entry))) 64 (now (moves .entry)) (now (moves .exit)) ⌝ }
+    requires { ⌜ (c ≡ stockPlaces (arenaOf (now block) i)) × (roomBytes ≤ length (now ranks)) × (maxPositions ≤ length (now moves)) ⌝ }
+    ensures { λ _. ⌜ Chosen (HitsAny (now (block .entry)) i soon ever left (now (ranks .entry))) L.maxJoint (now (moves .entry)) (now (moves .exit)) ⌝ }
 {
     let n = layout::states(block);
     let mut s = 0;
@@ -319,25 +321,25 @@ fn first_move(soon: bool, ever: bool, count: usize, n: usize, rank: usize) -> u8
         return 0;
     }
     if soon {
-        return 255;
+        return sizes::NO_MOVE;
     }
     if ever {
-        return 255;
+        return sizes::NO_MOVE;
     }
     if rank == 0 {
         return 0;
     }
-    255
+    sizes::NO_MOVE
 }
 
 // The first entries of all positions.
 fn first_moves(soon: bool, ever: bool, count: usize, ranks: &[u8], moves: &mut [u8])
-    requires { ⌜ (12288 ≤ length (now ranks)) × (6144 ≤ length (now moves)) ⌝ }
-    ensures { λ _. ⌜ ((n : ℕ) → n < 6144 → FirstMove soon ever count n (rankIn (now (ranks .entry)) n) (getD (now (moves .exit)) n 0)) ⌝ }
+    requires { ⌜ (roomBytes ≤ length (now ranks)) × (maxPositions ≤ length (now moves)) ⌝ }
+    ensures { λ _. ⌜ ((n : ℕ) → n < maxPositions → FirstMove soon ever count n (rankIn (now (ranks .entry)) n) (getD (now (moves .exit)) n 0)) ⌝ }
     ensures { λ _. ⌜ length (now (moves .exit)) ≡ length (now (moves .entry)) ⌝ }
 {
     let mut n = 0;
-    while n < 6144 {
+    while n < sizes::MAX_POSITIONS {
         let rank = buffers::rank_at(ranks, n);
         moves[n] = first_move(soon, ever, count, n, rank);
         n += 1;
@@ -348,13 +350,13 @@ fn first_moves(soon: bool, ever: bool, count: usize, ranks: &[u8], moves: &mut [
 pub fn fill_moves(block: &[u8], i: usize, left: usize, ranks: &[u8], moves: &mut [u8])
     requires { ⌜ Valid (now block) ⌝ }
     requires { ⌜ (i < L.rows (now block)) × L.Strategic (L.kind (now block) i) ⌝ }
-    requires { ⌜ (12288 ≤ length (now ranks)) × (length (now moves) ≡ 6144) × ((right : ℕ) × RanksOf (now block) i left right (now ranks)) ⌝ }
+    requires { ⌜ (roomBytes ≤ length (now ranks)) × (length (now moves) ≡ maxPositions) × ((right : ℕ) × RanksOf (now block) i left right (now ranks)) ⌝ }
     ensures { λ _. ⌜ ((right : ℕ) → RanksOf (now (block .entry)) i left right (now (ranks .entry)) → MovesOf (now (block .entry)) i left right (now (ranks .entry)) (now (moves .exit))) ⌝ }
     ensures { λ _. ⌜ length (now (moves .exit)) ≡ length (now (moves .entry)) ⌝ }
 {
     let kind = layout::kind(block, i);
-    let soon = kind == 3;
-    let ever = kind == 4;
+    let soon = kind == layout::NEXT_KIND;
+    let ever = kind == layout::ALWAYS_KIND;
     let count = positions::count(block, i);
     let c = positions::stock_places(block, i);
     first_moves(soon, ever, count, ranks, moves);

@@ -1,12 +1,12 @@
 // Labelling: the sets of the rows, each from the sets of lower rows.
 use crate::needs;
 use crate::rows;
-use crate::sizes;
 use block::fill;
 use block::layout;
 use block::refusal::Checked;
 use block::refusal::Refusal;
 use turns::buffers;
+use turns::sizes;
 ghost use mathlib.Core.Path.{_≡_};
 ghost use Prim.Native.Nat.{_≤_, _<_};
 ghost use lib.ListN.{length};
@@ -16,6 +16,7 @@ ghost use Rattle.turns.specs.Buffers.{wordIn};
 ghost use Rattle.solver.specs.Calls.{LabelCall};
 ghost use Rattle.solver.specs.Labels.{NamedSets, InWord, Closed, RowsLabelled, RowLabelled, Ranked};
 ghost use Rattle.solver.specs.Needs.{Needs};
+ghost use Rattle.turns.specs.Sizes.{setsBytes, roomBytes};
 
 // The word of all rows.
 const ALL_ROWS: usize = 4294967295;
@@ -23,11 +24,11 @@ const ALL_ROWS: usize = 4294967295;
 // The set of the row that row i names left; 0 where it names none.
 pub fn left_set(block: &[u8], sets: &[u8], i: usize) -> usize
     requires { ⌜ Valid (now block) ⌝ }
-    requires { ⌜ (i < L.rows (now block)) × (128 ≤ length (now sets)) ⌝ }
+    requires { ⌜ (i < L.rows (now block)) × (setsBytes ≤ length (now sets)) ⌝ }
     ensures { λ r. ⌜ (L.propKind < L.kind (now (block .entry)) i → r ≡ wordIn (now (sets .entry)) (L.left (now (block .entry)) i)) ⌝ }
     ensures { λ r. ⌜ (L.kind (now (block .entry)) i ≡ L.propKind → r ≡ 0) ⌝ }
 {
-    if layout::kind(block, i) == 0 {
+    if layout::kind(block, i) == layout::PROP_KIND {
         return 0;
     }
     buffers::word_at(sets, layout::left(block, i))
@@ -36,7 +37,7 @@ pub fn left_set(block: &[u8], sets: &[u8], i: usize) -> usize
 // The set of the row that row i names right; 0 where it names none.
 pub fn right_set(block: &[u8], sets: &[u8], i: usize) -> usize
     requires { ⌜ Valid (now block) ⌝ }
-    requires { ⌜ (i < L.rows (now block)) × (128 ≤ length (now sets)) ⌝ }
+    requires { ⌜ (i < L.rows (now block)) × (setsBytes ≤ length (now sets)) ⌝ }
     ensures { λ r. ⌜ (L.Binary (L.kind (now (block .entry)) i) → r ≡ wordIn (now (sets .entry)) (L.right (now (block .entry)) i)) ⌝ }
     ensures { λ r. ⌜ ((L.Binary (L.kind (now (block .entry)) i) → ⊥) → r ≡ 0) ⌝ }
 {
@@ -49,7 +50,7 @@ pub fn right_set(block: &[u8], sets: &[u8], i: usize) -> usize
 // Stores the set of row i, where the rows that it names have theirs. The ranks become those of a strategic row, and stay as they are for any other.
 pub fn label_row(block: &[u8], i: usize, sets: &mut [u8], ranks: &mut [u8])
     requires { ⌜ Valid (now block) ⌝ }
-    requires { ⌜ (i < L.rows (now block)) × (128 ≤ length (now sets)) × (length (now ranks) ≡ 12288) ⌝ }
+    requires { ⌜ (i < L.rows (now block)) × (setsBytes ≤ length (now sets)) × (length (now ranks) ≡ roomBytes) ⌝ }
     requires { ⌜ NamedSets (now block) i (now sets) ⌝ }
     ensures { λ _. ⌜ RowLabelled (now (block .entry)) i (now (sets .entry)) (now (sets .exit)) ⌝ }
     ensures { λ _. ⌜ Ranked (now (block .entry)) i (now (sets .exit)) (now (ranks .exit)) ⌝ }
@@ -58,7 +59,7 @@ pub fn label_row(block: &[u8], i: usize, sets: &mut [u8], ranks: &mut [u8])
 {
     let left = left_set(block, sets, i);
     let right = right_set(block, sets, i);
-    if layout::kind(block, i) >= 3 {
+    if layout::kind(block, i) >= layout::NEXT_KIND {
         rows::rank_row(block, i, left, right, ranks);
     }
     let w = rows::row_word(block, i, left, right, ranks);
@@ -68,7 +69,7 @@ pub fn label_row(block: &[u8], i: usize, sets: &mut [u8], ranks: &mut [u8])
 // Stores the sets of those of the first n rows that the word has. The ranks are working room: what they hold afterwards is the program's choice.
 fn label_rows(block: &[u8], n: usize, word: usize, sets: &mut [u8], ranks: &mut [u8])
     requires { ⌜ Valid (now block) ⌝ }
-    requires { ⌜ (n ≤ L.rows (now block)) × (128 ≤ length (now sets)) × (length (now ranks) ≡ 12288) ⌝ }
+    requires { ⌜ (n ≤ L.rows (now block)) × (setsBytes ≤ length (now sets)) × (length (now ranks) ≡ roomBytes) ⌝ }
     requires { ⌜ Closed (now block) n word ⌝ }
     ensures { λ _. ⌜ RowsLabelled (now (block .entry)) (InWord n word) (now (sets .entry)) (now (sets .exit)) ⌝ }
     ensures { λ _. ⌜ length (now (ranks .exit)) ≡ length (now (ranks .entry)) ⌝ }
@@ -85,7 +86,7 @@ fn label_rows(block: &[u8], n: usize, word: usize, sets: &mut [u8], ranks: &mut 
 // Stores the sets of the rows that row i needs, and of no others. The ranks are working room.
 pub fn label_needed(block: &[u8], i: usize, sets: &mut [u8], ranks: &mut [u8])
     requires { ⌜ Valid (now block) ⌝ }
-    requires { ⌜ (i < L.rows (now block)) × (128 ≤ length (now sets)) × (length (now ranks) ≡ 12288) ⌝ }
+    requires { ⌜ (i < L.rows (now block)) × (setsBytes ≤ length (now sets)) × (length (now ranks) ≡ roomBytes) ⌝ }
     ensures { λ _. ⌜ RowsLabelled (now (block .entry)) (Needs (now (block .entry)) i) (now (sets .entry)) (now (sets .exit)) ⌝ }
     ensures { λ _. ⌜ length (now (ranks .exit)) ≡ length (now (ranks .entry)) ⌝ }
 {

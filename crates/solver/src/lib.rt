@@ -5,5 +5,4 @@ mod needs;
 mod next;
 mod payable;
 pub mod rows;
-pub mod sizes;
 pub mod table;

@@ -15,10 +15,10 @@ pub fn names_right(block: &[u8], i: usize) -> bool
     ensures { λ r. ⌜ Decides (L.Binary (L.kind (now (block .entry)) i)) r ⌝ }
 {
     let kind = layout::kind(block, i);
-    if kind == 2 {
+    if kind == layout::OR_KIND {
         return true;
     }
-    kind == 5
+    kind == layout::UNTIL_KIND
 }
 
 // The word w with the rows that row i names besides.
@@ -27,7 +27,7 @@ fn with_named(block: &[u8], w: usize, i: usize) -> usize
     requires { ⌜ (i < L.rows (now block)) × (w < 2 ^ 32) ⌝ }
     ensures { λ r. ⌜ (r < 2 ^ 32) × ((j : ℕ) → Bit r j ↔ (Bit w j ⊎ Names (now (block .entry)) i j)) ⌝ }
 {
-    if layout::kind(block, i) == 0 {
+    if layout::kind(block, i) == layout::PROP_KIND {
         return w;
     }
     let v = buffers::with_bit(w, layout::left(block, i));

@@ -18,6 +18,7 @@ ghost use Rattle.game.specs.Position.{MoveOf, stockPlaces};
 ghost use Rattle.game.specs.Model.{structureOf, coalitionOf, arenaOf};
 ghost use Rattle.turns.specs.Rules.{ReplyTo};
 ghost use Rattle.solver.specs.Next.{LeadsInto, Marked, AnyOf, PlaceMarks, MoveMarks, StateMarks, NextRanks};
+ghost use Rattle.turns.specs.Sizes.{roomBytes};
 
 // Whether each of the n listed replies to the move m leads from state s into the set.
 pub fn leads_into(
@@ -74,7 +75,7 @@ fn mark_move(
     requires { ⌜ (i < L.rows (now block)) × L.Strategic (L.kind (now block) i) × (s < L.states (now block)) ⌝ }
     requires { ⌜ MoveOf (structureOf (now block)) (coalitionOf (now block) i) s m ⌝ }
     requires { ⌜ Lists (ReplyTo (now block) i s) (λ (r : ℕ). r) (now answers) n × (n ≤ length (now answers)) ⌝ }
-    requires { ⌜ (c ≡ stockPlaces (arenaOf (now block) i)) × (12288 ≤ length (now ranks)) ⌝ }
+    requires { ⌜ (c ≡ stockPlaces (arenaOf (now block) i)) × (roomBytes ≤ length (now ranks)) ⌝ }
     ensures { λ _. ⌜ Marked (MoveMarks (now (block .entry)) i set s m) (now (ranks .entry)) (now (ranks .exit)) ⌝ }
     ensures { λ r. ⌜ (r ≡ true → (k n : ℕ) → MoveMarks (now (block .entry)) i set s k n → MoveMarks (now (block .entry)) i set s m n) ⌝ }
 {
@@ -91,14 +92,14 @@ fn mark_move(
 fn mark_state(block: &[u8], i: usize, s: usize, c: usize, set: usize, ranks: &mut [u8])
     requires { ⌜ Valid (now block) ⌝ }
     requires { ⌜ (i < L.rows (now block)) × L.Strategic (L.kind (now block) i) × (s < L.states (now block)) ⌝ }
-    requires { ⌜ (c ≡ stockPlaces (arenaOf (now block) i)) × (12288 ≤ length (now ranks)) ⌝ }
+    requires { ⌜ (c ≡ stockPlaces (arenaOf (now block) i)) × (roomBytes ≤ length (now ranks)) ⌝ }
     ensures { λ _. ⌜ Marked (StateMarks (now (block .entry)) i set s) (now (ranks .entry)) (now (ranks .exit)) ⌝ }
 {
-    let mut answers = [0; 64];
+    let mut answers = [0; layout::JOINT_ACTIONS];
     let n = replies::replies(block, i, s, &mut answers);
     let team = layout::team(block, i);
     let mut m = 0;
-    while m < 64 {
+    while m < layout::JOINT_ACTIONS {
         if moves::is_move(block, s, team, m) {
             if mark_move(block, i, s, m, c, set, &answers, n, ranks) {
                 return;
@@ -112,7 +113,7 @@ fn mark_state(block: &[u8], i: usize, s: usize, c: usize, set: usize, ranks: &mu
 fn mark_all(block: &[u8], i: usize, c: usize, set: usize, ranks: &mut [u8])
     requires { ⌜ Valid (now block) ⌝ }
     requires { ⌜ (i < L.rows (now block)) × L.Strategic (L.kind (now block) i) ⌝ }
-    requires { ⌜ (c ≡ stockPlaces (arenaOf (now block) i)) × (12288 ≤ length (now ranks)) ⌝ }
+    requires { ⌜ (c ≡ stockPlaces (arenaOf (now block) i)) × (roomBytes ≤ length (now ranks)) ⌝ }
     ensures { λ _. ⌜ Marked (AnyOf (L.states (now (block .entry))) (StateMarks (now (block .entry)) i set)) (now (ranks .entry)) (now (ranks .exit)) ⌝ }
 {
     let n = layout::states(block);
@@ -126,7 +127,7 @@ fn mark_all(block: &[u8], i: usize, c: usize, set: usize, ranks: &mut [u8])
 // The ranks of a next row over the set: 1 where the coalition can, else 65535. Past the last position they are 0.
 pub fn next_ranks(block: &[u8], i: usize, set: usize, ranks: &mut [u8])
     requires { ⌜ Valid (now block) ⌝ }
-    requires { ⌜ (i < L.rows (now block)) × L.Strategic (L.kind (now block) i) × (length (now ranks) ≡ 12288) ⌝ }
+    requires { ⌜ (i < L.rows (now block)) × L.Strategic (L.kind (now block) i) × (length (now ranks) ≡ roomBytes) ⌝ }
     ensures { λ _. ⌜ NextRanks (now (block .entry)) i set (now (ranks .exit)) × (length (now (ranks .exit)) ≡ length (now (ranks .entry))) ⌝ }
 {
     let c = positions::stock_places(block, i);

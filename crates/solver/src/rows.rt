@@ -4,6 +4,7 @@ use block::layout;
 use sweeps::solve;
 use turns::buffers;
 use turns::positions;
+use turns::sizes;
 ghost use mathlib.Core.Path.{_≡_};
 ghost use Prim.Native.Nat.{ℕ, _≤_, _<_};
 ghost use lib.ListN.{length};
@@ -13,34 +14,35 @@ ghost use Rattle.block.specs.Valid.{Valid};
 ghost use Rattle.game.specs.Model.{Says};
 ghost use Rattle.solver.specs.Rows.{ClaimsBy, TrueBy};
 ghost use Rattle.solver.specs.Tables.{RanksOf};
+ghost use Rattle.turns.specs.Sizes.{roomBytes};
 
 // Whether a rank says that the coalition wins.
 pub fn claims(kind: usize, rank: usize) -> bool
     ensures { λ r. ⌜ Decides (ClaimsBy kind rank) r ⌝ }
 {
-    if kind == 3 {
+    if kind == layout::NEXT_KIND {
         return rank == 1;
     }
-    if kind == 4 {
-        return rank == 65535;
+    if kind == layout::ALWAYS_KIND {
+        return rank == sizes::NEVER;
     }
-    rank < 65535
+    rank < sizes::NEVER
 }
 
 // Whether row i is true in state s.
 fn true_at(block: &[u8], i: usize, left: usize, right: usize, ranks: &[u8], s: usize) -> bool
     requires { ⌜ Valid (now block) ⌝ }
-    requires { ⌜ (i < L.rows (now block)) × (s < L.states (now block)) × (12288 ≤ length (now ranks)) ⌝ }
+    requires { ⌜ (i < L.rows (now block)) × (s < L.states (now block)) × (roomBytes ≤ length (now ranks)) ⌝ }
     ensures { λ r. ⌜ Decides (TrueBy (now (block .entry)) i left right (now (ranks .entry)) s) r ⌝ }
 {
     let kind = layout::kind(block, i);
-    if kind == 0 {
+    if kind == layout::PROP_KIND {
         return buffers::has_bit(layout::mask(block, s), layout::left(block, i));
     }
-    if kind == 1 {
+    if kind == layout::NOT_KIND {
         return !buffers::has_bit(left, s);
     }
-    if kind == 2 {
+    if kind == layout::OR_KIND {
         return buffers::has_bit(left, s) || buffers::has_bit(right, s);
     }
     claims(kind, buffers::rank_at(ranks, positions::full(block, i, s)))
@@ -49,7 +51,7 @@ fn true_at(block: &[u8], i: usize, left: usize, right: usize, ranks: &[u8], s: u
 // The set of row i.
 pub fn row_word(block: &[u8], i: usize, left: usize, right: usize, ranks: &[u8]) -> usize
     requires { ⌜ Valid (now block) ⌝ }
-    requires { ⌜ (i < L.rows (now block)) × (12288 ≤ length (now ranks)) ⌝ }
+    requires { ⌜ (i < L.rows (now block)) × (roomBytes ≤ length (now ranks)) ⌝ }
     ensures { λ r. ⌜ Says (now (block .entry)) r (TrueBy (now (block .entry)) i left right (now (ranks .entry))) ⌝ }
 {
     let n = layout::states(block);
@@ -84,15 +86,15 @@ fn complement(block: &[u8], set: usize) -> usize
 // The ranks of row i, whose lower rows' sets are left and right.
 pub fn rank_row(block: &[u8], i: usize, left: usize, right: usize, ranks: &mut [u8])
     requires { ⌜ Valid (now block) ⌝ }
-    requires { ⌜ (i < L.rows (now block)) × L.Strategic (L.kind (now block) i) × (length (now ranks) ≡ 12288) ⌝ }
+    requires { ⌜ (i < L.rows (now block)) × L.Strategic (L.kind (now block) i) × (length (now ranks) ≡ roomBytes) ⌝ }
     ensures { λ _. ⌜ RanksOf (now (block .entry)) i left right (now (ranks .exit)) × (length (now (ranks .exit)) ≡ length (now (ranks .entry))) ⌝ }
 {
     let kind = layout::kind(block, i);
-    if kind == 3 {
+    if kind == layout::NEXT_KIND {
         next::next_ranks(block, i, left, ranks);
         return;
     }
-    if kind == 4 {
+    if kind == layout::ALWAYS_KIND {
         let all = complement(block, 0);
         let fails = complement(block, left);
         solve::solve(block, i, all, fails, false, ranks);

@@ -2,10 +2,10 @@
 use crate::choose;
 use crate::label;
 use crate::rows;
-use crate::sizes;
 use block::layout;
 use block::refusal::Checked;
 use block::refusal::Refusal;
+use turns::sizes;
 ghost use mathlib.Core.Path.{_≡_};
 ghost use Prim.Native.Nat.{_<_};
 ghost use lib.ListN.{length};
@@ -14,6 +14,7 @@ ghost use Rattle.block.specs.Layout as L;
 ghost use Rattle.block.specs.Valid.{Valid};
 ghost use Rattle.game.specs.Demand.{Demand3};
 ghost use Rattle.solver.specs.Calls.{NoChoice, RowTable, TableCall};
+ghost use Rattle.turns.specs.Sizes.{roomBytes, maxPositions};
 
 // Whether row i does not exist, or is of kind prop, not or or.
 pub fn no_choice(block: &[u8], i: usize) -> bool
@@ -23,14 +24,14 @@ pub fn no_choice(block: &[u8], i: usize) -> bool
     if layout::rows(block) <= i {
         return true;
     }
-    layout::kind(block, i) < 3
+    layout::kind(block, i) < layout::NEXT_KIND
 }
 
 // Fills the table of row i. The moves' buffer holds the sets of the rows that it needs until the ranks are there.
 fn fill_table(block: &[u8], i: usize, ranks: &mut [u8], moves: &mut [u8])
     requires { ⌜ Valid (now block) ⌝ }
     requires { ⌜ (i < L.rows (now block)) × L.Strategic (L.kind (now block) i) ⌝ }
-    requires { ⌜ (length (now ranks) ≡ 12288) × (length (now moves) ≡ 6144) ⌝ }
+    requires { ⌜ (length (now ranks) ≡ roomBytes) × (length (now moves) ≡ maxPositions) ⌝ }
     ensures { λ _. ⌜ RowTable (now (block .entry)) i (now (ranks .exit)) (now (moves .exit)) ⌝ }
 {
     label::label_needed(block, i, moves, ranks);

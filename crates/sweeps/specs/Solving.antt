@@ -9,6 +9,7 @@ use Rattle.game.specs.Table.{never}
 use Rattle.game.specs.Facts.{Ranked}
 use Rattle.turns.specs.Buffers.{rankIn}
 use Rattle.sweeps.specs.Values.{Attacks, Defends}
+use Rattle.turns.specs.Sizes.{maxPositions}
 
 -- the first rank of position n of count, with c of them in each state
 pub record FirstRank (goal c count n rank : ℕ) : Type 0 where
@@ -19,4 +20,4 @@ pub record FirstRank (goal c count n rank : ℕ) : Type 0 where
 -- the ranks are right, and 0 past the last position
 pub record Solved (G : Arena) (most : Bool) (safe goal : ℕ) (ranks : List ℕ) : Type 0 where
   pub ranked : Ranked G (Bit safe) (Bit goal) (λ p. rankIn ranks (number G p)) (Attacks G most) (Defends G most)
-  pub outside : (n : ℕ) → positions G ≤ n → n < 6144 → rankIn ranks n ≡ 0
+  pub outside : (n : ℕ) → positions G ≤ n → n < maxPositions → rankIn ranks n ≡ 0

@@ -2,6 +2,7 @@
 use crate::sweep;
 use turns::buffers;
 use turns::positions;
+use turns::sizes;
 ghost use mathlib.Core.Path.{_≡_};
 ghost use Prim.Native.Nat.{ℕ, _/_, _≤_, _<_};
 ghost use lib.ListN.{length};
@@ -11,6 +12,7 @@ ghost use Rattle.game.specs.Position as P;
 ghost use Rattle.turns.specs.Buffers.{rankIn};
 ghost use Rattle.game.specs.Model.{arenaOf};
 ghost use Rattle.sweeps.specs.Solving.{FirstRank, Solved};
+ghost use Rattle.turns.specs.Sizes.{roomBytes, maxPositions};
 
 // The first rank of position n of count, in state s with c positions in each: 0 at a goal, and past the last position.
 fn first_rank(goal: usize, c: usize, count: usize, n: usize, s: usize) -> usize
@@ -23,22 +25,22 @@ fn first_rank(goal: usize, c: usize, count: usize, n: usize, s: usize) -> usize
     if buffers::has_bit(goal, s) {
         return 0;
     }
-    65535
+    sizes::NEVER
 }
 
 // Stores the first ranks of row i. Counts the places of each state, since a division for each would be slow.
 pub fn first_ranks(block: &[u8], i: usize, c: usize, goal: usize, ranks: &mut [u8])
     requires { ⌜ Valid (now block) ⌝ }
     requires { ⌜ (i < L.rows (now block)) × L.Strategic (L.kind (now block) i) ⌝ }
-    requires { ⌜ (c ≡ P.stockPlaces (arenaOf (now block) i)) × (length (now ranks) ≡ 12288) ⌝ }
-    ensures { λ _. ⌜ ((n : ℕ) → n < 6144 → FirstRank goal c (P.positions (arenaOf (now (block .entry)) i)) n (rankIn (now (ranks .exit)) n)) ⌝ }
+    requires { ⌜ (c ≡ P.stockPlaces (arenaOf (now block) i)) × (length (now ranks) ≡ roomBytes) ⌝ }
+    ensures { λ _. ⌜ ((n : ℕ) → n < maxPositions → FirstRank goal c (P.positions (arenaOf (now (block .entry)) i)) n (rankIn (now (ranks .exit)) n)) ⌝ }
     ensures { λ _. ⌜ length (now (ranks .exit)) ≡ length (now (ranks .entry)) ⌝ }
 {
     let count = positions::count(block, i);
     let mut n = 0;
     let mut s = 0;
     let mut x = 0;
-    while n < 6144 {
+    while n < sizes::MAX_POSITIONS {
         buffers::set_rank(ranks, n, first_rank(goal, c, count, n, s));
         n += 1;
         x += 1;
@@ -52,7 +54,7 @@ pub fn first_ranks(block: &[u8], i: usize, c: usize, goal: usize, ranks: &mut [u
 // The ranks of row i for an attack that starts from the safe states; `most` where the coalition attacks. Past the last position they are 0.
 pub fn solve(block: &[u8], i: usize, safe: usize, goal: usize, most: bool, ranks: &mut [u8])
     requires { ⌜ Valid (now block) ⌝ }
-    requires { ⌜ (i < L.rows (now block)) × L.Strategic (L.kind (now block) i) × (length (now ranks) ≡ 12288) ⌝ }
+    requires { ⌜ (i < L.rows (now block)) × L.Strategic (L.kind (now block) i) × (length (now ranks) ≡ roomBytes) ⌝ }
     ensures { λ _. ⌜ Solved (arenaOf (now (block .entry)) i) most safe goal (now (ranks .exit)) × (length (now (ranks .exit)) ≡ length (now (ranks .entry))) ⌝ }
 {
     let c = positions::stock_places(block, i);

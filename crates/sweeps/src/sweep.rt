@@ -13,6 +13,7 @@ ghost use Rattle.game.specs.Position.{stockPlaces};
 ghost use Rattle.game.specs.Model.{arenaOf};
 ghost use Rattle.sweeps.specs.Ways.{Listed};
 ghost use Rattle.sweeps.specs.Sweeps.{RestsAt, RestsBelow, visit, Swept, PlaceSettled, Settled};
+ghost use Rattle.turns.specs.Sizes.{roomBytes};
 
 // Lowers the rank at place x of the safe state s to one more than its value, where that is less. Tells whether it fell.
 pub fn settle_at(
@@ -34,7 +35,7 @@ pub fn settle_at(
     requires { ⌜ Valid (now block) ⌝ }
     requires { ⌜ (i < L.rows (now block)) × L.Strategic (L.kind (now block) i) × (s < L.states (now block)) ⌝ }
     requires { ⌜ Listed (now block) i (now counts) (now moves) (now takes) (now others) (now answers) (now wides) ⌝ }
-    requires { ⌜ (c ≡ stockPlaces (arenaOf (now block) i)) × (x < c) × (12288 ≤ length (now ranks)) ⌝ }
+    requires { ⌜ (c ≡ stockPlaces (arenaOf (now block) i)) × (x < c) × (roomBytes ≤ length (now ranks)) ⌝ }
     ensures { λ r. ⌜ Swept (arenaOf (now (block .entry)) i) most safe x (RestsAt (arenaOf (now (block .entry)) i) most safe x s) r (now (ranks .entry)) (now (ranks .exit)) ⌝ }
 {
     if !buffers::has_bit(safe, s) {
@@ -94,7 +95,7 @@ pub fn sweep(
     requires { ⌜ Valid (now block) ⌝ }
     requires { ⌜ (i < L.rows (now block)) × L.Strategic (L.kind (now block) i) ⌝ }
     requires { ⌜ Listed (now block) i (now counts) (now moves) (now takes) (now others) (now answers) (now wides) ⌝ }
-    requires { ⌜ (c ≡ stockPlaces (arenaOf (now block) i)) × (x < c) × (12288 ≤ length (now ranks)) ⌝ }
+    requires { ⌜ (c ≡ stockPlaces (arenaOf (now block) i)) × (x < c) × (roomBytes ≤ length (now ranks)) ⌝ }
     ensures { λ r. ⌜ Swept (arenaOf (now (block .entry)) i) most safe x (RestsBelow (arenaOf (now (block .entry)) i) most safe x (L.states (now (block .entry)))) r (now (ranks .entry)) (now (ranks .exit)) ⌝ }
 {
     let n = layout::states(block);
@@ -144,7 +145,7 @@ pub fn settle_place(
     requires { ⌜ Valid (now block) ⌝ }
     requires { ⌜ (i < L.rows (now block)) × L.Strategic (L.kind (now block) i) ⌝ }
     requires { ⌜ Listed (now block) i (now counts) (now moves) (now takes) (now others) (now answers) (now wides) ⌝ }
-    requires { ⌜ (c ≡ stockPlaces (arenaOf (now block) i)) × (x < c) × (12288 ≤ length (now ranks)) ⌝ }
+    requires { ⌜ (c ≡ stockPlaces (arenaOf (now block) i)) × (x < c) × (roomBytes ≤ length (now ranks)) ⌝ }
     ensures { λ _. ⌜ PlaceSettled (arenaOf (now (block .entry)) i) most safe x (now (ranks .entry)) (now (ranks .exit)) ⌝ }
 {
     let mut back = false;
@@ -188,7 +189,7 @@ fn settle_places(
     requires { ⌜ Valid (now block) ⌝ }
     requires { ⌜ (i < L.rows (now block)) × L.Strategic (L.kind (now block) i) ⌝ }
     requires { ⌜ Listed (now block) i (now counts) (now moves) (now takes) (now others) (now answers) (now wides) ⌝ }
-    requires { ⌜ (c ≡ stockPlaces (arenaOf (now block) i)) × (12288 ≤ length (now ranks)) ⌝ }
+    requires { ⌜ (c ≡ stockPlaces (arenaOf (now block) i)) × (roomBytes ≤ length (now ranks)) ⌝ }
     ensures { λ _. ⌜ Settled (arenaOf (now (block .entry)) i) most safe (now (ranks .entry)) (now (ranks .exit)) ⌝ }
 {
     let mut x = 0;
@@ -216,7 +217,7 @@ fn settle_places(
 pub fn settle(block: &[u8], i: usize, c: usize, safe: usize, most: bool, ranks: &mut [u8])
     requires { ⌜ Valid (now block) ⌝ }
     requires { ⌜ (i < L.rows (now block)) × L.Strategic (L.kind (now block) i) ⌝ }
-    requires { ⌜ (c ≡ stockPlaces (arenaOf (now block) i)) × (12288 ≤ length (now ranks)) ⌝ }
+    requires { ⌜ (c ≡ stockPlaces (arenaOf (now block) i)) × (roomBytes ≤ length (now ranks)) ⌝ }
     ensures { λ _. ⌜ Settled (arenaOf (now (block .entry)) i) most safe (now (ranks .entry)) (now (ranks .exit)) ⌝ }
 {
     let mut counts = [0; 24];

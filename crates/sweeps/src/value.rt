@@ -18,6 +18,7 @@ ghost use Rattle.game.specs.Model.{arenaOf};
 ghost use Rattle.sweeps.specs.Ways.{entry, Listed};
 ghost use Rattle.sweeps.specs.Places.{PlacedAt};
 ghost use Rattle.sweeps.specs.Values.{Final, Valued};
+ghost use Rattle.turns.specs.Sizes.{roomBytes};
 
 // The worst rank over the first n replies in state s to the move m, which leaves `at` of the stocks, or the limit.
 pub fn worst_at(
@@ -33,19 +34,19 @@ pub fn worst_at(
     limit: usize,
 ) -> usize
     requires { ⌜ Valid (now block) × (s < L.states (now block)) ⌝ }
-    requires { ⌜ (0 < n) × (n ≤ 64) × (1536 ≤ length (now answers)) ⌝ }
-    requires { ⌜ ((k : ℕ) → k < n → (m + entry (now answers) s k < 64) × (2 * (L.next (now block) s (m + entry (now answers) s k) * c + at) + 1 < length (now ranks))) ⌝ }
+    requires { ⌜ (0 < n) × (n ≤ L.maxJoint) × (1536 ≤ length (now answers)) ⌝ }
+    requires { ⌜ ((k : ℕ) → k < n → (m + entry (now answers) s k < L.maxJoint) × (2 * (L.next (now block) s (m + entry (now answers) s k) * c + at) + 1 < length (now ranks))) ⌝ }
     ensures { λ r. ⌜ BestOf most n (λ (k : ℕ). rankIn (now (ranks .entry)) (L.next (now (block .entry)) s (m + entry (now (answers .entry)) s k) * c + at)) limit r ⌝ }
     ensures { λ r. ⌜ (limit < 65536 → r < 65536) ⌝ }
 {
-    let first = layout::next(block, s, m + wide(answers[64 * s]));
+    let first = layout::next(block, s, m + wide(answers[layout::JOINT_ACTIONS * s]));
     let mut best = buffers::rank_at(ranks, first * c + at);
     let mut k = 1;
     while k < n {
         if replies::beyond(most, limit, best) {
             return limit;
         }
-        let next = layout::next(block, s, m + wide(answers[64 * s + k]));
+        let next = layout::next(block, s, m + wide(answers[layout::JOINT_ACTIONS * s + k]));
         best = replies::further(most, buffers::rank_at(ranks, next * c + at), best);
         k += 1;
     }
@@ -94,7 +95,7 @@ pub fn value_at(
     requires { ⌜ Valid (now block) ⌝ }
     requires { ⌜ (i < L.rows (now block)) × L.Strategic (L.kind (now block) i) × (s < L.states (now block)) ⌝ }
     requires { ⌜ Listed (now block) i (now counts) (now moves) (now takes) (now others) (now answers) (now wides) ⌝ }
-    requires { ⌜ (c ≡ stockPlaces (arenaOf (now block) i)) × (x < c) × (12288 ≤ length (now ranks)) ⌝ }
+    requires { ⌜ (c ≡ stockPlaces (arenaOf (now block) i)) × (x < c) × (roomBytes ≤ length (now ranks)) ⌝ }
     requires { ⌜ (rank ≡ rankIn (now ranks) (s * c + x)) × (0 < rank) × (rank < 65536) ⌝ }
     ensures { λ v. ⌜ ((p : Position) → PlacedAt (arenaOf (now (block .entry)) i) s x p → Valued (arenaOf (now (block .entry)) i) most (rankIn (now (ranks .entry))) p v) × (v < 65536) ⌝ }
 {
@@ -103,9 +104,9 @@ pub fn value_at(
     let mut v = first_value(most, rank);
     let mut k = 0;
     while k < n {
-        let o = wide(takes[64 * s + k]);
+        let o = wide(takes[layout::JOINT_ACTIONS * s + k]);
         if wides::covers(wides, x, o) {
-            let m = wide(moves[64 * s + k]);
+            let m = wide(moves[layout::JOINT_ACTIONS * s + k]);
             v = worst_at(block, s, m, answers, replies, c, x - o, ranks, most, v);
         }
         if is_final(most, rank, v) {

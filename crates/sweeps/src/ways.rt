@@ -50,15 +50,15 @@ fn list_ways(block: &[u8], i: usize, s: usize, out: &mut [u8], takes: &mut [u8])
     requires { ⌜ (i < L.rows (now block)) × L.Strategic (L.kind (now block) i) × (s < L.states (now block)) ⌝ }
     requires { ⌜ (length (now out) ≡ 1536) × (length (now takes) ≡ 1536) ⌝ }
     ensures { λ n. ⌜ Ways (now (block .entry)) i s n (now (out .exit)) (now (takes .exit)) ⌝ }
-    ensures { λ _. ⌜ ((k : ℕ) → k < 64 * s → (getD (now (out .exit)) k 0 ≡ getD (now (out .entry)) k 0) × (getD (now (takes .exit)) k 0 ≡ getD (now (takes .entry)) k 0)) ⌝ }
+    ensures { λ _. ⌜ ((k : ℕ) → k < L.maxJoint * s → (getD (now (out .exit)) k 0 ≡ getD (now (out .entry)) k 0) × (getD (now (takes .exit)) k 0 ≡ getD (now (takes .entry)) k 0)) ⌝ }
     ensures { λ _. ⌜ (length (now (out .exit)) ≡ 1536) × (length (now (takes .exit)) ≡ 1536) ⌝ }
 {
     let mut n = 0;
     let mut m = 0;
-    while m < 64 {
+    while m < layout::JOINT_ACTIONS {
         if is_way(block, i, s, m) {
-            out[64 * s + n] = m as u8;
-            takes[64 * s + n] = positions::offset(block, i, s, m) as u8;
+            out[layout::JOINT_ACTIONS * s + n] = m as u8;
+            takes[layout::JOINT_ACTIONS * s + n] = positions::offset(block, i, s, m) as u8;
             n += 1;
         }
         m += 1;
@@ -72,14 +72,14 @@ fn list_answers(block: &[u8], i: usize, s: usize, out: &mut [u8]) -> usize
     requires { ⌜ (i < L.rows (now block)) × L.Strategic (L.kind (now block) i) × (s < L.states (now block)) ⌝ }
     requires { ⌜ length (now out) ≡ 1536 ⌝ }
     ensures { λ n. ⌜ Answers (now (block .entry)) i s n (now (out .exit)) ⌝ }
-    ensures { λ _. ⌜ ((k : ℕ) → k < 64 * s → getD (now (out .exit)) k 0 ≡ getD (now (out .entry)) k 0) ⌝ }
+    ensures { λ _. ⌜ ((k : ℕ) → k < L.maxJoint * s → getD (now (out .exit)) k 0 ≡ getD (now (out .entry)) k 0) ⌝ }
     ensures { λ _. ⌜ length (now (out .exit)) ≡ 1536 ⌝ }
 {
     let mut n = 0;
     let mut r = 0;
-    while r < 64 {
+    while r < layout::JOINT_ACTIONS {
         if replies::is_reply(block, i, s, r) {
-            out[64 * s + n] = r as u8;
+            out[layout::JOINT_ACTIONS * s + n] = r as u8;
             n += 1;
         }
         r += 1;

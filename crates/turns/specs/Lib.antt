@@ -1,5 +1,6 @@
 -- What the code of a turn is held to: words in lent buffers, listed numbers and their extremes, what a stock pays, which replies there
 -- are, and the states of a set.
+pub mod Sizes
 pub mod Buffers
 pub mod Extremes
 pub mod Rules

@@ -4,3 +4,4 @@ pub mod moves;
 pub mod positions;
 pub mod replies;
 pub mod sets;
+pub mod sizes;

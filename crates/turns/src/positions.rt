@@ -12,6 +12,7 @@ ghost use Rattle.game.specs.Rbatl.{moveCost};
 ghost use Rattle.game.specs.Position as P;
 ghost use Rattle.game.specs.Model.{structureOf, coalitionOf, boundsOf, arenaOf};
 ghost use Rattle.turns.specs.Rules.{Pays};
+ghost use Rattle.turns.specs.Sizes.{maxPositions};
 
 // The stock places of resource j in row i.
 pub fn places(block: &[u8], i: usize, j: usize) -> usize
@@ -20,7 +21,7 @@ pub fn places(block: &[u8], i: usize, j: usize) -> usize
     ensures { λ r. ⌜ r ≡ P.places (boundsOf (now (block .entry)) i j) ⌝ }
 {
     let bound = layout::bound(block, i, j);
-    if bound == 255 {
+    if bound == layout::UNLIMITED {
         return 1;
     }
     bound + 1
@@ -46,7 +47,7 @@ pub fn stock_places(block: &[u8], i: usize) -> usize
 pub fn count(block: &[u8], i: usize) -> usize
     requires { ⌜ Valid (now block) ⌝ }
     requires { ⌜ (i < L.rows (now block)) × L.Strategic (L.kind (now block) i) ⌝ }
-    ensures { λ r. ⌜ (r ≡ P.positions (arenaOf (now (block .entry)) i)) × (r ≤ 6144) ⌝ }
+    ensures { λ r. ⌜ (r ≡ P.positions (arenaOf (now (block .entry)) i)) × (r ≤ maxPositions) ⌝ }
 {
     layout::states(block) * stock_places(block, i)
 }
@@ -75,7 +76,7 @@ pub fn taken(block: &[u8], i: usize, s: usize, m: usize, j: usize) -> usize
     requires { ⌜ P.MoveOf (structureOf (now block)) (coalitionOf (now block) i) s m ⌝ }
     ensures { λ r. ⌜ (r ≡ P.taken (boundsOf (now (block .entry)) i j) (moveCost (structureOf (now (block .entry))) (coalitionOf (now (block .entry)) i) s (L.digit m) j)) × (r ≤ 45) ⌝ }
 {
-    if layout::bound(block, i, j) == 255 {
+    if layout::bound(block, i, j) == layout::UNLIMITED {
         return 0;
     }
     moves::cost(block, s, layout::team(block, i), m, j)
@@ -134,7 +135,7 @@ pub fn remaining(block: &[u8], i: usize, s: usize, m: usize, j: usize, stock: us
     requires { ⌜ Pays (now block) i s m j stock ⌝ }
     ensures { λ r. ⌜ r ≡ P.remaining (boundsOf (now (block .entry)) i j) stock (moveCost (structureOf (now (block .entry))) (coalitionOf (now (block .entry)) i) s (L.digit m) j) ⌝ }
 {
-    if layout::bound(block, i, j) == 255 {
+    if layout::bound(block, i, j) == layout::UNLIMITED {
         return 0;
     }
     stock - taken(block, i, s, m, j)

@@ -80,13 +80,13 @@ pub fn is_reply(block: &[u8], i: usize, s: usize, r: usize) -> bool
 pub fn replies(block: &[u8], i: usize, s: usize, out: &mut [usize]) -> usize
     requires { ⌜ Valid (now block) ⌝ }
     requires { ⌜ (i < L.rows (now block)) × L.Strategic (L.kind (now block) i) × (s < L.states (now block)) ⌝ }
-    requires { ⌜ 64 ≤ length (now out) ⌝ }
+    requires { ⌜ L.maxJoint ≤ length (now out) ⌝ }
     ensures { λ n. ⌜ Lists (ReplyTo (now (block .entry)) i s) (λ (r : ℕ). r) (now (out .exit)) n ⌝ }
-    ensures { λ n. ⌜ (n ≤ 64) × (length (now (out .exit)) ≡ length (now (out .entry))) × Rising (now (out .exit)) n × SameFrom (now (out .entry)) (now (out .exit)) n ⌝ }
+    ensures { λ n. ⌜ (n ≤ L.maxJoint) × (length (now (out .exit)) ≡ length (now (out .entry))) × Rising (now (out .exit)) n × SameFrom (now (out .entry)) (now (out .exit)) n ⌝ }
 {
     let mut n = 0;
     let mut r = 0;
-    while r < 64 {
+    while r < layout::JOINT_ACTIONS {
         if is_reply(block, i, s, r) {
             out[n] = r;
             n += 1;

@@ -1,7 +1,7 @@
 -- `leave` looks at the refusal's number. Assumes nothing.
 use mathlib.Core.Path.{_≡_, refl, sym, _∙_}
 use Rattle.block.specs.Refusal.{numberOf}
-use Rattle.solver.specs.Calls.{roomBytes, movesBytes}
+use Rattle.turns.specs.Sizes.{roomBytes, movesBytes}
 use Rattle.turns.proofs.Bytes.{cleared}
 use Rattle.report.proofs.Printing.{rooms-cleared}
 use borrow.Author.Needs.{needs}

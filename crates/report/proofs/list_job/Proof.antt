@@ -1,7 +1,7 @@
 -- `list_job` fills the rest of its buffers with zeros. Assumes nothing.
 use mathlib.Core.Path.{refl, _∙_}
 use lib.ListN.{take}
-use Rattle.solver.specs.Calls.{roomBytes, movesBytes}
+use Rattle.turns.specs.Sizes.{roomBytes, movesBytes}
 use Rattle.turns.proofs.Bytes.{cleared}
 use Rattle.report.specs.Call.{listingBytes}
 use Rattle.report.proofs.Printing.{filled}

@@ -4,7 +4,7 @@ use Prim.Native.Nat.{_-_, _≤_}
 use native.Mathlib.Omega.{arith}
 use lib.ListN.{length}
 use Rattle.block.specs.Layout as L
-use Rattle.solver.specs.Calls.{setsBytes, roomBytes, movesBytes}
+use Rattle.turns.specs.Sizes.{setsBytes, roomBytes, movesBytes}
 use Rattle.solver.specs.Labels.{LowerSets}
 use Rattle.solver.proofs.Labelling.{lower-more}
 use Rattle.report.specs.Call.{listingBytes}
