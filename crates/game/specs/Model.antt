@@ -7,8 +7,8 @@ use Rattle.block.specs.Decide.{Bit}
 use Rattle.block.specs.Layout as L
 use Rattle.block.specs.Layout.{Block}
 use Rattle.game.specs.Rbatl as R
-use Rattle.game.specs.Rbatl.{Bound, limit, unlimited, Fits, Bounds, Coalition, Formula, Structure, moveCost, Sat}
-use Rattle.game.specs.Position.{Arena, MoveOf, joint, stockBound, opponents, full}
+use Rattle.game.specs.Rbatl.{Bound, limit, unlimited, Bounds, Coalition, Formula, Structure, Sat}
+use Rattle.game.specs.Position.{Arena, joint, full}
 use Rattle.game.specs.Play as P
 use Rattle.game.specs.Play.{Objective, CoalitionWins}
 

@@ -3,7 +3,7 @@ use mathlib.Core.Bool.{Bool, true, false, cond}
 use mathlib.Core.List.{List}
 use mathlib.Core.Logic.{_⊎_, _↔_, inl, inr}
 use mathlib.Core.Path.{_≡_, refl, sym, _∙_, ap, subst, transport}
-use Prim.Native.Nat.{ℕ, _+_, _/_, _%_, _^_, _≤_, _<_}
+use Prim.Native.Nat.{ℕ, _+_, _/_, _%_, _^_, _<_}
 use native.Mathlib.Omega.{arith}
 use lib.Dec.{T, eqb, eqb→eq}
 use lib.ListN.{getD}
@@ -24,9 +24,9 @@ use Rattle.game.proofs.Blocks.Formulas.{next-objective, always-objective, until
 use Rattle.game.proofs.Blocks.Labels.{set-tells, prop-set, not-set, or-set, table-says-set}
 use Rattle.game.proofs.Solving.Determined.{foundMoves, moves-found}
 use Rattle.solver.specs.Labels.{LowerSets, RowLabelled}
-use Rattle.solver.specs.Tables.{tableIn, RanksOf}
+use Rattle.solver.specs.Tables.{RanksOf}
 use Rattle.solver.specs.Rows.{ClaimsBy, TrueBy}
-use Rattle.solver.proofs.Words.{strategic-stands, until-claims}
+use Rattle.solver.proofs.Words.{strategic-stands}
 use Rattle.solver.proofs.Ranking.{until-by}
 use Rattle.sweeps.proofs.Starting.{bit?}
 

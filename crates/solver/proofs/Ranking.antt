@@ -2,7 +2,7 @@
 use mathlib.Core.Bool.{Bool, true, false, cond}
 use mathlib.Core.List.{List}
 use mathlib.Core.Path.{_≡_, sym, _∙_, ap, subst}
-use Prim.Native.Nat.{ℕ, _≤_, _<_}
+use Prim.Native.Nat.{ℕ}
 use lib.Dec.{eqb}
 use borrow.Author.Tests.{ne-eqb}
 use Rattle.block.specs.Decide.{Bit}
@@ -10,7 +10,7 @@ use Rattle.block.specs.Layout as L
 use Rattle.block.specs.Layout.{Block}
 use Rattle.game.specs.Position.{number}
 use Rattle.game.specs.Play.{Objective, next, always, until}
-use Rattle.game.specs.Facts.{CanForce, CanAnswer, Ranked, RankFacts}
+use Rattle.game.specs.Facts.{RankFacts}
 use Rattle.turns.specs.Buffers.{rankIn}
 use Rattle.game.specs.Model.{arenaOf, objectiveBy, Says}
 use Rattle.sweeps.specs.Solving.{Solved}

@@ -9,9 +9,9 @@ use Rattle.block.specs.Layout.{Block, Strategic}
 use Rattle.block.specs.Valid.{Valid}
 use Rattle.block.proofs.Passing.{passing}
 use Rattle.game.specs.Rbatl.{Formula, Sat}
-use Rattle.game.specs.Position.{Position, IsPosition, full}
+use Rattle.game.specs.Position.{full}
 use Rattle.game.specs.Play.{Objective}
-use Rattle.game.specs.Table.{Table, Decided}
+use Rattle.game.specs.Table.{Table}
 use Rattle.game.specs.Facts.{RowsDecided, Facts}
 use Rattle.game.specs.Model.{bit, structureOf, formulaOf, RowTrue, arenaOf, objectiveOf}
 use Rattle.game.specs.Demand.{TableOf, Demand3}

@@ -1,7 +1,7 @@
 -- What a table's moves and replies are aimed at is decidable, given that lower rows are decided in every state, and the checker can
 -- compute it. Assumes nothing.
 use mathlib.Core.Path.{_≡_}
-use Prim.Native.Nat.{ℕ, _<_}
+use Prim.Native.Nat.{ℕ}
 use Rattle.game.specs.Position.{Arena, Position, IsPosition, Reply, Allowed, outcome}
 use Rattle.game.specs.Play.{Objective, next, always, until}
 use Rattle.game.specs.Table.{Table, never, rankAt, Aim, Good, Met, Smallest, Failed, CounterAim, ReplyIs}

@@ -1,9 +1,8 @@
 -- `row_lines` labels the row and writes its set, then fills its table and writes the plan. Assumes nothing.
-use mathlib.Core.List.{List, _++_, append-assoc}
-use mathlib.Core.Path.{sym, ap, subst, _∙_}
-use Prim.Native.Nat.{ℕ, _^_, _<_}
+use mathlib.Core.List.{_++_}
+use mathlib.Core.Path.{sym, subst, _∙_}
+use Prim.Native.Nat.{_^_, _<_}
 use native.Mathlib.Omega.{arith}
-use lib.ListN.{take}
 use Rattle.block.specs.Layout as L
 use Rattle.text.proofs.Adding.{adds-then}
 use Rattle.game.specs.Model.{RowSet}

@@ -1,10 +1,9 @@
 -- `label` refuses first, and then labels every row into sets that hold zeros. Assumes nothing.
 use mathlib.Core.List.{List}
 use mathlib.Core.Logic.{inl, inr}
-use mathlib.Core.Path.{_≡_, _∙_, ap}
-use Prim.Native.Nat.{ℕ, _≤_, _<_}
+use mathlib.Core.Path.{_∙_, ap}
+use Prim.Native.Nat.{ℕ, _≤_}
 use native.Mathlib.Omega.{arith}
-use lib.ListN.{length}
 use Rattle.block.specs.Layout as L
 use Rattle.block.proofs.Passing.{passing}
 use Rattle.turns.specs.Buffers.{wordIn}

@@ -1,13 +1,11 @@
 -- `label_row` ranks a strategic row and stores the word of the states in which the row is true. Assumes nothing.
-use mathlib.Core.List.{List}
 use mathlib.Core.Logic.{inl, inr, ⊎-elim}
 use mathlib.Core.Path.{_≡_, refl, sym, _∙_, ap, subst}
-use Prim.Native.Nat.{ℕ, _≤_, _<_}
+use Prim.Native.Nat.{ℕ, _<_}
 use native.Mathlib.Omega.{arith}
 use lib.ListN.{length}
 use borrow.Author.Needs.{needs}
 use Rattle.block.specs.Layout as L
-use Rattle.turns.specs.Buffers.{wordIn}
 use Rattle.game.specs.Model.{RowSet}
 use Rattle.solver.specs.Tables.{RanksOf}
 use Rattle.solver.specs.Labels.{Prepared}

@@ -1,15 +1,8 @@
 -- `table` refuses first, and then fills the table. Assumes nothing.
 use mathlib.Core.Logic.{inl, inr}
-use mathlib.Core.Path.{_≡_}
-use Prim.Native.Nat.{ℕ, _≤_, _<_}
-use native.Mathlib.Omega.{arith}
-use Rattle.block.specs.Layout as L
-use Rattle.block.specs.Layout.{Block}
-use Rattle.block.specs.Valid.{Valid}
 use Rattle.block.proofs.Decide as D
 use Rattle.block.proofs.Passing.{passing}
 use Rattle.game.proofs.Blocks.Rowwise.{row-demanded}
-use Rattle.solver.specs.Calls.{NoChoice}
 use Rattle.solver.proofs.Calls.{row-chosen, table-length, table-refused, table-no-choice, table-passed}
 use borrow.Author.Needs.{needs}
 use Rattle.solver.proofs.table.table.Statement.{statement}

@@ -1,7 +1,6 @@
 -- `first_rank` looks where the position stands. Assumes nothing.
 use borrow.Author.Needs.{needs}
 use mathlib.Core.Path.{refl, sym, subst}
-use Prim.Native.Nat.{_/_, _<_}
 use native.Mathlib.Omega.{arith}
 use Rattle.block.specs.Decide.{Bit}
 use Rattle.block.proofs.Decide as D

@@ -1,7 +1,7 @@
 -- `visited` counts from the first state or from the last. Assumes nothing.
 use mathlib.Core.Bool.{Bool}
 use mathlib.Core.Path.{_≡_, refl, sym, subst}
-use Prim.Native.Nat.{ℕ, _-_}
+use Prim.Native.Nat.{_-_}
 use native.Mathlib.Omega.{arith}
 use Rattle.sweeps.specs.Sweeps.{visit}
 use Rattle.sweeps.proofs.sweep.visited.Statement.{statement}
