@@ -1,9 +1,5 @@
 -- Laws of a turn: words as bytes, lists of numbers and their largest, numbers of positions, where a move leads, the opponents' replies.
 pub mod Bytes
-pub mod Largest
-pub mod Lists
 pub mod Numbering
 pub mod Opponents
-pub mod Offsets
-pub mod Outcomes
 pub mod Listing

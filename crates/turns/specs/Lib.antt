@@ -2,6 +2,5 @@
 -- are, and the states of a set.
 pub mod Sizes
 pub mod Buffers
-pub mod Extremes
 pub mod Rules
 pub mod Listed

@@ -2,6 +2,5 @@
 pub mod buffers;
 pub mod moves;
 pub mod positions;
-pub mod replies;
 pub mod sets;
 pub mod sizes;

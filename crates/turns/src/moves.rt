@@ -4,11 +4,12 @@ ghost use mathlib.Core.Path.{_≡_};
 ghost use Prim.Native.Nat.{_≤_, _<_};
 ghost use mathlib.Core.Bool.{cond};
 ghost use Rattle.block.specs.Decide.{Decides};
-ghost use Rattle.block.specs.Layout.{states, resources, agents, count, digit};
+ghost use Rattle.block.specs.Layout.{rows, states, resources, agents, count, kind, Strategic, digit};
 ghost use Rattle.block.specs.Valid.{Valid};
 ghost use Rattle.game.specs.Rbatl.{moveCost};
 ghost use Rattle.game.specs.Position.{partOf, MoveOf};
 ghost use Rattle.game.specs.Model.{bit, structureOf};
+ghost use Rattle.turns.specs.Rules.{ReplyTo};
 
 // A team's part of a joint action: the digits of its agents, and 0 for the others.
 pub fn part(team: usize, joint: usize) -> usize
@@ -81,4 +82,13 @@ pub fn is_move(block: &[u8], s: usize, team: usize, m: usize) -> bool
         a += 1;
     }
     k == 0
+}
+
+// Whether r is a reply to row i's team in state s.
+pub fn is_reply(block: &[u8], i: usize, s: usize, r: usize) -> bool
+    requires { ⌜ Valid (now block) ⌝ }
+    requires { ⌜ (i < rows (now block)) × Strategic (kind (now block) i) × (s < states (now block)) ⌝ }
+    ensures { λ t. ⌜ Decides (ReplyTo (now (block .entry)) i s r) t ⌝ }
+{
+    is_move(block, s, 7 - layout::team(block, i), r)
 }

@@ -5,13 +5,11 @@ use block::widths::wide;
 ghost use mathlib.Core.Path.{_≡_};
 ghost use Prim.Native.Nat.{_≤_, _<_};
 ghost use lib.ListN.{length};
-ghost use Rattle.block.specs.Decide.{Decides};
 ghost use Rattle.block.specs.Layout as L;
 ghost use Rattle.block.specs.Valid.{Valid};
 ghost use Rattle.game.specs.Rbatl.{moveCost};
 ghost use Rattle.game.specs.Position as P;
 ghost use Rattle.game.specs.Model.{structureOf, coalitionOf, boundsOf, arenaOf};
-ghost use Rattle.turns.specs.Rules.{Pays};
 ghost use Rattle.turns.specs.Sizes.{maxPositions};
 
 // The stock places of resource j in row i.
@@ -94,66 +92,6 @@ pub fn offset(block: &[u8], i: usize, s: usize, m: usize) -> usize
     let mut j = 0;
     while j < n {
         x = x * places(block, i, j) + taken(block, i, s, m, j);
-        j += 1;
-    }
-    x
-}
-
-// Whether a stock of resource j pays for the move m of row i's team in state s; an unlimited resource binds nothing.
-pub fn pays(block: &[u8], i: usize, s: usize, m: usize, j: usize, stock: usize) -> bool
-    requires { ⌜ Valid (now block) ⌝ }
-    requires { ⌜ (i < L.rows (now block)) × (s < L.states (now block)) × (j < L.resources (now block)) ⌝ }
-    requires { ⌜ P.MoveOf (structureOf (now block)) (coalitionOf (now block) i) s m ⌝ }
-    ensures { λ r. ⌜ Decides (Pays (now (block .entry)) i s m j stock) r ⌝ }
-{
-    taken(block, i, s, m, j) <= stock
-}
-
-// Whether the move m of row i's team is affordable in state s with the stocks of the list.
-pub fn affordable(block: &[u8], i: usize, s: usize, stocks: &[u8], m: usize) -> bool
-    requires { ⌜ Valid (now block) ⌝ }
-    requires { ⌜ (i < L.rows (now block)) × (s < L.states (now block)) × (L.resources (now block) ≤ length (now stocks)) ⌝ }
-    requires { ⌜ P.MoveOf (structureOf (now block)) (coalitionOf (now block) i) s m ⌝ }
-    ensures { λ r. ⌜ Decides (P.Affordable (arenaOf (now (block .entry)) i) (P.position s (now (stocks .entry))) m) r ⌝ }
-{
-    let n = layout::resources(block);
-    let mut j = 0;
-    while j < n {
-        if !pays(block, i, s, m, j, wide(stocks[j])) {
-            return false;
-        }
-        j += 1;
-    }
-    true
-}
-
-// What remains of a stock of resource j after the move m of row i's team in state s.
-pub fn remaining(block: &[u8], i: usize, s: usize, m: usize, j: usize, stock: usize) -> usize
-    requires { ⌜ Valid (now block) ⌝ }
-    requires { ⌜ (i < L.rows (now block)) × (s < L.states (now block)) × (j < L.resources (now block)) ⌝ }
-    requires { ⌜ P.MoveOf (structureOf (now block)) (coalitionOf (now block) i) s m ⌝ }
-    requires { ⌜ Pays (now block) i s m j stock ⌝ }
-    ensures { λ r. ⌜ r ≡ P.remaining (boundsOf (now (block .entry)) i j) stock (moveCost (structureOf (now (block .entry))) (coalitionOf (now (block .entry)) i) s (L.digit m) j) ⌝ }
-{
-    if layout::bound(block, i, j) == layout::UNLIMITED {
-        return 0;
-    }
-    stock - taken(block, i, s, m, j)
-}
-
-// The number of the position where the move m and the reply r lead from state s with the stocks of the list.
-pub fn outcome(block: &[u8], i: usize, s: usize, stocks: &[u8], m: usize, r: usize) -> usize
-    requires { ⌜ Valid (now block) ⌝ }
-    requires { ⌜ (i < L.rows (now block)) × L.Strategic (L.kind (now block) i) × (L.resources (now block) ≤ length (now stocks)) ⌝ }
-    requires { ⌜ P.IsPosition (arenaOf (now block) i) (P.position s (now stocks)) ⌝ }
-    requires { ⌜ P.Allowed (arenaOf (now block) i) (P.position s (now stocks)) m × P.Reply (arenaOf (now block) i) (P.position s (now stocks)) r ⌝ }
-    ensures { λ n. ⌜ n ≡ P.number (arenaOf (now (block .entry)) i) (P.outcome (arenaOf (now (block .entry)) i) (P.position s (now (stocks .entry))) m r) ⌝ }
-{
-    let n = layout::resources(block);
-    let mut x = layout::next(block, s, m + r);
-    let mut j = 0;
-    while j < n {
-        x = x * places(block, i, j) + remaining(block, i, s, m, j, wide(stocks[j]));
         j += 1;
     }
     x

@@ -1,0 +1,7 @@
+-- Laws of the listed moves and replies: lines of a listing, stock places, what a place pays, and where a move leads.
+pub mod Filling
+pub mod Offsets
+pub mod Placing
+pub mod Widening
+pub mod Largest
+pub mod Leading

@@ -1,0 +1,44 @@
+-- The buffer that holds the listing of a row: first a wide number for each stock place, then for each state its fields.
+use mathlib.Core.Bool.{Bool, true, false}
+use mathlib.Core.List.{List}
+use Prim.Native.Nat.{ℕ, _+_, _*_}
+use lib.ListN.{getD}
+use Rattle.turns.specs.Buffers.{rankIn}
+
+abbrev pub waysBytes : ℕ
+waysBytes = 5168
+
+-- the place of field f of state s
+abbrev pub fieldPlace : ℕ → ℕ → ℕ
+fieldPlace s f = 512 + 194 * s + f
+
+abbrev pub fieldIn : List ℕ → ℕ → ℕ → ℕ
+fieldIn l s f = getD l (fieldPlace s f) 0
+
+-- the fields with the count and the numbers of a state's moves, and of the replies there, and with what the moves take
+abbrev pub countAt : Bool → ℕ
+countAt true = 0
+countAt false = 1
+
+abbrev pub lineAt : Bool → ℕ
+lineAt true = 2
+lineAt false = 66
+
+abbrev pub takesAt : ℕ
+takesAt = 130
+
+-- how many moves, or replies, state s has
+abbrev pub countIn : List ℕ → ℕ → Bool → ℕ
+countIn l s ours = fieldIn l s (countAt ours)
+
+-- the k-th of them
+abbrev pub numberIn : List ℕ → ℕ → Bool → ℕ → ℕ
+numberIn l s ours k = fieldIn l s (lineAt ours + k)
+
+-- what the k-th move takes
+abbrev pub takenIn : List ℕ → ℕ → ℕ → ℕ
+takenIn l s k = fieldIn l s (takesAt + k)
+
+-- the wide number of stock place x
+abbrev pub wideIn : List ℕ → ℕ → ℕ
+wideIn = rankIn

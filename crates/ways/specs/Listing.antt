@@ -1,0 +1,54 @@
+-- The moves of each state of a row and the replies there, listed.
+use mathlib.Core.Bool.{Bool, true, false}
+use mathlib.Core.List.{List}
+use mathlib.Core.Logic.{_⊎_}
+use mathlib.Core.Path.{_≡_}
+use Prim.Native.Nat.{ℕ, _+_, _≤_, _<_}
+use lib.ListN.{getD, length}
+use Rattle.block.specs.Decide.{Bit}
+use Rattle.block.specs.Layout as L
+use Rattle.block.specs.Layout.{Block}
+use Rattle.game.specs.Position.{Allowed, full, offset}
+use Rattle.game.specs.Model.{arenaOf}
+use Rattle.turns.specs.Rules.{ReplyTo}
+use Rattle.ways.specs.Lines.{waysBytes, countIn, numberIn, takenIn}
+use Rattle.ways.specs.Wides.{Wides}
+use Rattle.ways.specs.declared.rows.Row.{Row}
+
+-- whatever the reply, the move m leads from state s into the set
+abbrev pub LeadsInto : Block → ℕ → ℕ → ℕ → ℕ → Type 0
+LeadsInto b i s m set = (r : ℕ) → ReplyTo b i s r → Bit set (L.next b s (m + r))
+
+-- a move that full stock pays and that matters to the row
+abbrev pub Useful : Block → Row → ℕ → ℕ → Type 0
+Useful b row s m = Allowed (arenaOf b (row .index)) (full (arenaOf b (row .index)) s) m × (row .into ≡ true → LeadsInto b (row .index) s m (row .set))
+
+-- such a move where ours, and else a reply
+abbrev pub Listable : Block → Row → ℕ → Bool → ℕ → Type 0
+Listable b row s true m = Useful b row s m
+Listable b row s false m = ReplyTo b (row .index) s m
+
+-- the first n of the numbers `at` are those of which P holds, rising
+pub record LineOf (P : ℕ → Type 0) (at : ℕ → ℕ) (n : ℕ) : Type 0 where
+  pub each : (m : ℕ) → P m → (k : ℕ) × (k < n) × (at k ≡ m)
+  pub only : (k : ℕ) → k < n → P (at k)
+  pub rising : (j k : ℕ) → j < k → k < n → at j < at k
+  pub few : n ≤ 64
+
+-- what each listed move of state s takes
+abbrev pub TakesOf : Block → Row → ℕ → List ℕ → Type 0
+TakesOf b row s ways = (k : ℕ) → k < countIn ways s true → takenIn ways s k ≡ offset (arenaOf b (row .index)) (full (arenaOf b (row .index)) s) (numberIn ways s true k)
+
+pub record StateListed (b : Block) (row : Row) (s : ℕ) (ways : List ℕ) : Type 0 where
+  pub lines : (ours : Bool) → LineOf (Listable b row s ours) (numberIn ways s ours) (countIn ways s ours)
+  pub takes : TakesOf b row s ways
+
+pub record Listed (b : Block) (row : Row) (ways : List ℕ) : Type 0 where
+  pub states : (s : ℕ) → s < L.states b → StateListed b row s ways
+  pub wide : Wides (arenaOf b (row .index)) ways
+  pub long : length ways ≡ waysBytes
+
+-- nothing changed but in the places from `first` to before `end`
+pub record SameOutside (first end : ℕ) (l l′ : List ℕ) : Type 0 where
+  pub same : (p : ℕ) → (p < first) ⊎ (end ≤ p) → getD l′ p 0 ≡ getD l p 0
+  pub long : length l′ ≡ length l

@@ -1,0 +1,35 @@
+// A move at a stock place: the place that it leads to, or that the place cannot pay it.
+use crate::lines;
+use crate::rows::Row;
+use crate::rows::Spot;
+use crate::wides;
+ghost use mathlib.Core.Bool.{true};
+ghost use mathlib.Core.Path.{_≡_};
+ghost use Prim.Native.Nat.{_<_};
+ghost use Rattle.block.specs.Layout as L;
+ghost use Rattle.block.specs.Valid.{Valid};
+ghost use Rattle.game.specs.Model.{arenaOf};
+ghost use Rattle.ways.specs.Landing.{Lands};
+ghost use Rattle.ways.specs.Lines.{countIn, numberIn};
+ghost use Rattle.ways.specs.Listing.{Listed};
+ghost use Rattle.ways.specs.Rows.{Playable};
+
+pub enum Landing {
+    At(usize),
+    Unpaid,
+}
+
+// Where the k-th move of the position's state lands.
+pub fn lands(block: &[u8], row: Row, ways: &[u8], spot: Spot, k: usize) -> Landing
+    requires { ⌜ Valid (now block) ⌝ }
+    requires { ⌜ Playable (now block) row × Listed (now block) row (now ways) ⌝ }
+    requires { ⌜ (spot .state < L.states (now block)) × (spot .place < row .places) × (k < countIn (now ways) (spot .state) true) ⌝ }
+    ensures { λ r. ⌜ Lands (arenaOf (now (block .entry)) (row .index)) (spot .state) (spot .place) (numberIn (now (ways .entry)) (spot .state) true k) r ⌝ }
+{
+    let x = spot.place;
+    let o = lines::taken(ways, spot.state, k);
+    if wides::covers(ways, x, o) {
+        return Landing::At(x - o);
+    }
+    Landing::Unpaid
+}

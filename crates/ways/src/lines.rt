@@ -1,0 +1,109 @@
+// The buffer that holds the listing of a row: first the wide numbers of the stock places, then for each state the counts of its
+// moves and replies, its moves, its replies, and what each move takes. No other module computes a place in it.
+use block::layout;
+use block::widths::wide;
+use turns::buffers;
+ghost use mathlib.Core.Path.{_≡_};
+ghost use Prim.Native.Nat.{_+_, _*_, _≤_, _<_};
+ghost use lib.ListN.{length, set};
+ghost use Rattle.turns.specs.Buffers.{Stored, rankIn};
+ghost use Rattle.ways.specs.Lines.{waysBytes, fieldPlace, fieldIn, countAt, lineAt, takesAt, wideIn, countIn, numberIn, takenIn};
+
+pub const WAYS_BYTES: usize = 5168;
+
+// Where the states begin, and how many bytes each has.
+const STATES_BASE: usize = 512;
+
+const STATE_BYTES: usize = 2 + 3 * layout::JOINT_ACTIONS;
+
+// Where the takes of a state begin.
+const TAKES: usize = 2 + 2 * layout::JOINT_ACTIONS;
+
+// Field f of state s.
+fn field(ways: &[u8], s: usize, f: usize) -> usize
+    requires { ⌜ (length (now ways) ≡ waysBytes) × (s < 24) × (f < 194) ⌝ }
+    ensures { λ r. ⌜ (r ≡ fieldIn (now (ways .entry)) s f) × (r < 256) ⌝ }
+{
+    wide(ways[STATES_BASE + STATE_BYTES * s + f])
+}
+
+// Stores field f of state s.
+fn set_field(ways: &mut [u8], s: usize, f: usize, v: u8)
+    requires { ⌜ (length (now ways) ≡ waysBytes) × (s < 24) × (f < 194) ⌝ }
+    ensures { λ _. ⌜ now (ways .exit) ≡ set (now (ways .entry)) (fieldPlace s f) v ⌝ }
+{
+    ways[STATES_BASE + STATE_BYTES * s + f] = v;
+}
+
+// Where the count and the numbers of a line begin: of the moves where ours, and else of the replies.
+fn count_at(ours: bool) -> usize
+    ensures { λ r. ⌜ r ≡ countAt ours ⌝ }
+{
+    if ours { 0 } else { 1 }
+}
+
+fn line_at(ours: bool) -> usize
+    ensures { λ r. ⌜ r ≡ lineAt ours ⌝ }
+{
+    if ours { 2 } else { 2 + layout::JOINT_ACTIONS }
+}
+
+// How many moves or replies state s has.
+pub fn count(ways: &[u8], s: usize, ours: bool) -> usize
+    requires { ⌜ (length (now ways) ≡ waysBytes) × (s < 24) ⌝ }
+    ensures { λ r. ⌜ r ≡ countIn (now (ways .entry)) s ours ⌝ }
+{
+    field(ways, s, count_at(ours))
+}
+
+pub fn set_count(ways: &mut [u8], s: usize, ours: bool, n: usize)
+    requires { ⌜ (length (now ways) ≡ waysBytes) × (s < 24) × (n ≤ 64) ⌝ }
+    ensures { λ _. ⌜ now (ways .exit) ≡ set (now (ways .entry)) (fieldPlace s (countAt ours)) n ⌝ }
+{
+    set_field(ways, s, count_at(ours), n as u8);
+}
+
+// The k-th of them.
+pub fn number(ways: &[u8], s: usize, ours: bool, k: usize) -> usize
+    requires { ⌜ (length (now ways) ≡ waysBytes) × (s < 24) × (k < 64) ⌝ }
+    ensures { λ r. ⌜ r ≡ numberIn (now (ways .entry)) s ours k ⌝ }
+{
+    field(ways, s, line_at(ours) + k)
+}
+
+pub fn set_number(ways: &mut [u8], s: usize, ours: bool, k: usize, m: usize)
+    requires { ⌜ (length (now ways) ≡ waysBytes) × (s < 24) × (k < 64) × (m < 64) ⌝ }
+    ensures { λ _. ⌜ now (ways .exit) ≡ set (now (ways .entry)) (fieldPlace s (lineAt ours + k)) m ⌝ }
+{
+    set_field(ways, s, line_at(ours) + k, m as u8);
+}
+
+// What the k-th move takes, as a stock place.
+pub fn taken(ways: &[u8], s: usize, k: usize) -> usize
+    requires { ⌜ (length (now ways) ≡ waysBytes) × (s < 24) × (k < 64) ⌝ }
+    ensures { λ r. ⌜ (r ≡ takenIn (now (ways .entry)) s k) × (r < 256) ⌝ }
+{
+    field(ways, s, TAKES + k)
+}
+
+pub fn set_taken(ways: &mut [u8], s: usize, k: usize, o: usize)
+    requires { ⌜ (length (now ways) ≡ waysBytes) × (s < 24) × (k < 64) × (o < 256) ⌝ }
+    ensures { λ _. ⌜ now (ways .exit) ≡ set (now (ways .entry)) (fieldPlace s (takesAt + k)) o ⌝ }
+{
+    set_field(ways, s, TAKES + k, o as u8);
+}
+
+// The wide number of stock place x.
+pub fn wide_number(ways: &[u8], x: usize) -> usize
+    requires { ⌜ (length (now ways) ≡ waysBytes) × (x < 256) ⌝ }
+    ensures { λ r. ⌜ (r ≡ wideIn (now (ways .entry)) x) × (r < 65536) ⌝ }
+{
+    buffers::rank_at(ways, x)
+}
+
+pub fn set_wide_number(ways: &mut [u8], x: usize, v: usize)
+    requires { ⌜ (length (now ways) ≡ waysBytes) × (x < 256) × (v < 65536) ⌝ }
+    ensures { λ _. ⌜ Stored rankIn (now (ways .entry)) (now (ways .exit)) x v ⌝ }
+{
+    buffers::set_rank(ways, x, v);
+}

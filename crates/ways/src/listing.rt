@@ -1,0 +1,159 @@
+// Lists the moves of each state of a row, the replies there and what the moves take, so that nothing looks for them again.
+use crate::lines;
+use crate::rows::Row;
+use crate::wides;
+use block::layout;
+use turns::buffers;
+use turns::moves;
+use turns::positions;
+ghost use mathlib.Core.Bool.{true, false};
+ghost use mathlib.Core.Path.{_≡_};
+ghost use Prim.Native.Nat.{ℕ, _+_, _*_, _≤_, _<_};
+ghost use lib.ListN.{length, getD};
+ghost use Rattle.block.specs.Decide.{Decides};
+ghost use Rattle.block.specs.Layout as L;
+ghost use Rattle.block.specs.Valid.{Valid};
+ghost use Rattle.game.specs.Position.{MoveOf, Affordable, Allowed, full};
+ghost use Rattle.game.specs.Model.{structureOf, coalitionOf, arenaOf};
+ghost use Rattle.turns.specs.Rules.{ReplyTo};
+ghost use Rattle.ways.specs.Lines.{waysBytes, fieldPlace, countIn, numberIn, countAt, lineAt, takesAt};
+ghost use Rattle.ways.specs.Listing.{LeadsInto, Useful, Listable, LineOf, TakesOf, StateListed, Listed, SameOutside};
+ghost use Rattle.ways.specs.Rows.{Playable};
+
+// Whether full stock pays the move m of row i's team in state s.
+fn payable_at_all(block: &[u8], i: usize, s: usize, m: usize) -> bool
+    requires { ⌜ Valid (now block) ⌝ }
+    requires { ⌜ (i < L.rows (now block)) × L.Strategic (L.kind (now block) i) × (s < L.states (now block)) ⌝ }
+    requires { ⌜ MoveOf (structureOf (now block)) (coalitionOf (now block) i) s m ⌝ }
+    ensures { λ r. ⌜ Decides (Affordable (arenaOf (now (block .entry)) i) (full (arenaOf (now (block .entry)) i) s) m) r ⌝ }
+{
+    let n = layout::resources(block);
+    let mut j = 0;
+    while j < n {
+        if positions::places(block, i, j) <= positions::taken(block, i, s, m, j) {
+            return false;
+        }
+        j += 1;
+    }
+    true
+}
+
+// Whether m is a move of row i's team in state s that full stock pays.
+fn is_way(block: &[u8], i: usize, s: usize, m: usize) -> bool
+    requires { ⌜ Valid (now block) ⌝ }
+    requires { ⌜ (i < L.rows (now block)) × L.Strategic (L.kind (now block) i) × (s < L.states (now block)) ⌝ }
+    ensures { λ r. ⌜ Decides (Allowed (arenaOf (now (block .entry)) i) (full (arenaOf (now (block .entry)) i) s) m) r ⌝ }
+{
+    if !moves::is_move(block, s, layout::team(block, i), m) {
+        return false;
+    }
+    payable_at_all(block, i, s, m)
+}
+
+// Whether each reply that is listed in state s leads with the move m into the row's set.
+fn leads_into(block: &[u8], row: Row, ways: &[u8], s: usize, m: usize) -> bool
+    requires { ⌜ Valid (now block) ⌝ }
+    requires { ⌜ Playable (now block) row × (s < L.states (now block)) × (length (now ways) ≡ waysBytes) ⌝ }
+    requires { ⌜ MoveOf (structureOf (now block)) (coalitionOf (now block) (row .index)) s m ⌝ }
+    requires { ⌜ LineOf (ReplyTo (now block) (row .index) s) (numberIn (now ways) s false) (countIn (now ways) s false) ⌝ }
+    ensures { λ r. ⌜ Decides (LeadsInto (now (block .entry)) (row .index) s m (row .set)) r ⌝ }
+{
+    let set = row.set;
+    let n = lines::count(ways, s, false);
+    let mut k = 0;
+    while k < n {
+        let r = lines::number(ways, s, false, k);
+        if !buffers::has_bit(set, layout::next(block, s, m + r)) {
+            return false;
+        }
+        k += 1;
+    }
+    true
+}
+
+// Whether the number m is listed: as a move that matters where ours, and else as a reply.
+fn is_listed(block: &[u8], row: Row, ways: &[u8], s: usize, ours: bool, m: usize) -> bool
+    requires { ⌜ Valid (now block) ⌝ }
+    requires { ⌜ Playable (now block) row × (s < L.states (now block)) × (length (now ways) ≡ waysBytes) ⌝ }
+    requires { ⌜ (ours ≡ true → LineOf (ReplyTo (now block) (row .index) s) (numberIn (now ways) s false) (countIn (now ways) s false)) ⌝ }
+    ensures { λ r. ⌜ Decides (Listable (now (block .entry)) row s ours m) r ⌝ }
+{
+    let i = row.index;
+    if !ours {
+        return moves::is_reply(block, i, s, m);
+    }
+    if !is_way(block, i, s, m) {
+        return false;
+    }
+    if row.into {
+        return leads_into(block, row, ways, s, m);
+    }
+    true
+}
+
+// Lists the moves of state s, or the replies there, in rising order. Answers how many there are.
+fn list_line(block: &[u8], row: Row, s: usize, ours: bool, ways: &mut [u8]) -> usize
+    requires { ⌜ Valid (now block) ⌝ }
+    requires { ⌜ Playable (now block) row × (s < L.states (now block)) × (length (now ways) ≡ waysBytes) ⌝ }
+    requires { ⌜ (ours ≡ true → LineOf (ReplyTo (now block) (row .index) s) (numberIn (now ways) s false) (countIn (now ways) s false)) ⌝ }
+    ensures { λ n. ⌜ LineOf (Listable (now (block .entry)) row s ours) (numberIn (now (ways .exit)) s ours) n ⌝ }
+    ensures { λ _. ⌜ SameOutside (fieldPlace s (lineAt ours)) (fieldPlace s (lineAt ours) + 64) (now (ways .entry)) (now (ways .exit)) ⌝ }
+{
+    let mut n = 0;
+    let mut m = 0;
+    while m < layout::JOINT_ACTIONS {
+        if is_listed(block, row, ways, s, ours, m) {
+            lines::set_number(ways, s, ours, n, m);
+            n += 1;
+        }
+        m += 1;
+    }
+    n
+}
+
+// Stores what each listed move of state s takes.
+fn list_takes(block: &[u8], row: Row, s: usize, ways: &mut [u8])
+    requires { ⌜ Valid (now block) ⌝ }
+    requires { ⌜ Playable (now block) row × (s < L.states (now block)) × (length (now ways) ≡ waysBytes) ⌝ }
+    requires { ⌜ LineOf (Listable (now block) row s true) (numberIn (now ways) s true) (countIn (now ways) s true) ⌝ }
+    ensures { λ _. ⌜ TakesOf (now (block .entry)) row s (now (ways .exit)) ⌝ }
+    ensures { λ _. ⌜ SameOutside (fieldPlace s takesAt) (fieldPlace s takesAt + 64) (now (ways .entry)) (now (ways .exit)) ⌝ }
+{
+    let i = row.index;
+    let n = lines::count(ways, s, true);
+    let mut k = 0;
+    while k < n {
+        let m = lines::number(ways, s, true, k);
+        lines::set_taken(ways, s, k, positions::offset(block, i, s, m));
+        k += 1;
+    }
+}
+
+// Lists state s.
+fn list_state(block: &[u8], row: Row, s: usize, ways: &mut [u8])
+    requires { ⌜ Valid (now block) ⌝ }
+    requires { ⌜ Playable (now block) row × (s < L.states (now block)) × (length (now ways) ≡ waysBytes) ⌝ }
+    ensures { λ _. ⌜ StateListed (now (block .entry)) row s (now (ways .exit)) ⌝ }
+    ensures { λ _. ⌜ SameOutside (fieldPlace s 0) (fieldPlace (s + 1) 0) (now (ways .entry)) (now (ways .exit)) ⌝ }
+{
+    let replies = list_line(block, row, s, false, ways);
+    lines::set_count(ways, s, false, replies);
+    let moves = list_line(block, row, s, true, ways);
+    lines::set_count(ways, s, true, moves);
+    list_takes(block, row, s, ways);
+}
+
+// Lists all of a row.
+pub fn list_row(block: &[u8], row: Row, ways: &mut [u8])
+    requires { ⌜ Valid (now block) ⌝ }
+    requires { ⌜ Playable (now block) row × (length (now ways) ≡ waysBytes) ⌝ }
+    ensures { λ _. ⌜ Listed (now (block .entry)) row (now (ways .exit)) ⌝ }
+{
+    wides::fill_wides(block, row, ways);
+    let n = layout::states(block);
+    let mut s = 0;
+    while s < n {
+        list_state(block, row, s, ways);
+        s += 1;
+    }
+}
