@@ -72,8 +72,7 @@ fn sweep(
 {
     let n = layout::states(block);
     let mut did = false;
-    let mut k = 0;
-    while k < n {
+    for k in 0..n {
         let spot = Spot {
             state: visited(back, n, k),
             place: x,
@@ -81,7 +80,6 @@ fn sweep(
         if settle_at(block, row, side, ways, spot, ranks) {
             did = true;
         }
-        k += 1;
     }
     did
 }
@@ -109,10 +107,8 @@ fn settle_places(block: &[u8], row: Row, side: Side, ways: &[u8], ranks: &mut [u
     ensures { λ _. ⌜ Settled (arenaOf (now (block .entry)) (row .index)) (side .most) (side .safe) (now (ranks .entry)) (now (ranks .exit)) ⌝ }
 {
     let c = row.places;
-    let mut x = 0;
-    while x < c {
+    for x in 0..c {
         settle_place(block, row, side, ways, x, ranks);
-        x += 1;
     }
 }
 

@@ -94,8 +94,7 @@ pub fn value_at(
 {
     let n = lines::count(ways, spot.state, true);
     let mut v = first_value(most, rank);
-    let mut k = 0;
-    while k < n {
+    for k in 0..n {
         v = offered(
             block,
             row,
@@ -111,7 +110,6 @@ pub fn value_at(
         if is_final(most, rank, v) {
             return v;
         }
-        k += 1;
     }
     v
 }

@@ -37,16 +37,14 @@ pub fn cost(block: &[u8], s: usize, team: usize, m: usize, j: usize) -> usize
 {
     let n = layout::agents(block);
     let mut sum = 0;
-    let mut a = 0;
     let mut rest = team;
     let mut k = m;
-    while a < n {
+    for a in 0..n {
         if rest % 2 == 1 {
             sum += layout::cost(block, s, a, k % 4, j);
         }
         rest = rest / 2;
         k = k / 4;
-        a += 1;
     }
     sum
 }
