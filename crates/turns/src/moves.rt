@@ -2,9 +2,9 @@
 use block::joint;
 use block::layout;
 ghost use mathlib.Core.Path.{_≡_};
-ghost use Prim.Native.Nat.{_≤_, _<_};
+ghost use Prim.Native.Nat.{_^_, _≤_, _<_};
 ghost use Rattle.block.specs.Decide.{Decides};
-ghost use Rattle.block.specs.Layout.{rows, states, resources, kind, Strategic, digit};
+ghost use Rattle.block.specs.Layout.{maxJoint, rows, states, resources, agents, kind, Strategic, digit};
 ghost use Rattle.block.specs.Valid.{Valid};
 ghost use Rattle.game.specs.Rbatl.{moveCost};
 ghost use Rattle.game.specs.Position.{partOf, MoveOf};
@@ -47,6 +47,21 @@ pub fn cost(block: &[u8], s: usize, team: usize, m: usize, j: usize) -> usize
         k = k / 4;
     }
     sum
+}
+
+// How many joint actions have a number: four to the number of agents.
+pub fn joint_actions(block: &[u8]) -> usize
+    requires { ⌜ Valid (now block) ⌝ }
+    ensures { λ r. ⌜ (r ≡ 4 ^ agents (now (block .entry))) × (r ≤ maxJoint) ⌝ }
+{
+    let n = layout::agents(block);
+    if n == 1 {
+        return 4;
+    }
+    if n == 2 {
+        return 16;
+    }
+    layout::JOINT_ACTIONS
 }
 
 // Whether m is the number of a move of a team in state s: it is the team's part of itself, and a joint action that can be done there.

@@ -95,8 +95,9 @@ fn list_line(block: &[u8], row: Row, s: usize, ours: bool, ways: &mut [u8]) -> u
     ensures { λ n. ⌜ LineOf (Listable (now (block .entry)) row s ours) (numberIn (now (ways .exit)) s ours) n ⌝ }
     ensures { λ _. ⌜ SameOutside (fieldPlace s (lineAt ours)) (fieldPlace s (lineAt ours) + 64) (now (ways .entry)) (now (ways .exit)) ⌝ }
 {
+    let limit = moves::joint_actions(block);
     let mut n = 0;
-    for m in 0..layout::JOINT_ACTIONS {
+    for m in 0..limit {
         if is_listed(block, row, ways, s, ours, m) {
             lines::set_number(ways, s, ours, n, m);
             n += 1;
