@@ -6,7 +6,7 @@ use lib.ListN.{length}
 use Rattle.text.specs.Job as J
 use Rattle.writer.specs.Lengths.{costsBytes}
 use Rattle.writer.specs.Writing.{sizesOf}
-use Rattle.text.proofs.Repeats.{actions-loop}
+use Rattle.text.proofs.JobLoops.{actions-loop}
 use Rattle.writer.proofs.Writing.{Looped, looped-none, looped-more, looped-all}
 use Rattle.writer.proofs.agents.actions.Statement.{statement}
 use Rattle.writer.proofs.agents.actions.Tie as tie

@@ -6,7 +6,7 @@ use lib.ListN.{length}
 use Rattle.text.specs.Job as J
 use Rattle.writer.specs.Lengths.{rowLineBytes}
 use Rattle.writer.specs.Writing.{sizesOf}
-use Rattle.text.proofs.Repeats.{rows-loop}
+use Rattle.text.proofs.JobLoops.{rows-loop}
 use Rattle.writer.proofs.Writing.{Looped, looped-none, looped-more, looped-all}
 use Rattle.writer.proofs.rows.row_lines.Statement.{statement}
 use Rattle.writer.proofs.rows.row_lines.Tie as tie

@@ -7,7 +7,7 @@ use Rattle.text.specs.Job as J
 use Rattle.block.specs.Layout.{maxJoint}
 use Rattle.writer.specs.Lengths.{goLineBytes}
 use Rattle.writer.specs.Writing.{sizesOf}
-use Rattle.text.proofs.Repeats.{go-loop}
+use Rattle.text.proofs.JobLoops.{go-loop}
 use Rattle.writer.proofs.Writing.{Looped, looped-none, looped-more, looped-all}
 use Rattle.writer.proofs.states.go_lines.Statement.{statement}
 use Rattle.writer.proofs.states.go_lines.Tie as tie

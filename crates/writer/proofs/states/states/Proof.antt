@@ -6,7 +6,7 @@ use lib.ListN.{length}
 use Rattle.text.specs.Job as J
 use Rattle.writer.specs.Lengths.{stateLinesBytes}
 use Rattle.writer.specs.Writing.{sizesOf}
-use Rattle.text.proofs.Repeats.{states-loop}
+use Rattle.text.proofs.JobLoops.{states-loop}
 use Rattle.writer.proofs.Writing.{Looped, looped-none, looped-more, looped-all}
 use Rattle.writer.proofs.states.states.Statement.{statement}
 use Rattle.writer.proofs.states.states.Tie as tie
