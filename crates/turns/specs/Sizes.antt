@@ -2,12 +2,15 @@
 use Prim.Native.Nat.{ℕ, suc, _*_, _^_}
 use Rattle.block.specs.Layout.{maxResources, maxStates, maxRows, maxUnits}
 
--- the stocks of one resource, and the most positions of a row: a state with a stock of each resource
+-- the stocks of one resource, the stock places of a state, with a stock of each resource, and the most positions of a row
 abbrev pub maxStocks : ℕ
 maxStocks = suc maxUnits
 
+abbrev pub maxStockPlaces : ℕ
+maxStockPlaces = maxStocks ^ maxResources
+
 abbrev pub maxPositions : ℕ
-maxPositions = maxStates * maxStocks ^ maxResources
+maxPositions = maxStates * maxStockPlaces
 
 -- the bytes of a set for each row, of a row's ranks (and of the working room), and of its moves
 abbrev pub setsBytes : ℕ

@@ -1,10 +1,12 @@
 // Lengths of lent buffers, and the numbers that stand in them for what there is not.
 use block::layout;
 
-// The stocks of one resource, and the most positions of a row: a state with a stock of each resource, of which there are two.
+// The stocks of one resource, the stock places of a state with two resources, and the most positions of a row.
 const MAX_STOCKS: usize = layout::MAX_UNITS + 1;
 
-pub const MAX_POSITIONS: usize = layout::MAX_STATES * MAX_STOCKS * MAX_STOCKS;
+pub const MAX_STOCK_PLACES: usize = MAX_STOCKS * MAX_STOCKS;
+
+pub const MAX_POSITIONS: usize = layout::MAX_STATES * MAX_STOCK_PLACES;
 
 // The sets of all rows; the ranks of a row, and working room, which holds them; its moves.
 pub const SETS_BYTES: usize = 4 * layout::MAX_ROWS;

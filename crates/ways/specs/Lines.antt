@@ -3,14 +3,23 @@ use mathlib.Core.Bool.{Bool, true, false}
 use mathlib.Core.List.{List}
 use Prim.Native.Nat.{ℕ, _+_, _*_}
 use lib.ListN.{getD}
+use Rattle.block.specs.Layout.{maxStates, maxJoint}
 use Rattle.turns.specs.Buffers.{rankIn}
+use Rattle.turns.specs.Sizes.{maxStockPlaces}
+
+-- where the states begin, and how many bytes each has: two counts, and three lines with a byte for each joint action
+abbrev pub statesBase : ℕ
+statesBase = 2 * maxStockPlaces
+
+abbrev pub stateBytes : ℕ
+stateBytes = 2 + 3 * maxJoint
 
 abbrev pub waysBytes : ℕ
-waysBytes = 5168
+waysBytes = statesBase + stateBytes * maxStates
 
 -- the place of field f of state s
 abbrev pub fieldPlace : ℕ → ℕ → ℕ
-fieldPlace s f = 512 + 194 * s + f
+fieldPlace s f = statesBase + stateBytes * s + f
 
 abbrev pub fieldIn : List ℕ → ℕ → ℕ → ℕ
 fieldIn l s f = getD l (fieldPlace s f) 0
@@ -22,10 +31,10 @@ countAt false = 1
 
 abbrev pub lineAt : Bool → ℕ
 lineAt true = 2
-lineAt false = 66
+lineAt false = 2 + maxJoint
 
 abbrev pub takesAt : ℕ
-takesAt = 130
+takesAt = 2 + 2 * maxJoint
 
 -- how many moves, or replies, state s has
 abbrev pub countIn : List ℕ → ℕ → Bool → ℕ

@@ -33,7 +33,7 @@ pub record LineOf (P : ℕ → Type 0) (at : ℕ → ℕ) (n : ℕ) : Type 0 whe
   pub each : (m : ℕ) → P m → (k : ℕ) × (k < n) × (at k ≡ m)
   pub only : (k : ℕ) → k < n → P (at k)
   pub rising : (j k : ℕ) → j < k → k < n → at j < at k
-  pub few : n ≤ 64
+  pub few : n ≤ L.maxJoint
 
 -- what each listed move of state s takes
 abbrev pub TakesOf : Block → Row → ℕ → List ℕ → Type 0

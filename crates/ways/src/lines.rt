@@ -3,25 +3,28 @@
 use block::layout;
 use block::widths::wide;
 use turns::buffers;
+use turns::sizes;
 ghost use mathlib.Core.Path.{_≡_};
 ghost use Prim.Native.Nat.{_+_, _*_, _≤_, _<_};
 ghost use lib.ListN.{length, set};
+ghost use Rattle.block.specs.Layout.{maxStates, maxJoint};
+ghost use Rattle.turns.specs.Sizes.{maxStockPlaces};
 ghost use Rattle.turns.specs.Buffers.{Stored, rankIn};
-ghost use Rattle.ways.specs.Lines.{waysBytes, fieldPlace, fieldIn, countAt, lineAt, takesAt, wideIn, countIn, numberIn, takenIn};
+ghost use Rattle.ways.specs.Lines.{stateBytes, waysBytes, fieldPlace, fieldIn, countAt, lineAt, takesAt, wideIn, countIn, numberIn, takenIn};
 
-pub const WAYS_BYTES: usize = 5168;
-
-// Where the states begin, and how many bytes each has.
-const STATES_BASE: usize = 512;
+// Where the states begin, and how many bytes each has: two counts, and three lines with a byte for each joint action.
+const STATES_BASE: usize = 2 * sizes::MAX_STOCK_PLACES;
 
 const STATE_BYTES: usize = 2 + 3 * layout::JOINT_ACTIONS;
+
+pub const WAYS_BYTES: usize = STATES_BASE + STATE_BYTES * layout::MAX_STATES;
 
 // Where the takes of a state begin.
 const TAKES: usize = 2 + 2 * layout::JOINT_ACTIONS;
 
 // Field f of state s.
 fn field(ways: &[u8], s: usize, f: usize) -> usize
-    requires { ⌜ (length (now ways) ≡ waysBytes) × (s < 24) × (f < 194) ⌝ }
+    requires { ⌜ (length (now ways) ≡ waysBytes) × (s < maxStates) × (f < stateBytes) ⌝ }
     ensures { λ r. ⌜ (r ≡ fieldIn (now (ways .entry)) s f) × (r < 256) ⌝ }
 {
     wide(ways[STATES_BASE + STATE_BYTES * s + f])
@@ -29,7 +32,7 @@ fn field(ways: &[u8], s: usize, f: usize) -> usize
 
 // Stores field f of state s.
 fn set_field(ways: &mut [u8], s: usize, f: usize, v: u8)
-    requires { ⌜ (length (now ways) ≡ waysBytes) × (s < 24) × (f < 194) ⌝ }
+    requires { ⌜ (length (now ways) ≡ waysBytes) × (s < maxStates) × (f < stateBytes) ⌝ }
     ensures { λ _. ⌜ now (ways .exit) ≡ set (now (ways .entry)) (fieldPlace s f) v ⌝ }
 {
     ways[STATES_BASE + STATE_BYTES * s + f] = v;
@@ -50,14 +53,14 @@ fn line_at(ours: bool) -> usize
 
 // How many moves or replies state s has.
 pub fn count(ways: &[u8], s: usize, ours: bool) -> usize
-    requires { ⌜ (length (now ways) ≡ waysBytes) × (s < 24) ⌝ }
+    requires { ⌜ (length (now ways) ≡ waysBytes) × (s < maxStates) ⌝ }
     ensures { λ r. ⌜ r ≡ countIn (now (ways .entry)) s ours ⌝ }
 {
     field(ways, s, count_at(ours))
 }
 
 pub fn set_count(ways: &mut [u8], s: usize, ours: bool, n: usize)
-    requires { ⌜ (length (now ways) ≡ waysBytes) × (s < 24) × (n ≤ 64) ⌝ }
+    requires { ⌜ (length (now ways) ≡ waysBytes) × (s < maxStates) × (n ≤ maxJoint) ⌝ }
     ensures { λ _. ⌜ now (ways .exit) ≡ set (now (ways .entry)) (fieldPlace s (countAt ours)) n ⌝ }
 {
     set_field(ways, s, count_at(ours), n as u8);
@@ -65,14 +68,14 @@ pub fn set_count(ways: &mut [u8], s: usize, ours: bool, n: usize)
 
 // The k-th of them.
 pub fn number(ways: &[u8], s: usize, ours: bool, k: usize) -> usize
-    requires { ⌜ (length (now ways) ≡ waysBytes) × (s < 24) × (k < 64) ⌝ }
+    requires { ⌜ (length (now ways) ≡ waysBytes) × (s < maxStates) × (k < maxJoint) ⌝ }
     ensures { λ r. ⌜ r ≡ numberIn (now (ways .entry)) s ours k ⌝ }
 {
     field(ways, s, line_at(ours) + k)
 }
 
 pub fn set_number(ways: &mut [u8], s: usize, ours: bool, k: usize, m: usize)
-    requires { ⌜ (length (now ways) ≡ waysBytes) × (s < 24) × (k < 64) × (m < 64) ⌝ }
+    requires { ⌜ (length (now ways) ≡ waysBytes) × (s < maxStates) × (k < maxJoint) × (m < maxJoint) ⌝ }
     ensures { λ _. ⌜ now (ways .exit) ≡ set (now (ways .entry)) (fieldPlace s (lineAt ours + k)) m ⌝ }
 {
     set_field(ways, s, line_at(ours) + k, m as u8);
@@ -80,14 +83,14 @@ pub fn set_number(ways: &mut [u8], s: usize, ours: bool, k: usize, m: usize)
 
 // What the k-th move takes, as a stock place.
 pub fn taken(ways: &[u8], s: usize, k: usize) -> usize
-    requires { ⌜ (length (now ways) ≡ waysBytes) × (s < 24) × (k < 64) ⌝ }
+    requires { ⌜ (length (now ways) ≡ waysBytes) × (s < maxStates) × (k < maxJoint) ⌝ }
     ensures { λ r. ⌜ (r ≡ takenIn (now (ways .entry)) s k) × (r < 256) ⌝ }
 {
     field(ways, s, TAKES + k)
 }
 
 pub fn set_taken(ways: &mut [u8], s: usize, k: usize, o: usize)
-    requires { ⌜ (length (now ways) ≡ waysBytes) × (s < 24) × (k < 64) × (o < 256) ⌝ }
+    requires { ⌜ (length (now ways) ≡ waysBytes) × (s < maxStates) × (k < maxJoint) × (o < maxStockPlaces) ⌝ }
     ensures { λ _. ⌜ now (ways .exit) ≡ set (now (ways .entry)) (fieldPlace s (takesAt + k)) o ⌝ }
 {
     set_field(ways, s, TAKES + k, o as u8);
@@ -95,14 +98,14 @@ pub fn set_taken(ways: &mut [u8], s: usize, k: usize, o: usize)
 
 // The wide number of stock place x.
 pub fn wide_number(ways: &[u8], x: usize) -> usize
-    requires { ⌜ (length (now ways) ≡ waysBytes) × (x < 256) ⌝ }
+    requires { ⌜ (length (now ways) ≡ waysBytes) × (x < maxStockPlaces) ⌝ }
     ensures { λ r. ⌜ (r ≡ wideIn (now (ways .entry)) x) × (r < 65536) ⌝ }
 {
     buffers::rank_at(ways, x)
 }
 
 pub fn set_wide_number(ways: &mut [u8], x: usize, v: usize)
-    requires { ⌜ (length (now ways) ≡ waysBytes) × (x < 256) × (v < 65536) ⌝ }
+    requires { ⌜ (length (now ways) ≡ waysBytes) × (x < maxStockPlaces) × (v < 65536) ⌝ }
     ensures { λ _. ⌜ Stored rankIn (now (ways .entry)) (now (ways .exit)) x v ⌝ }
 {
     buffers::set_rank(ways, x, v);

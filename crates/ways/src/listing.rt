@@ -93,7 +93,7 @@ fn list_line(block: &[u8], row: Row, s: usize, ours: bool, ways: &mut [u8]) -> u
     requires { ⌜ Playable (now block) row × (s < L.states (now block)) × (length (now ways) ≡ waysBytes) ⌝ }
     requires { ⌜ (ours ≡ true → LineOf (ReplyTo (now block) (row .index) s) (numberIn (now ways) s false) (countIn (now ways) s false)) ⌝ }
     ensures { λ n. ⌜ LineOf (Listable (now (block .entry)) row s ours) (numberIn (now (ways .exit)) s ours) n ⌝ }
-    ensures { λ _. ⌜ SameOutside (fieldPlace s (lineAt ours)) (fieldPlace s (lineAt ours) + 64) (now (ways .entry)) (now (ways .exit)) ⌝ }
+    ensures { λ _. ⌜ SameOutside (fieldPlace s (lineAt ours)) (fieldPlace s (lineAt ours) + L.maxJoint) (now (ways .entry)) (now (ways .exit)) ⌝ }
 {
     let limit = moves::joint_actions(block);
     let mut n = 0;
@@ -112,7 +112,7 @@ fn list_takes(block: &[u8], row: Row, s: usize, ways: &mut [u8])
     requires { ⌜ Playable (now block) row × (s < L.states (now block)) × (length (now ways) ≡ waysBytes) ⌝ }
     requires { ⌜ LineOf (Listable (now block) row s true) (numberIn (now ways) s true) (countIn (now ways) s true) ⌝ }
     ensures { λ _. ⌜ TakesOf (now (block .entry)) row s (now (ways .exit)) ⌝ }
-    ensures { λ _. ⌜ SameOutside (fieldPlace s takesAt) (fieldPlace s takesAt + 64) (now (ways .entry)) (now (ways .exit)) ⌝ }
+    ensures { λ _. ⌜ SameOutside (fieldPlace s takesAt) (fieldPlace s takesAt + L.maxJoint) (now (ways .entry)) (now (ways .exit)) ⌝ }
 {
     let i = row.index;
     let n = lines::count(ways, s, true);

@@ -10,6 +10,7 @@ ghost use Rattle.block.specs.Decide.{Decides};
 ghost use Rattle.block.specs.Layout as L;
 ghost use Rattle.block.specs.Valid.{Valid};
 ghost use Rattle.game.specs.Model.{arenaOf};
+ghost use Rattle.turns.specs.Sizes.{maxStockPlaces};
 ghost use Rattle.ways.specs.Lines.{waysBytes};
 ghost use Rattle.ways.specs.Rows.{Playable};
 ghost use Rattle.ways.specs.Wides.{WideAt, Wides, Covers};
@@ -47,7 +48,7 @@ pub fn fill_wides(block: &[u8], row: Row, ways: &mut [u8])
 
 // Whether place x has what stands at place o.
 pub fn covers(ways: &[u8], x: usize, o: usize) -> bool
-    requires { ⌜ (length (now ways) ≡ waysBytes) × (x < 256) × (o < 256) ⌝ }
+    requires { ⌜ (length (now ways) ≡ waysBytes) × (x < maxStockPlaces) × (o < maxStockPlaces) ⌝ }
     ensures { λ r. ⌜ Decides (Covers (now (ways .entry)) x o) r ⌝ }
 {
     if x < o {
