@@ -27,13 +27,13 @@ use Rattle.ways.specs.Lines.{fieldPlace, countIn, numberIn, takenIn}
 use Rattle.ways.specs.Listing.{Listed, StateListed, Useful, Listable, SameOutside}
 use Rattle.ways.specs.Places.{PlacedAt}
 use Rattle.ways.specs.Rows.{Playable}
-use Rattle.ways.specs.Wides.{Wides, Covers}
+use Rattle.ways.specs.Packed.{Packs, Covers}
 use Rattle.ways.specs.declared.rows.Row.{Row}
 use Rattle.ways.specs.declared.landing.Landing.the-variants.{At, Unpaid}
 use Rattle.ways.proofs.Filling.{state-same}
 use Rattle.ways.proofs.Offsets.{state-and-stocks, remains-number}
 use Rattle.ways.proofs.Placing.{stocks-below, place-position}
-use Rattle.ways.proofs.Widening.{full-pays, pays-covers, covers-pays}
+use Rattle.ways.proofs.Packing.{full-pays, pays-covers, covers-pays}
 
 -- a row has at most 256 stock places
 pub few : (b : Block) → Valid b → (row : Row) → Playable b row → row .places ≤ 256
@@ -79,13 +79,13 @@ module _ (b : Block) (valid : Valid b) (row : Row) (playable : Playable b row) w
     lands-at covers = (
       omega (arith, covers .0, playable .places-are),
       λ p placed.
-          let paid = covers-pays b valid (row .index) (playable .inside) (playable .strategic) ways (listed .wide) s x m (way .0 .1) p placed (subst (Covers ways x) offset-o covers) in
+          let paid = covers-pays b valid (row .index) (playable .inside) (playable .strategic) ways (listed .packed) s x m (way .0 .1) p placed (subst (Covers ways x) offset-o covers) in
           let here : offset G (full G s) m ≡ offset G p m = ap (λ (q : ℕ). offset G (full G q) m) (sym (placed .state)) in
           (paid, λ r. omega (arith, remains-number G p m r (placed .fits) paid, placed .place, here, offset-o)),
     )
 
     pub lands-nowhere : (Covers ways x o → ⊥) → Lands G s x m Unpaid
-    lands-nowhere unpaid p placed paid = unpaid (subst (Covers ways x) (sym offset-o) (pays-covers b valid (row .index) (playable .inside) (playable .strategic) ways (listed .wide) s x m (way .0 .1) p placed paid))
+    lands-nowhere unpaid p placed paid = unpaid (subst (Covers ways x) (sym offset-o) (pays-covers b valid (row .index) (playable .inside) (playable .strategic) ways (listed .packed) s x m (way .0 .1) p placed paid))
 
   -- a move that is made, and the replies to it
   module _ (s m y : ℕ) (made : Made b row s m y) where
@@ -131,7 +131,7 @@ module _ (b : Block) (valid : Valid b) (row : Row) (playable : Playable b row) w
   listable-small s true m useful = useful .0 .0 .0
   listable-small s false m reply = reply .0
 
--- one more state is listed, and the states and wide numbers before it stay
+-- one more state is listed, and the states and packed stocks before it stay
 module _ (b : Block) (row : Row) (s : ℕ) (l l′ : List ℕ) (same : SameOutside (fieldPlace s 0) (fieldPlace (s + 1) 0) l l′) where
   pub states-next : ((t : ℕ) → t < s → StateListed b row t l) → StateListed b row s l′ → (t : ℕ) → t < s + 1 → StateListed b row t l′
   states-next so-far one t small = go (eq? t s)
@@ -142,8 +142,8 @@ module _ (b : Block) (row : Row) (s : ℕ) (l l′ : List ℕ) (same : SameOutsi
           let below : t < s = omega arith in
           state-same b row t l l′ (λ f field. same .same (fieldPlace t f) (inl (omega arith))) (so-far t below)
 
-  pub wides-kept : Valid b → Playable b row → Wides (arenaOf b (row .index)) l → Wides (arenaOf b (row .index)) l′
-  wides-kept valid playable wides p fits =
+  pub packs-kept : Valid b → Playable b row → Packs (arenaOf b (row .index)) l → Packs (arenaOf b (row .index)) l′
+  packs-kept valid playable packs p fits =
       let x = number (arenaOf b (row .index)) (stocksOf (arenaOf b (row .index)) p) in
       let small : x < 256 = omega (arith, stocks-below (arenaOf b (row .index)) p fits, few b valid row playable, playable .places-are) in
-      ap₂ (λ (u v : ℕ). u + 256 * v) (same .same (2 * x) (inl (omega arith))) (same .same (2 * x + 1) (inl (omega arith))) ∙ wides p fits
+      ap₂ (λ (u v : ℕ). u + 256 * v) (same .same (2 * x) (inl (omega arith))) (same .same (2 * x + 1) (inl (omega arith))) ∙ packs p fits

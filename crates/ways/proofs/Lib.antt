@@ -2,6 +2,6 @@
 pub mod Filling
 pub mod Offsets
 pub mod Placing
-pub mod Widening
+pub mod Packing
 pub mod Largest
 pub mod Leading

@@ -3,6 +3,6 @@ pub mod Lines
 pub mod Rows
 pub mod Places
 pub mod Extremes
-pub mod Wides
+pub mod Packed
 pub mod Listing
 pub mod Landing

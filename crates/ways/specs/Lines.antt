@@ -1,4 +1,4 @@
--- The buffer that holds the listing of a row: first a wide number for each stock place, then for each state its fields.
+-- The buffer that holds the listing of a row: first the packed stocks of each stock place, then for each state its fields.
 use mathlib.Core.Bool.{Bool, true, false}
 use mathlib.Core.List.{List}
 use Prim.Native.Nat.{ℕ, _+_, _*_}
@@ -48,6 +48,6 @@ numberIn l s ours k = fieldIn l s (lineAt ours + k)
 abbrev pub takenIn : List ℕ → ℕ → ℕ → ℕ
 takenIn l s k = fieldIn l s (takesAt + k)
 
--- the wide number of stock place x
-abbrev pub wideIn : List ℕ → ℕ → ℕ
-wideIn = rankIn
+-- the packed stocks of stock place x
+abbrev pub packedIn : List ℕ → ℕ → ℕ
+packedIn = rankIn

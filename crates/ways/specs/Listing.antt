@@ -12,7 +12,7 @@ use Rattle.game.specs.Position.{Allowed, full, offset}
 use Rattle.game.specs.Model.{arenaOf}
 use Rattle.turns.specs.Rules.{ReplyTo}
 use Rattle.ways.specs.Lines.{waysBytes, countIn, numberIn, takenIn}
-use Rattle.ways.specs.Wides.{Wides}
+use Rattle.ways.specs.Packed.{Packs}
 use Rattle.ways.specs.declared.rows.Row.{Row}
 
 -- whatever the reply, the move m leads from state s into the set
@@ -45,7 +45,7 @@ pub record StateListed (b : Block) (row : Row) (s : ℕ) (ways : List ℕ) : Typ
 
 pub record Listed (b : Block) (row : Row) (ways : List ℕ) : Type 0 where
   pub states : (s : ℕ) → s < L.states b → StateListed b row s ways
-  pub wide : Wides (arenaOf b (row .index)) ways
+  pub packed : Packs (arenaOf b (row .index)) ways
   pub long : length ways ≡ waysBytes
 
 -- nothing changed but in the places from `first` to before `end`

@@ -1,8 +1,8 @@
 // A move at a stock place: the place that it leads to, or that the place cannot pay it.
 use crate::lines;
+use crate::packs;
 use crate::rows::Row;
 use crate::rows::Spot;
-use crate::wides;
 ghost use mathlib.Core.Bool.{true};
 ghost use mathlib.Core.Path.{_≡_};
 ghost use Prim.Native.Nat.{_<_};
@@ -28,7 +28,7 @@ pub fn lands(block: &[u8], row: Row, ways: &[u8], spot: Spot, k: usize) -> Landi
 {
     let x = spot.place;
     let o = lines::taken(ways, spot.state, k);
-    if wides::covers(ways, x, o) {
+    if packs::covers(ways, x, o) {
         return Landing::At(x - o);
     }
     Landing::Unpaid

@@ -3,6 +3,6 @@
 pub mod landing;
 pub mod lines;
 pub mod listing;
+mod packs;
 pub mod rows;
-mod wides;
 pub mod worst;

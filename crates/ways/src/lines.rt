@@ -1,4 +1,4 @@
-// The buffer that holds the listing of a row: first the wide numbers of the stock places, then for each state the counts of its
+// The buffer that holds the listing of a row: first the packed stocks of the stock places, then for each state the counts of its
 // moves and replies, its moves, its replies, and what each move takes. No other module computes a place in it.
 use block::layout;
 use block::widths::wide;
@@ -10,7 +10,7 @@ ghost use lib.ListN.{length, set};
 ghost use Rattle.block.specs.Layout.{maxStates, maxJoint};
 ghost use Rattle.turns.specs.Sizes.{maxStockPlaces};
 ghost use Rattle.turns.specs.Buffers.{Stored, rankIn};
-ghost use Rattle.ways.specs.Lines.{stateBytes, waysBytes, fieldPlace, fieldIn, countAt, lineAt, takesAt, wideIn, countIn, numberIn, takenIn};
+ghost use Rattle.ways.specs.Lines.{stateBytes, waysBytes, fieldPlace, fieldIn, countAt, lineAt, takesAt, packedIn, countIn, numberIn, takenIn};
 
 // Where the states begin, and how many bytes each has: two counts, and three lines with a byte for each joint action.
 const STATES_BASE: usize = 2 * sizes::MAX_STOCK_PLACES;
@@ -96,15 +96,15 @@ pub fn set_taken(ways: &mut [u8], s: usize, k: usize, o: usize)
     set_field(ways, s, TAKES + k, o as u8);
 }
 
-// The wide number of stock place x.
-pub fn wide_number(ways: &[u8], x: usize) -> usize
+// The packed stocks of stock place x.
+pub fn packed(ways: &[u8], x: usize) -> usize
     requires { ⌜ (length (now ways) ≡ waysBytes) × (x < maxStockPlaces) ⌝ }
-    ensures { λ r. ⌜ (r ≡ wideIn (now (ways .entry)) x) × (r < 65536) ⌝ }
+    ensures { λ r. ⌜ (r ≡ packedIn (now (ways .entry)) x) × (r < 65536) ⌝ }
 {
     buffers::rank_at(ways, x)
 }
 
-pub fn set_wide_number(ways: &mut [u8], x: usize, v: usize)
+pub fn set_packed(ways: &mut [u8], x: usize, v: usize)
     requires { ⌜ (length (now ways) ≡ waysBytes) × (x < maxStockPlaces) × (v < 65536) ⌝ }
     ensures { λ _. ⌜ Stored rankIn (now (ways .entry)) (now (ways .exit)) x v ⌝ }
 {

@@ -1,7 +1,7 @@
 // Lists the moves of each state of a row, the replies there and what the moves take, so that nothing looks for them again.
 use crate::lines;
+use crate::packs;
 use crate::rows::Row;
-use crate::wides;
 use block::layout;
 use turns::buffers;
 use turns::moves;
@@ -142,7 +142,7 @@ pub fn list_row(block: &[u8], row: Row, ways: &mut [u8])
     requires { ⌜ Playable (now block) row × (length (now ways) ≡ waysBytes) ⌝ }
     ensures { λ _. ⌜ Listed (now (block .entry)) row (now (ways .exit)) ⌝ }
 {
-    wides::fill_wides(block, row, ways);
+    packs::fill_packs(block, row, ways);
     let n = layout::states(block);
     for s in 0..n {
         list_state(block, row, s, ways);

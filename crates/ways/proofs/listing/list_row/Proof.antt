@@ -1,4 +1,4 @@
--- `list_row` lists one state after another, behind the wide numbers. Assumes nothing.
+-- `list_row` lists one state after another, behind the packed stocks. Assumes nothing.
 use mathlib.Core.Logic.{inl}
 use mathlib.Core.Path.{_≡_, refl, sym, _∙_, subst}
 use Prim.Native.Nat.{ℕ, _+_, _-_, _≤_, _<_}
@@ -9,25 +9,25 @@ use Rattle.game.specs.Model.{arenaOf}
 use Rattle.game.proofs.Numbers.Decide.{eq?}
 use Rattle.ways.specs.Lines.{waysBytes, fieldPlace}
 use Rattle.ways.specs.Listing.{StateListed, SameOutside}
-use Rattle.ways.specs.Wides.{Wides}
-use Rattle.ways.proofs.Leading.{states-next, wides-kept}
+use Rattle.ways.specs.Packed.{Packs}
+use Rattle.ways.proofs.Leading.{states-next, packs-kept}
 use Rattle.ways.proofs.listing.list_row.Statement.{statement}
 use Rattle.ways.proofs.listing.list_row.Tie as tie
 
 abbrev Inv-loop : tie.InvT-loop
-Inv-loop block row ways₀ n s₀ ways s = (s ≤ n) × ((t : ℕ) → t < s → StateListed block row t ways) × Wides (arenaOf block (row .index)) ways × (length ways ≡ waysBytes)
+Inv-loop block row ways₀ n s₀ ways s = (s ≤ n) × ((t : ℕ) → t < s → StateListed block row t ways) × Packs (arenaOf block (row .index)) ways × (length ways ≡ waysBytes)
 
 abbrev μ-loop : tie.MeasureT-loop
 μ-loop block row ways₀ n s₀ ways s = n - s
 
-fill-wides-requires : tie.Need-fill-wides-requires Inv-loop μ-loop
-fill-wides-requires c κs = (c .before .before .before .pre .0, c .before .before .before .pre .1)
+fill-packs-requires : tie.Need-fill-packs-requires Inv-loop μ-loop
+fill-packs-requires c κs = (c .before .before .before .pre .0, c .before .before .before .pre .1)
 
 states-requires : tie.Need-states-requires Inv-loop μ-loop
 states-requires c κs = c .before .before .before .before .before .before .pre .0 .sized .bytes
 
 loop-holds : tie.Need-loop-holds Inv-loop μ-loop
-loop-holds c = (omega arith, (λ t small. absurd (omega arith)), c .before .before .before .fill-wides .ensures .0, c .before .before .before .fill-wides .ensures .1)
+loop-holds c = (omega arith, (λ t small. absurd (omega arith)), c .before .before .before .fill-packs .ensures .0, c .before .before .before .fill-packs .ensures .1)
 
 state-at : (c : tie.In-loop Inv-loop μ-loop) → c .before .loop .s < L.states (c .before .before .before .before .before .before .before .before .before .args .block .now)
 state-at c = omega (arith, c .before .before .states .ensures, c .loop-test .taken)
@@ -47,7 +47,7 @@ loop-again c =
     let one = c .before .before .list-state in (
       omega (arith, c .before .before .before .before .loop-test .taken),
       states-next (c .before .before .before .before .before .before .before .before .before .before .before .before .before .args .block .now) (c .before .before .before .before .before .before .before .before .before .before .before .before .before .args .row) (at .s) (at .ways) (one .last .1 .1 .1 .0) (one .ensures .1) (at .inv .1) (one .ensures .0),
-      wides-kept (c .before .before .before .before .before .before .before .before .before .before .before .before .before .args .block .now) (c .before .before .before .before .before .before .before .before .before .before .before .before .before .args .row) (at .s) (at .ways) (one .last .1 .1 .1 .0) (one .ensures .1) (c .before .before .before .before .before .before .before .before .before .before .before .before .before .pre .0) (c .before .before .before .before .before .before .before .before .before .before .before .before .before .pre .1 .0) (at .inv .2),
+      packs-kept (c .before .before .before .before .before .before .before .before .before .before .before .before .before .args .block .now) (c .before .before .before .before .before .before .before .before .before .before .before .before .before .args .row) (at .s) (at .ways) (one .last .1 .1 .1 .0) (one .ensures .1) (c .before .before .before .before .before .before .before .before .before .before .before .before .before .pre .0) (c .before .before .before .before .before .before .before .before .before .before .before .before .before .pre .1 .0) (at .inv .2),
       one .ensures .1 .long ∙ at .inv .3,
     )
 
@@ -57,7 +57,7 @@ same-length c = c .before .loop .inv .3 ∙ sym (c .before .before .before .befo
 returns : tie.Need-returns Inv-loop μ-loop
 returns c =
     let at = c .before .loop in
-    record { states = λ s small. at .inv .1 s (omega (arith, c .before .before .states .ensures, c .loop-test .left)); wide = at .inv .2; long = at .inv .3 }
+    record { states = λ s small. at .inv .1 s (omega (arith, c .before .before .states .ensures, c .loop-test .left)); packed = at .inv .2; long = at .inv .3 }
 
 pub list-row-spec : {M : Type 1} → statement M
 list-row-spec =
@@ -65,7 +65,7 @@ list-row-spec =
     (tie.spec
     Inv-loop
     μ-loop
-    fill-wides-requires
+    fill-packs-requires
     states-requires
     loop-holds
     list-state-requires

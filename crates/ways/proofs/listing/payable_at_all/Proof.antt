@@ -7,7 +7,7 @@ use Rattle.block.specs.Layout as L
 use Rattle.game.specs.Rbatl.{Fits}
 use Rattle.game.specs.Position.{stockBound, fullStock, cost, full}
 use Rattle.game.specs.Model.{arenaOf}
-use Rattle.ways.proofs.Widening.{full-taken, taken-full}
+use Rattle.ways.proofs.Packing.{full-taken, taken-full}
 use Rattle.ways.proofs.listing.payable_at_all.Statement.{statement}
 use Rattle.ways.proofs.listing.payable_at_all.Tie as tie
 

@@ -1,4 +1,4 @@
--- `wide_at` takes one stock after another from the place, the last one first. Assumes nothing.
+-- `pack_at` takes one stock after another from the place, the last one first. Assumes nothing.
 use mathlib.Core.Path.{_≡_, subst}
 use Prim.Native.Nat.{ℕ, suc, _+_, _*_, _-_, _/_, _%_, _≤_, _<_}
 use native.Mathlib.Omega.{arith}
@@ -7,21 +7,21 @@ use Rattle.game.specs.Position.{places}
 use Rattle.game.specs.Model.{boundsOf}
 use Rattle.game.proofs.Local.Same.{places-positive}
 use Rattle.game.proofs.Blocks.Passing.{few-places}
-use Rattle.ways.proofs.Widening.{WidensTo, widens-start, widens-next, widens-done}
-use Rattle.ways.proofs.wides.wide_at.Statement.{statement}
-use Rattle.ways.proofs.wides.wide_at.Tie as tie
+use Rattle.ways.proofs.Packing.{PackingTo, packing-start, packing-next, packing-done}
+use Rattle.ways.proofs.packs.pack_at.Statement.{statement}
+use Rattle.ways.proofs.packs.pack_at.Tie as tie
 
 abbrev Inv-loop : tie.InvT-loop
-Inv-loop block i x j₀ rest₀ wide₀ j rest wide = WidensTo block i x j rest wide
+Inv-loop block i x j₀ rest₀ packed₀ j rest packed = PackingTo block i x j rest packed
 
 abbrev μ-loop : tie.MeasureT-loop
-μ-loop block i x j₀ rest₀ wide₀ j rest wide = j
+μ-loop block i x j₀ rest₀ packed₀ j rest packed = j
 
 resources-requires : tie.Need-resources-requires Inv-loop μ-loop
 resources-requires c κs = c .before .pre .0 .sized .bytes
 
 loop-holds : tie.Need-loop-holds Inv-loop μ-loop
-loop-holds c = let args = c .before .before .args in widens-start (args .block .now) (args .i) (args .x) (c .resources .result) (c .resources .ensures)
+loop-holds c = let args = c .before .before .args in packing-start (args .block .now) (args .i) (args .x) (c .resources .result) (c .resources .ensures)
 
 sub-j : tie.Need-sub-j Inv-loop μ-loop
 sub-j c = omega arith
@@ -42,22 +42,22 @@ module _ (c : tie.After-places Inv-loop μ-loop) where
       let start = c .before .before .before .before .before in
       omega (arith, c .places .ensures, few-places (start .args .block .now) (start .pre .0) (start .args .i) (start .pre .0 .row-fits (start .args .i) (start .pre .1 .0)) (start .pre .1 .1) (c .before .before .loop .j - 1) (resource-at (c .before)))
 
-  next : WidensTo (c .before .before .before .before .before .args .block .now) (c .before .before .before .before .before .args .i) (c .before .before .before .before .before .args .x) (c .before .before .loop .j - 1) (c .before .before .loop .rest / c .places .result) (c .before .before .loop .wide * 32 + c .before .before .loop .rest % c .places .result)
+  next : PackingTo (c .before .before .before .before .before .args .block .now) (c .before .before .before .before .before .args .i) (c .before .before .before .before .before .args .x) (c .before .before .loop .j - 1) (c .before .before .loop .rest / c .places .result) (c .before .before .loop .packed * 32 + c .before .before .loop .rest % c .places .result)
   next =
       let start = c .before .before .before .before .before in
       let at = c .before .before .loop in
       let one : at .j ≡ suc (at .j - 1) = omega (arith, c .before .loop-test .taken) in
-      widens-next (start .args .block .now) (start .pre .0) (start .args .i) (start .args .x) (at .j - 1) (at .rest) (at .wide) (c .places .result) (c .places .ensures) some few
-      (subst (λ (j : ℕ). WidensTo (start .args .block .now) (start .args .i) (start .args .x) j (at .rest) (at .wide)) one (at .inv))
+      packing-next (start .args .block .now) (start .pre .0) (start .args .i) (start .args .x) (at .j - 1) (at .rest) (at .packed) (c .places .result) (c .places .ensures) some few
+      (subst (λ (j : ℕ). PackingTo (start .args .block .now) (start .args .i) (start .args .x) j (at .rest) (at .packed)) one (at .inv))
 
-mul-wide : tie.Need-mul-wide Inv-loop μ-loop
-mul-wide c = record { fits = omega (arith, c .before .before .loop .inv .small) }
+mul-packed : tie.Need-mul-packed Inv-loop μ-loop
+mul-packed c = record { fits = omega (arith, c .before .before .loop .inv .small) }
 
-rem-wide : tie.Need-rem-wide Inv-loop μ-loop
-rem-wide c = omega (arith, some c)
+rem-packed : tie.Need-rem-packed Inv-loop μ-loop
+rem-packed c = omega (arith, some c)
 
-add-wide : tie.Need-add-wide Inv-loop μ-loop
-add-wide c = record { fits = omega (arith, next c .small) }
+add-packed : tie.Need-add-packed Inv-loop μ-loop
+add-packed c = record { fits = omega (arith, next c .small) }
 
 div-rest : tie.Need-div-rest Inv-loop μ-loop
 div-rest c = omega (arith, some c)
@@ -73,7 +73,7 @@ returns c =
     let args = c .before .before .before .before .args in
     let at = c .before .loop in
     let none : at .j ≡ 0 = omega (arith, c .loop-test .left) in
-    (widens-done (args .block .now) (args .i) (args .x) (at .rest) (at .wide) (subst (λ (j : ℕ). WidensTo (args .block .now) (args .i) (args .x) j (at .rest) (at .wide)) none (at .inv)), at .inv .small)
+    (packing-done (args .block .now) (args .i) (args .x) (at .rest) (at .packed) (subst (λ (j : ℕ). PackingTo (args .block .now) (args .i) (args .x) j (at .rest) (at .packed)) none (at .inv)), at .inv .small)
 
-pub wide-at-spec : {M : Type 1} → statement M
-wide-at-spec = tie.close (tie.spec Inv-loop μ-loop resources-requires loop-holds sub-j places-requires mul-wide rem-wide add-wide div-rest loop-less loop-again returns)
+pub pack-at-spec : {M : Type 1} → statement M
+pack-at-spec = tie.close (tie.spec Inv-loop μ-loop resources-requires loop-holds sub-j places-requires mul-packed rem-packed add-packed div-rest loop-less loop-again returns)

@@ -13,36 +13,36 @@ ghost use Rattle.game.specs.Model.{arenaOf};
 ghost use Rattle.turns.specs.Sizes.{maxStockPlaces};
 ghost use Rattle.ways.specs.Lines.{waysBytes};
 ghost use Rattle.ways.specs.Rows.{Playable};
-ghost use Rattle.ways.specs.Wides.{WideAt, Wides, Covers};
+ghost use Rattle.ways.specs.Packed.{PackedAt, Packs, Covers};
 
-// The wide number of the stocks at place x.
-fn wide_at(block: &[u8], i: usize, x: usize) -> usize
+// The packed stocks at place x.
+fn pack_at(block: &[u8], i: usize, x: usize) -> usize
     requires { ⌜ Valid (now block) ⌝ }
     requires { ⌜ (i < L.rows (now block)) × L.Strategic (L.kind (now block) i) ⌝ }
-    ensures { λ r. ⌜ WideAt (arenaOf (now (block .entry)) i) x r × (r < 1024) ⌝ }
+    ensures { λ r. ⌜ PackedAt (arenaOf (now (block .entry)) i) x r × (r < 1024) ⌝ }
 {
     let mut j = layout::resources(block);
     let mut rest = x;
-    let mut wide = 0;
+    let mut packed = 0;
     while 0 < j {
         j -= 1;
         let c = positions::places(block, i, j);
-        wide = wide * 32 + rest % c;
+        packed = packed * 32 + rest % c;
         rest = rest / c;
     }
-    wide
+    packed
 }
 
-// The wide numbers of all stock places of the row.
-pub fn fill_wides(block: &[u8], row: Row, ways: &mut [u8])
+// The packed stocks of all stock places of the row.
+pub fn fill_packs(block: &[u8], row: Row, ways: &mut [u8])
     requires { ⌜ Valid (now block) ⌝ }
     requires { ⌜ Playable (now block) row × (length (now ways) ≡ waysBytes) ⌝ }
-    ensures { λ _. ⌜ Wides (arenaOf (now (block .entry)) (row .index)) (now (ways .exit)) × (length (now (ways .exit)) ≡ waysBytes) ⌝ }
+    ensures { λ _. ⌜ Packs (arenaOf (now (block .entry)) (row .index)) (now (ways .exit)) × (length (now (ways .exit)) ≡ waysBytes) ⌝ }
 {
     let i = row.index;
     let c = row.places;
     for x in 0..c {
-        lines::set_wide_number(ways, x, wide_at(block, i, x));
+        lines::set_packed(ways, x, pack_at(block, i, x));
     }
 }
 
@@ -54,5 +54,5 @@ pub fn covers(ways: &[u8], x: usize, o: usize) -> bool
     if x < o {
         return false;
     }
-    lines::wide_number(ways, x - o) + lines::wide_number(ways, o) == lines::wide_number(ways, x)
+    lines::packed(ways, x - o) + lines::packed(ways, o) == lines::packed(ways, x)
 }
