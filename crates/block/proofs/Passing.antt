@@ -1,6 +1,5 @@
 -- A block that passes the check is valid: the check's conditions, none of which holds, as what they guarantee (specs' Valid).
 -- Assumes nothing.
-use mathlib.Core.List.{List, _∷_}
 use mathlib.Core.Logic.{inl, inr}
 use mathlib.Core.Path.{_≡_, refl}
 use Prim.Native.Nat.{ℕ, _<_, _≤_, _^_, _/_}
@@ -9,18 +8,16 @@ use native.Mathlib.Omega.{arith}
 use lib.ListN.{length}
 use lib.Pow.{pow-pos}
 use Rattle.block.specs.Decide.{Decides, holds, fails, Some, Outside, BitFrom}
-use Rattle.block.specs.Refusal.{First, here, later}
 use Rattle.block.specs.Layout.{Block, blockBytes, agents, resources, states, cost}
-use Rattle.block.specs.Check.{BadSizes, agents-range, resources-range, states-range, propositions-range, rows-range, BadState, BadRow, kind-unknown, operands, coalition, prop-range, left-range, right-range, team-empty, team-absent, bound-range, Broken, blockOrder, Verdict}
+use Rattle.block.specs.Check.{BadSizes, agents-range, resources-range, states-range, propositions-range, rows-range, BadState, BadRow, kind-unknown, operands, coalition, prop-range, left-range, right-range, team-empty, team-absent, bound-range, blockRules, Verdict}
 use Rattle.block.specs.Valid.{Range, Sized, Counted, RowFits, Valid}
-use Rattle.block.specs.declared.refusal.Refusal.{Refusal}
-use Rattle.block.specs.declared.refusal.Refusal.the-variants.{Length, Sizes, State, Next, Row, Unused}
+use Rattle.block.specs.declared.refusal.Answer.the-variants.{Value}
 use Rattle.block.proofs.Decide as D
 use Rattle.block.proofs.Masks.{bit-above}
-use Rattle.block.proofs.Refusals.{number-some}
+use Rattle.block.proofs.Refusals.{Fails, none-holds}
 
 -- an equation of numbers that cannot fail holds
-stable : (a b : ℕ) → ((a ≡ b → ⊥) → ⊥) → a ≡ b
+pub stable : (a b : ℕ) → ((a ≡ b → ⊥) → ⊥) → a ≡ b
 stable a b h = decided (D.equal a b)
   where
     decided : {t : _} → Decides (a ≡ b) t → a ≡ b
@@ -77,31 +74,18 @@ row-valid {b} {i} h = record {
   bound-fits = λ s j hj g. stable _ _ (λ x. h (coalition s (bound-range (j, hj, (g, x)))));
 }
 
--- a refusal is in a list, wherever it stands there
-data In (r : Refusal) : List Refusal → Type 0 where
-  first : {rs : List Refusal} → In r (r ∷ rs)
-  further : {q : Refusal} {rs : List Refusal} → In r rs → In r (q ∷ rs)
+-- none of the block's conditions holds
+pub unbroken : (b : Block) → Fails (blockRules b) → Valid b
+unbroken b (no-length, (no-sizes, (no-state, (no-next, (no-row, (no-unused, _)))))) = record {
+  sized = sized (stable _ _ no-length) no-sizes;
+  counted = counted b no-state;
+  mask-fits = λ s hs. below-bit _ _ (λ x. no-state (s, hs, inl x));
+  cost-fits = λ s a k j hs ha hk hj. at-most (λ x. no-state (s, hs, inr (a, ha, inr (k, hk, (j, hj, inl x)))));
+  idle-free = idle-valid b no-state;
+  next-fits = λ s joint hs av. below (λ x. no-next (s, hs, (joint, av .0, (av, x))));
+  row-fits = λ i hi. row-valid (λ x. no-row (i, hi, x));
+  unused-zero = λ p hp u. stable _ _ (λ z. no-unused (p, hp, (u, z)));
+}
 
--- where the number is 0, no condition of the list holds
-none-holds : {Holds : Refusal → Type 0} {r : Refusal} {rs : List Refusal} {n : ℕ} → n ≡ 0 → First Holds rs n → In r rs → Holds r → ⊥
-none-holds z (here {r} h e) m = absurd (omega (arith, number-some r))
-none-holds z (later h f) first = h
-none-holds z (later h f) (further m) = none-holds z f m
-
-pub passing : {b : Block} → Verdict b 0 → Valid b
-passing {b} v =
-    let no : (r : Refusal) → In r blockOrder → Broken b r → ⊥ = λ r m. none-holds refl v m in
-    let no-state = no State (search (first, further)) in
-    let no-next = no Next (search (first, further)) in
-    let no-row = no Row (search (first, further)) in
-    let no-unused = no Unused (search (first, further) depth 6) in
-    record {
-      sized = sized (stable _ _ (no Length first)) (no Sizes (search (first, further)));
-      counted = counted b no-state;
-      mask-fits = λ s hs. below-bit _ _ (λ x. no-state (s, hs, inl x));
-      cost-fits = λ s a k j hs ha hk hj. at-most (λ x. no-state (s, hs, inr (a, ha, inr (k, hk, (j, hj, inl x)))));
-      idle-free = idle-valid b no-state;
-      next-fits = λ s joint hs av. below (λ x. no-next (s, hs, (joint, av .0, (av, x))));
-      row-fits = λ i hi. row-valid (λ x. no-row (i, hi, x));
-      unused-zero = λ p hp u. stable _ _ (λ z. no-unused (p, hp, (u, z)));
-    }
+pub passing : {b : Block} {n : ℕ} → Verdict b (Value n) → Valid b
+passing {b} v = unbroken b (none-holds v)

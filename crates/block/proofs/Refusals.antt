@@ -1,65 +1,83 @@
--- The first refusal of a list whose condition holds: of equal conditions, and of a longer list. Assumes nothing.
+-- The first refusal of a list whose condition holds: rule by rule, of a list that another follows, and what an answer tells. Assumes nothing.
 use mathlib.Core.List.{List, [], _∷_, _++_}
-use mathlib.Core.Path.{_≡_}
-use Prim.Native.Nat.{ℕ, _<_}
+use mathlib.Core.Logic.{inl, inr}
+use mathlib.Core.Path.{_≡_, refl}
+use Prim.Native.Nat.{ℕ}
 use native.Mathlib.Omega.{arith}
-use Rattle.block.specs.Refusal.{numberOf, First, none, here, later}
-use Rattle.block.specs.Check.{blockOrder}
+use lib.ListN.{length, replicate}
+use Rattle.block.specs.Refusal.{Rule, _when_, Tried, First, Gives, value, Answers, RoomAfter}
 use Rattle.block.specs.declared.refusal.Refusal.{Refusal}
-use Rattle.block.specs.declared.refusal.Refusal.the-variants.{Length, Sizes, State, Next, Row, Unused, Form, RowChoice, Position, WrongSide, Move}
+use Rattle.block.specs.declared.refusal.Refusal.the-variants.{Length}
+use Rattle.block.specs.declared.refusal.Answer.{Answer}
+use Rattle.block.specs.declared.refusal.Answer.the-variants.{Value, Refused}
 
--- the first condition that holds, of conditions that hold for the same refusals
-pub first-same : {P Q : Refusal → Type 0} {rs : List Refusal} {n : ℕ} → ((r : Refusal) → P r → Q r) → ((r : Refusal) → Q r → P r) → First P rs n → First Q rs n
-first-same f g (none e) = none e
-first-same f g (here h e) = here (f _ h) e
-first-same f g (later h w) = later (λ q. h (g _ q)) (first-same f g w)
+-- the first rule's condition holds
+pub turned-down : {r : Refusal} {P : Type 0} {rules : List Rule} {Rest : Answer → Type 0} → P → First ((r when P) ∷ rules) Rest (Refused r)
+turned-down h = record { tried = inl (h, refl) }
 
--- the same where the conditions agree on the refusals of the list alone
-abbrev pub Each : (Refusal → Type 0) → List Refusal → Type 0
-Each Ok [] = Unit {0}
-Each Ok (r ∷ rs) = Ok r × Each Ok rs
+-- or fails, and the rest of the list decides
+pub past : {r : Refusal} {P : Type 0} {rules : List Rule} {Rest : Answer → Type 0} {a : Answer} → (P → ⊥) → First rules Rest a → First ((r when P) ∷ rules) Rest a
+past h w = record { tried = inr (h, w .tried) }
 
-pub first-same-in : {P Q : Refusal → Type 0} (Ok : Refusal → Type 0) (rs : List Refusal) {n : ℕ} → Each Ok rs → ((r : Refusal) → Ok r → P r → Q r) → ((r : Refusal) → Ok r → Q r → P r) → First P rs n → First Q rs n
-first-same-in Ok [] ok f g (none e) = none e
-first-same-in Ok (r ∷ rs) (ok, oks) f g (here h e) = here (f r ok h) e
-first-same-in Ok (r ∷ rs) (ok, oks) f g (later h w) = later (λ q. h (g r ok q)) (first-same-in Ok rs oks f g w)
+pub answered : {Right : ℕ → Type 0} {n : ℕ} → Right n → Answers [] Right (Value n)
+answered h = record { tried = value h }
 
--- the numbers of a block are below 8
-pub block-numbers : Each (λ r. numberOf r < 8) blockOrder
-block-numbers = (omega arith, (omega arith, (omega arith, (omega arith, (omega arith, (omega arith, tt))))))
+-- a value is no refusal
+pub no-refusal : {A : Type 0} {n : ℕ} {r : Refusal} → Value n ≡ Refused r → A
+no-refusal e = let z : _≡_ {A = ℕ} 0 1 = cc in absurd (omega arith)
 
--- a refusal has a number from 1
-pub number-some : (r : Refusal) → 0 < numberOf r
-number-some Length = omega arith
-number-some Sizes = omega arith
-number-some State = omega arith
-number-some Next = omega arith
-number-some Row = omega arith
-number-some Unused = omega arith
-number-some Form = omega arith
-number-some RowChoice = omega arith
-number-some Position = omega arith
-number-some WrongSide = omega arith
-number-some Move = omega arith
+-- a refusal of a list is that of a list which goes on
+pub refused : {rules : List Rule} {Right : ℕ → Type 0} {r : Refusal} (more : List Rule) {Rest : Answer → Type 0} → Answers rules Right (Refused r) → First (rules ++ more) Rest (Refused r)
+refused {rules} {Right} {r} more {Rest} w = record { tried = go rules (w .tried) }
+  where
+    go : (rules : List Rule) → Tried rules (Gives Right) (Refused r) → Tried (rules ++ more) Rest (Refused r)
+    go ((q when P) ∷ rules) (inl h) = inl h
+    go ((q when P) ∷ rules) (inr (h, w)) = inr (h, go rules w)
 
-module _ {P : Refusal → Type 0} where
-  -- a refusal of the first list goes before any of the second
-  pub first-before : {rs : List Refusal} (qs : List Refusal) {n : ℕ} → First P rs n → (n ≡ 0 → ⊥) → First P (rs ++ qs) n
-  first-before qs (none e) some = absurd (some e)
-  first-before qs (here h e) some = here h e
-  first-before qs (later h w) some = later h (first-before qs w some)
+-- where a list gives a value, what follows it decides
+pub passed : {rules more : List Rule} {P Q : Answer → Type 0} {n : ℕ} {a : Answer} → First rules P (Value n) → First more Q a → First (rules ++ more) Q a
+passed {rules} {more} {P} {Q} {n} {a} w next = record { tried = go rules (w .tried) }
+  where
+    go : (rules : List Rule) → Tried rules P (Value n) → Tried (rules ++ more) Q a
+    go [] w = next .tried
+    go ((r when P) ∷ rules) (inl h) = no-refusal (h .1)
+    go ((r when P) ∷ rules) (inr (h, w)) = inr (h, go rules w)
 
-  pub first-after : {rs qs : List Refusal} {m n : ℕ} → m ≡ 0 → First P rs m → First P qs n → First P (rs ++ qs) n
-  first-after zero (none e) second = second
-  first-after zero (here {r} h e) second = absurd (omega (arith, number-some r))
-  first-after zero (later h w) second = later h (first-after zero w second)
+-- none of the conditions holds
+abbrev pub Fails : List Rule → Type 0
+Fails [] = Unit {0}
+Fails ((r when P) ∷ rules) = (P → ⊥) × Fails rules
 
-  -- where 1 does not hold, another number is first
-  another : (rs : List Refusal) {n : ℕ} → Each (λ r. 1 < numberOf r) rs → First P rs n → n ≡ 1 → ⊥
-  another [] larger (none e) one = omega arith
-  another (r ∷ rs) (l, larger) (here h e) one = omega arith
-  another (r ∷ rs) (l, larger) (later h w) one = another rs larger w one
+pub none-holds : {rules : List Rule} {Rest : Answer → Type 0} {n : ℕ} → First rules Rest (Value n) → Fails rules
+none-holds {rules} {Rest} {n} w = go rules (w .tried)
+  where
+    go : (rules : List Rule) → Tried rules Rest (Value n) → Fails rules
+    go [] w = tt
+    go ((r when P) ∷ rules) (inl h) = no-refusal (h .1)
+    go ((r when P) ∷ rules) (inr (h, w)) = (h, go rules w)
 
-  pub not-first : (rs : List Refusal) {n : ℕ} → Each (λ r. 1 < numberOf r) rs → (P Length → ⊥) → First P (Length ∷ rs) n → n ≡ 1 → ⊥
-  not-first rs larger fails (here h e) one = fails h
-  not-first rs larger fails (later h w) one = another rs larger w one
+pub apart : (rules more : List Rule) → Fails (rules ++ more) → Fails rules × Fails more
+apart [] more fails = (tt, fails)
+apart ((r when P) ∷ rules) more (h, fails) = let (front, rest) = apart rules more fails in ((h, front), rest)
+
+-- a value is as the rest says, and right
+pub rest : {rules : List Rule} {Rest : Answer → Type 0} {n : ℕ} → First rules Rest (Value n) → Rest (Value n)
+rest {rules} {Rest} {n} w = go rules (w .tried)
+  where
+    go : (rules : List Rule) → Tried rules Rest (Value n) → Rest (Value n)
+    go [] h = h
+    go ((r when P) ∷ rules) (inl h) = no-refusal (h .1)
+    go ((r when P) ∷ rules) (inr (h, w)) = go rules w
+
+pub right : {rules : List Rule} {Right : ℕ → Type 0} {n : ℕ} → Answers rules Right (Value n) → Right n
+right {rules} {Right} {n} w = go (rest w)
+  where
+    go : Gives Right (Value n) → Right n
+    go (value h) = h
+
+-- working room under 1, and under any other answer
+pub room-left : {t : List ℕ} → RoomAfter t t (Refused Length)
+room-left = record { left = λ _. refl; cleared = λ other. absurd (other refl) }
+
+pub room-cleared : {t u : List ℕ} {a : Answer} → (a ≡ Refused Length → ⊥) → u ≡ replicate (length t) 0 → RoomAfter t u a
+room-cleared other zeros = record { left = λ e. absurd (other e); cleared = λ _. zeros }

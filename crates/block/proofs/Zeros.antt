@@ -28,3 +28,7 @@ module _ {t u : List ℕ} {place i : ℕ} (z : Zeroed t place u i) (h : place �
 
   pub zeroed-all : length u ≤ i → i ≡ length t → u ≡ take place t ++ replicate (length t - place) 0
   zeroed-all l e = sym (take-all i u l) ∙ z .so ∙ ap (λ (n : ℕ). take place t ++ replicate (n - place) 0) e
+
+-- a buffer that is zeros from its front
+pub cleared : (t : List ℕ) {u : List ℕ} → u ≡ take 0 t ++ replicate (length t - 0) 0 → u ≡ replicate (length t) 0
+cleared t e = let all : length t - 0 ≡ length t = omega arith in e ∙ ap (λ (n : ℕ). replicate n 0) all

@@ -7,9 +7,10 @@ use Prim.Native.Nat.{ℕ, _≤_, _<_}
 use lib.ListN.{length}
 use Rattle.block.specs.Decide.{Some, Outside, BitFrom}
 use Rattle.block.specs.Layout.{Block, blockBytes, maxAgents, maxResources, maxStates, maxPropositions, maxRows, maxActions, maxUnits, maxJoint, byteAt, agents, resources, states, propositions, rows, mask, count, cost, next, kind, left, right, team, bound, unlimited, propKind, untilKind, Strategic, Binary, Available, Used}
-use Rattle.block.specs.Refusal.{First}
-use Rattle.block.specs.declared.refusal.Refusal.{Refusal}
-use Rattle.block.specs.declared.refusal.Refusal.the-variants.{Length, Sizes, State, Next, Row, Unused, Form, RowChoice, Position, WrongSide, Move}
+use Rattle.block.specs.Refusal.{Rule, _when_, Answers, NoValue}
+use Rattle.block.specs.declared.refusal.Refusal.the-variants.{Length, Sizes, State, Next, Row, Unused}
+use Rattle.block.specs.declared.refusal.Answer.{Answer}
+use Rattle.block.specs.declared.refusal.Answer.the-variants.{Value}
 
 -- 2: N, R, M, P or F out of range
 pub data BadSizes (b : Block) : Type 0 where
@@ -61,24 +62,21 @@ pub data BadRow (b : Block) (i : ℕ) : Type 0 where
 abbrev pub BadPlace : Block → ℕ → Type 0
 BadPlace b p = (Used b p → ⊥) × (byteAt b p ≡ 0 → ⊥)
 
--- the condition of each refusal that a block by itself can meet
-abbrev pub Broken : Block → Refusal → Type 0
-Broken b Length = length b ≡ blockBytes → ⊥
-Broken b Sizes = BadSizes b
-Broken b State = Some (states b) (BadState b)
-Broken b Next = Some (states b) (λ s. Some maxJoint (BadNext b s))
-Broken b Row = Some (rows b) (BadRow b)
-Broken b Unused = Some blockBytes (BadPlace b)
-Broken b Form = ⊥
-Broken b RowChoice = ⊥
-Broken b Position = ⊥
-Broken b WrongSide = ⊥
-Broken b Move = ⊥
-
 -- 1, then 2, 3, 4, 5, 6, each over the whole block
-abbrev pub blockOrder : List Refusal
-blockOrder = Length ∷ Sizes ∷ State ∷ Next ∷ Row ∷ Unused ∷ []
+abbrev pub blockRules : Block → List Rule
+blockRules b =
+    Length when (length b ≡ blockBytes → ⊥)
+    ∷ Sizes when BadSizes b
+    ∷ State when Some (states b) (BadState b)
+    ∷ Next when Some (states b) (λ s. Some maxJoint (BadNext b s))
+    ∷ Row when Some (rows b) (BadRow b)
+    ∷ Unused when Some blockBytes (BadPlace b)
+    ∷ []
 
--- n is the number that the block check gives
-abbrev pub Verdict : Block → ℕ → Type 0
-Verdict b n = First (Broken b) blockOrder n
+-- a is what the block check answers
+abbrev pub Verdict : Block → Answer → Type 0
+Verdict b = Answers (blockRules b) NoValue
+
+-- the check turns nothing down
+abbrev pub Passes : Block → Type 0
+Passes b = Verdict b (Value 0)

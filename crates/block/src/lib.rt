@@ -12,36 +12,35 @@ mod unused;
 pub mod widths;
 
 use nexts::nexts_bad;
-use refusal::Checked;
+use refusal::Answer;
 use refusal::Refusal;
 use rows::rows_bad;
 use sizes::sizes_bad;
 use states::states_bad;
 use unused::places_bad;
-ghost use Rattle.block.specs.Refusal.{answerOf};
 ghost use Rattle.block.specs.Check.{Verdict};
 
-// Checks a block: the first of document 01's numbers 1 to 6 whose condition holds, or none.
-pub fn check(block: &[u8]) -> Checked
-    ensures { λ r. ⌜ Verdict (now (block .entry)) (answerOf r) ⌝ }
+// Checks a block: the first of document 01's numbers 1 to 6 whose condition holds, or 0.
+pub fn check(block: &[u8]) -> Answer
+    ensures { λ r. ⌜ Verdict (now (block .entry)) r ⌝ }
 {
     if block.len() != layout::BLOCK_BYTES {
-        return Checked::Refused(Refusal::Length);
+        return Answer::Refused(Refusal::Length);
     }
     if sizes_bad(block) {
-        return Checked::Refused(Refusal::Sizes);
+        return Answer::Refused(Refusal::Sizes);
     }
     if states_bad(block) {
-        return Checked::Refused(Refusal::State);
+        return Answer::Refused(Refusal::State);
     }
     if nexts_bad(block) {
-        return Checked::Refused(Refusal::Next);
+        return Answer::Refused(Refusal::Next);
     }
     if rows_bad(block) {
-        return Checked::Refused(Refusal::Row);
+        return Answer::Refused(Refusal::Row);
     }
     if places_bad(block) {
-        return Checked::Refused(Refusal::Unused);
+        return Answer::Refused(Refusal::Unused);
     }
-    Checked::Passed
+    Answer::Value(0)
 }

@@ -16,13 +16,7 @@ pub enum Refusal {
     Move,
 }
 
-// The answer of a call that gives no value.
-pub enum Checked {
-    Passed,
-    Refused(Refusal),
-}
-
-// The answer of a call that gives a value.
+// What a call answers. One that gives no value answers 0.
 pub enum Answer {
     Value(usize),
     Refused(Refusal),

@@ -5,7 +5,7 @@ use mathlib.Core.Path.{_≡_}
 use Prim.Native.Nat.{ℕ, _<_}
 use Rattle.block.specs.Layout as L
 use Rattle.block.specs.Layout.{Block}
-use Rattle.block.specs.Check.{Verdict}
+use Rattle.block.specs.Check.{Passes}
 use Rattle.game.specs.Rbatl.{Strategy}
 use Rattle.game.specs.Position.{Arena, Position, IsPosition, Allowed}
 use Rattle.game.specs.Play.{Objective, True, Settled, Play, CounterStrategy, RecallStrategy, RecallCounter, states, From, Follows, Answers, IsCounterStrategy, FollowsRecall, AnswersRecall, IsRecallStrategy, IsRecallCounter, Afforded, Paid, KeepsWithin, CoalitionWins, OpponentsWin}
@@ -97,5 +97,5 @@ RowReply b i = OpponentsReply (arenaOf b i) (objectiveOf b i)
 -- demand 3 of row i of a block that passes
 abbrev pub Demand3 : Block → ℕ → Type 0
 Demand3 b i =
-    Verdict b 0 → i < L.rows b → L.Strategic (L.kind b i)
+    Passes b → i < L.rows b → L.Strategic (L.kind b i)
     → (p : Position) → IsPosition (arenaOf b i) p → Demanded (arenaOf b i) (objectiveOf b i) p

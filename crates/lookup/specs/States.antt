@@ -1,37 +1,23 @@
 -- What the state lister and its second call promise (document 01, "When a row is true" and "Numbers for what is turned down").
-use mathlib.Core.List.{List}
-use mathlib.Core.Logic.{_⊎_}
+use mathlib.Core.List.{List, _∷_}
 use mathlib.Core.Path.{_≡_}
-use Prim.Native.Nat.{ℕ, _≤_, _<_}
+use Prim.Native.Nat.{ℕ, _<_}
 use lib.Count.{ones}
 use lib.ListN.{length, take}
 use Rattle.block.specs.Layout as L
 use Rattle.block.specs.Layout.{Block}
-use Rattle.block.specs.Refusal.{numberOf, answerOf, First, answerNumber}
-use Rattle.block.specs.Check.{Broken}
-use Rattle.block.specs.Valid.{Valid}
-use Rattle.block.specs.declared.refusal.Refusal.{Refusal}
-use Rattle.block.specs.declared.refusal.Refusal.the-variants.{Length, RowChoice}
-use Rattle.block.specs.declared.refusal.Checked.{Checked}
-use Rattle.block.specs.declared.refusal.Checked.the-variants as checked
-use Rattle.game.specs.Model.{RowTrue, RowSet}
-use Rattle.turns.specs.Sizes.{roomBytes}
-use Rattle.solver.specs.Calls.{rowOrder, RoomAfter}
+use Rattle.block.specs.Refusal.{Rule, _when_, Answers, NoValue, Kept, RoomAfter}
+use Rattle.block.specs.declared.refusal.Refusal.the-variants.{Length}
 use Rattle.block.specs.declared.refusal.Answer.{Answer}
 use Rattle.block.specs.declared.refusal.Answer.the-variants as answer
+use Rattle.game.specs.Model.{RowTrue, RowSet}
+use Rattle.turns.specs.Sizes.{roomBytes}
 use Rattle.turns.specs.Listed.{statesBytes, Lists}
+use Rattle.solver.specs.Calls.{setRules}
 
--- the conditions that are refused, with a list and a room of these lengths. Every kind of row has states, so 8 is a row that does not exist
-abbrev pub Unlisted : Block → ℕ → ℕ → ℕ → Refusal → Type 0
-Unlisted b i list room r =
-    Broken b r
-    ⊎ (((r ≡ Length) × ((list ≡ statesBytes → ⊥) ⊎ (room ≡ roomBytes → ⊥)))
-    ⊎ ((r ≡ RowChoice) × (L.rows b ≤ i)))
-
--- what is left to know where a call is not refused, and of the room where it is
-abbrev pub Admitted : Block → ℕ → ℕ → ℕ → Checked → Type 0
-Admitted b i list room checked.Passed = Valid b × ((i < L.rows b) × ((list ≡ statesBytes) × (room ≡ roomBytes)))
-Admitted b i list room (checked.Refused r) = (numberOf r ≡ 1 → ⊥) → room ≡ roomBytes
+-- a list or a room that has not its length, then the block and the row: every kind of row has states
+abbrev pub statesRules : Block → ℕ → ℕ → ℕ → List Rule
+statesRules b i list room = Length when (list ≡ statesBytes → ⊥) ∷ Length when (room ≡ roomBytes → ⊥) ∷ setRules b i
 
 -- the n states in which row i is true stand in the list's front, and n is the count of its set
 pub record StatesIn (b : Block) (i : ℕ) (list : List ℕ) (n : ℕ) : Type 0 where
@@ -43,15 +29,11 @@ abbrev pub frontOf : Answer → ℕ
 frontOf (answer.Value n) = n
 frontOf (answer.Refused r) = 0
 
--- the list, t before the call and u after it: a refusal leaves it as it was
-abbrev pub ListAfter : Block → ℕ → List ℕ → List ℕ → Answer → Type 0
-ListAfter b i t u (answer.Value n) = StatesIn b i u n
-ListAfter b i t u (answer.Refused r) = u ≡ t
-
+-- list and room, before the call and after it
 pub record StatesCall (b : Block) (i : ℕ) (list room list′ room′ : List ℕ) (a : Answer) : Type 0 where
-  pub number : First (Unlisted b i (length list) (length room)) rowOrder (answerNumber a)
-  pub list-after : ListAfter b i list list′ a
-  pub room-after : RoomAfter room room′ (answerNumber a)
+  pub answer : Answers (statesRules b i (length list) (length room)) (StatesIn b i list′) a
+  pub kept : Kept list list′ a
+  pub room-after : RoomAfter room room′ a
 
 -- the part that is handed back is the front of the list that the call fills, list′
 pub record PartCall (b : Block) (i : ℕ) (list room part room′ : List ℕ) : Type 0 where
@@ -60,7 +42,7 @@ pub record PartCall (b : Block) (i : ℕ) (list room part room′ : List ℕ) : 
   pub call : StatesCall b i list room list′ room′ filled
   pub front : part ≡ take (frontOf filled) list′
 
--- the second call, on the same input: the same number, and nothing changes but the room
-pub record RefusalCall (b : Block) (i : ℕ) (list room room′ : List ℕ) (answer : Checked) : Type 0 where
-  pub number : First (Unlisted b i (length list) (length room)) rowOrder (answerOf answer)
-  pub room-after : RoomAfter room room′ (answerOf answer)
+-- the second call, on the same input: the same refusal, and nothing changes but the room
+pub record RefusalCall (b : Block) (i : ℕ) (list room room′ : List ℕ) (a : Answer) : Type 0 where
+  pub answer : Answers (statesRules b i (length list) (length room)) NoValue a
+  pub room-after : RoomAfter room room′ a

@@ -1,12 +1,11 @@
 // The team's move at a position.
+use crate::admit;
 use crate::aims;
 use crate::place;
 use block::fill;
 use block::layout;
 use block::refusal::Answer;
-use block::refusal::Checked;
 use block::refusal::Refusal;
-use solver::table;
 use turns::sizes;
 ghost use mathlib.Core.List.{[], _∷_};
 ghost use mathlib.Core.Path.{_≡_};
@@ -17,7 +16,7 @@ ghost use Rattle.block.specs.Valid.{Valid};
 ghost use Rattle.game.specs.Position.{position, IsPosition};
 ghost use Rattle.game.specs.Model.{arenaOf};
 ghost use Rattle.game.specs.Demand.{Demand3};
-ghost use Rattle.lookup.specs.Calls.{CoalitionAnswer, MoveFound, MoveCall};
+ghost use Rattle.lookup.specs.Calls.{CoalitionAnswer, MoveCall};
 ghost use Rattle.turns.specs.Sizes.{roomBytes};
 
 // The team's move at a position of a strategic row.
@@ -39,26 +38,6 @@ fn coalition_at(block: &[u8], i: usize, s: usize, stocks: &[u8], room: &mut [u8]
     Answer::Value(m)
 }
 
-// The same of any block, row and position; the room is left as it comes out.
-fn coalition_answer(block: &[u8], i: usize, s: usize, stocks: &[u8], room: &mut [u8]) -> Answer
-    requires { ⌜ (length (now stocks) ≡ 2) × (length (now room) ≡ roomBytes) ⌝ }
-    ensures { λ a. ⌜ MoveFound (now (block .entry)) i s (now (stocks .entry)) (now (room .entry)) a ⌝ }
-    ensures { λ _. ⌜ length (now (room .exit)) ≡ length (now (room .entry)) ⌝ }
-{
-    match block::check(block) {
-        Checked::Passed => {
-            if table::no_choice(block, i) {
-                return Answer::Refused(Refusal::RowChoice);
-            }
-            if place::no_position(block, i, s, stocks) {
-                return Answer::Refused(Refusal::Position);
-            }
-            coalition_at(block, i, s, stocks, room)
-        }
-        Checked::Refused(r) => Answer::Refused(r),
-    }
-}
-
 // The team's move of row i in state s with these stocks. The room is left filled with zeros, unless a buffer has another length.
 pub fn coalition_move(
     block: &[u8],
@@ -71,14 +50,19 @@ pub fn coalition_move(
     ensures { λ a. ⌜ MoveCall (now (block .entry)) i s (stock0 ∷ stock1 ∷ []) (now (room .entry)) (now (room .exit)) a ⌝ }
     ensures { λ _. ⌜ Demand3 (now (block .entry)) i ⌝ }
 {
-    if block.len() != layout::BLOCK_BYTES {
-        return Answer::Refused(Refusal::Length);
-    }
     if room.len() != sizes::ROOM_BYTES {
         return Answer::Refused(Refusal::Length);
     }
     let stocks = [stock0, stock1];
-    let answer = coalition_answer(block, i, s, &stocks, room);
-    fill::zeros(room, 0);
-    answer
+    match admit::position(block, i, s, &stocks) {
+        Answer::Value(_) => {
+            let answer = coalition_at(block, i, s, &stocks, room);
+            fill::zeros(room, 0);
+            answer
+        }
+        Answer::Refused(r) => {
+            fill::leave(room, r);
+            Answer::Refused(r)
+        }
+    }
 }

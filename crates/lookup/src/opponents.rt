@@ -1,12 +1,11 @@
 // The reply of all others to the team's move at a position.
+use crate::admit;
 use crate::aims;
 use crate::place;
 use block::fill;
 use block::layout;
 use block::refusal::Answer;
-use block::refusal::Checked;
 use block::refusal::Refusal;
-use solver::table;
 use turns::buffers;
 use turns::sizes;
 ghost use mathlib.Core.List.{[], _∷_};
@@ -20,7 +19,7 @@ ghost use Rattle.game.specs.Position.{position, IsPosition};
 ghost use Rattle.game.specs.Model.{arenaOf};
 ghost use Rattle.game.specs.Demand.{Demand3};
 ghost use Rattle.lookup.specs.Aims.{FailedBy};
-ghost use Rattle.lookup.specs.Calls.{OpponentsAnswer, ReplyFound, ReplyCall};
+ghost use Rattle.lookup.specs.Calls.{OpponentsAnswer, ReplyCall};
 ghost use Rattle.turns.specs.Sizes.{roomBytes};
 
 // Whether the row has failed already in state s, at a position of rank own.
@@ -69,33 +68,6 @@ fn opponents_at(
     Answer::Value(r)
 }
 
-// The same of any block, row and position; the room is left as it comes out.
-fn opponents_answer(
-    block: &[u8],
-    i: usize,
-    s: usize,
-    stocks: &[u8],
-    m: usize,
-    room: &mut [u8],
-) -> Answer
-    requires { ⌜ (length (now stocks) ≡ 2) × (length (now room) ≡ roomBytes) ⌝ }
-    ensures { λ a. ⌜ ReplyFound (now (block .entry)) i s (now (stocks .entry)) m (now (room .entry)) a ⌝ }
-    ensures { λ _. ⌜ length (now (room .exit)) ≡ length (now (room .entry)) ⌝ }
-{
-    match block::check(block) {
-        Checked::Passed => {
-            if table::no_choice(block, i) {
-                return Answer::Refused(Refusal::RowChoice);
-            }
-            if place::no_position(block, i, s, stocks) {
-                return Answer::Refused(Refusal::Position);
-            }
-            opponents_at(block, i, s, stocks, m, room)
-        }
-        Checked::Refused(r) => Answer::Refused(r),
-    }
-}
-
 // The reply to the move m in row i, state s with these stocks. The room is left filled with zeros, unless a buffer has another length.
 pub fn reply(
     block: &[u8],
@@ -109,14 +81,19 @@ pub fn reply(
     ensures { λ a. ⌜ ReplyCall (now (block .entry)) i s (stock0 ∷ stock1 ∷ []) m (now (room .entry)) (now (room .exit)) a ⌝ }
     ensures { λ _. ⌜ Demand3 (now (block .entry)) i ⌝ }
 {
-    if block.len() != layout::BLOCK_BYTES {
-        return Answer::Refused(Refusal::Length);
-    }
     if room.len() != sizes::ROOM_BYTES {
         return Answer::Refused(Refusal::Length);
     }
     let stocks = [stock0, stock1];
-    let answer = opponents_answer(block, i, s, &stocks, m, room);
-    fill::zeros(room, 0);
-    answer
+    match admit::position(block, i, s, &stocks) {
+        Answer::Value(_) => {
+            let answer = opponents_at(block, i, s, &stocks, m, room);
+            fill::zeros(room, 0);
+            answer
+        }
+        Answer::Refused(r) => {
+            fill::leave(room, r);
+            Answer::Refused(r)
+        }
+    }
 }

@@ -1,10 +1,8 @@
 // The states in which a row is true, listed in a lent buffer of 24 bytes.
-use crate::room;
 use block::fill;
-use block::layout;
 use block::refusal::Answer;
-use block::refusal::Checked;
 use block::refusal::Refusal;
+use solver::admit;
 use solver::label;
 use turns::buffers;
 use turns::sets;
@@ -13,34 +11,25 @@ ghost use mathlib.Core.Path.{_≡_};
 ghost use Prim.Native.Nat.{_<_};
 ghost use lib.ListN.{length};
 ghost use Rattle.block.specs.Layout as L;
-ghost use Rattle.block.specs.Refusal.{answerOf, First};
+ghost use Rattle.block.specs.Refusal.{Answers, NoValue};
 ghost use Rattle.block.specs.Valid.{Valid};
-ghost use Rattle.solver.specs.Calls.{rowOrder};
-ghost use Rattle.lookup.specs.States.{Unlisted, Admitted, StatesIn, frontOf, StatesCall, RefusalCall, PartCall};
+ghost use Rattle.lookup.specs.States.{statesRules, StatesIn, frontOf, StatesCall, RefusalCall, PartCall};
 ghost use Rattle.turns.specs.Sizes.{roomBytes};
 
 // The list has a byte for each state that a job can have.
 const STATES_BYTES: usize = 24;
 
-// The refusal of a call with a list and a room of these lengths.
-fn turned_down(block: &[u8], i: usize, list: usize, room: usize) -> Checked
-    ensures { λ r. ⌜ First (Unlisted (now (block .entry)) i list room) rowOrder (answerOf r) × Admitted (now (block .entry)) i list room r ⌝ }
+// The refusal of a call with a list and a room of these lengths, or 0.
+fn turned_down(block: &[u8], i: usize, list: usize, room: usize) -> Answer
+    ensures { λ r. ⌜ Answers (statesRules (now (block .entry)) i list room) NoValue r ⌝ }
 {
     if list != STATES_BYTES {
-        return Checked::Refused(Refusal::Length);
+        return Answer::Refused(Refusal::Length);
     }
     if room != sizes::ROOM_BYTES {
-        return Checked::Refused(Refusal::Length);
+        return Answer::Refused(Refusal::Length);
     }
-    match block::check(block) {
-        Checked::Passed => {
-            if layout::rows(block) <= i {
-                return Checked::Refused(Refusal::RowChoice);
-            }
-            Checked::Passed
-        }
-        Checked::Refused(r) => Checked::Refused(r),
-    }
+    admit::any_row(block, i)
 }
 
 // Lists the states of row i.
@@ -61,13 +50,13 @@ pub fn fill_states(block: &[u8], i: usize, list: &mut [u8], room: &mut [u8]) -> 
     ensures { λ r. ⌜ StatesCall (now (block .entry)) i (now (list .entry)) (now (room .entry)) (now (list .exit)) (now (room .exit)) r ⌝ }
 {
     match turned_down(block, i, list.len(), room.len()) {
-        Checked::Passed => {
+        Answer::Value(_) => {
             let n = list_row(block, i, list, room);
             fill::zeros(room, 0);
             Answer::Value(n)
         }
-        Checked::Refused(r) => {
-            room::leave(room, r);
+        Answer::Refused(r) => {
+            fill::leave(room, r);
             Answer::Refused(r)
         }
     }
@@ -92,18 +81,18 @@ pub fn states<'a>(block: &[u8], i: usize, list: &'a mut [u8], room: &mut [u8]) -
     &mut list[..n]
 }
 
-// The refusal of the same call, or none.
-pub fn states_refusal(block: &[u8], i: usize, list: &[u8], room: &mut [u8]) -> Checked
+// The refusal of the same call, or 0.
+pub fn states_refusal(block: &[u8], i: usize, list: &[u8], room: &mut [u8]) -> Answer
     ensures { λ r. ⌜ RefusalCall (now (block .entry)) i (now (list .entry)) (now (room .entry)) (now (room .exit)) r ⌝ }
 {
     match turned_down(block, i, list.len(), room.len()) {
-        Checked::Passed => {
+        Answer::Value(_) => {
             fill::zeros(room, 0);
-            Checked::Passed
+            Answer::Value(0)
         }
-        Checked::Refused(r) => {
-            room::leave(room, r);
-            Checked::Refused(r)
+        Answer::Refused(r) => {
+            fill::leave(room, r);
+            Answer::Refused(r)
         }
     }
 }

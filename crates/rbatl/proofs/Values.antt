@@ -1,43 +1,50 @@
 -- A length, a count or the number of a joint action fits the number that a C caller is handed back. Assumes nothing.
 use mathlib.Core.List.{List}
-use Prim.Native.Nat.{ℕ, _≤_, _<_}
-use native.Mathlib.Nat.{lt-of-le-of-lt}
+use mathlib.Core.Path.{_≡_, refl, ap, _∙_}
+use Prim.Native.Nat.{ℕ, zero, suc, _-_, _≤_, _<_}
+use native.Mathlib.Nat.{lt-of-le-of-lt, le-of-lt}
 use native.Mathlib.Omega.{arith}
 use lib.Dec.{lit<}
-use lib.IntN.{pos}
+use borrow.Author.Tests.{lt-ltb}
+use lib.IntN.{ℤ, pos, negsuc, negℤ, _-ℤ_}
 use mir.Syntax.{w32}
-use mir.Val.{SFits}
-use Rattle.block.specs.Layout.{Block}
-use Rattle.block.specs.declared.refusal.Refusal.{Refusal}
+use mir.Val.{SFits, toZ}
+use mir.Facts.{toZ-pos}
+use Rattle.block.specs.Refusal.{Rule, Answers}
 use Rattle.block.specs.declared.refusal.Answer.{Answer}
 use Rattle.block.specs.declared.refusal.Answer.the-variants as answer
-use Rattle.lookup.specs.Calls.{ValueIs, Call}
-use Rattle.lookup.specs.States.{StatesCall}
+use Rattle.block.proofs.Refusals.{right}
+use Rattle.text.specs.Format.{Outcome, accepted, refused}
+use Rattle.text.specs.Text.{answerTo}
 use Rattle.report.specs.Call.{listingBytes, ListingCall}
 use Rattle.report.proofs.Printing.{listing-fits}
-use Rattle.writer.specs.Call.{Filled, WriteCall}
 use Rattle.rbatl.specs.Answer.{Small}
 
 pub small : {n : ℕ} → n ≤ listingBytes → SFits w32 (pos n)
 small h = record { sfits = lt-of-le-of-lt h (lit< tt) }
 
-pub small-value : {Refuses : Refusal → Type 0} {order : List Refusal} {right : ℕ → Type 0} {room room′ : List ℕ} {a : Answer} → Call Refuses order right room room′ a → ((n : ℕ) → right n → n < 64) → Small a
-small-value {right = right} {a = a} call least = go a (call .found .value)
+-- a byte taken from 0
+pub minus : (n : ℕ) → n < 256 → pos 0 -ℤ toZ w32 n ≡ negℤ (pos n)
+minus n h = ap (λ (z : ℤ). pos 0 -ℤ z) (toZ-pos w32 (lt-of-le-of-lt (le-of-lt h) (lit< tt))) ∙ negated n
   where
-    go : (a : Answer) → ValueIs right a → Small a
-    go (answer.Value n) h = omega (arith, least n h)
-    go (answer.Refused r) h = tt
+    negated : (n : ℕ) → pos 0 -ℤ pos n ≡ negℤ (pos n)
+    negated zero = refl
+    negated (suc n) = let less : suc n - 1 ≡ n = omega arith in simp (lt-ltb 0 (suc n) (omega arith)) (ap negsuc less)
 
-pub small-count : (b : Block) (i : ℕ) (list room list′ room′ : List ℕ) (a : Answer) → StatesCall b i list room list′ room′ a → Small a
-small-count b i list room list′ room′ (answer.Value n) call = omega (arith, call .list-after .lists .fits)
-small-count b i list room list′ room′ (answer.Refused r) call = tt
+pub small-minus : (n : ℕ) → n < 256 → SFits w32 (negℤ (pos n))
+small-minus zero h = small (omega arith)
+small-minus (suc n) h = let few : n ≤ 256 = omega arith in record { sfits = lt-of-le-of-lt few (lit< tt) }
 
-pub small-text : {b : Block} {t u : List ℕ} {a : Answer} → WriteCall b t u a → Small a
-small-text {b} {t} {u} {a} call = go a (call .filled)
+pub small-answer : {rules : List Rule} {Right : ℕ → Type 0} {a : Answer} → Answers rules Right a → ((n : ℕ) → Right n → n ≤ listingBytes) → Small a
+small-answer {rules} {Right} {a} w least = go a w
   where
-    go : (a : Answer) → Filled b t u a → Small a
-    go (answer.Value n) filled = filled .fits
-    go (answer.Refused r) _ = tt
+    go : (a : Answer) → Answers rules Right a → Small a
+    go (answer.Value n) w = least n (right w)
+    go (answer.Refused r) w = tt
+
+pub small-read : (o : Outcome) → Small (answerTo o)
+small-read (accepted b) = omega arith
+small-read (refused r) = tt
 
 pub small-listing : (text out ranks moves out′ ranks′ moves′ : List ℕ) (a : Answer) → ListingCall text out ranks moves out′ ranks′ moves′ a → Small a
 small-listing text out ranks moves out′ ranks′ moves′ (answer.Value n) call = listing-fits text out ranks moves out′ ranks′ moves′ n call

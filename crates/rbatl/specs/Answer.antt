@@ -4,9 +4,8 @@ use mathlib.Core.Path.{_≡_}
 use Prim.Native.Nat.{ℕ, _≤_}
 use lib.IntN.{ℤ, pos, negℤ}
 use Rattle.block.specs.Layout.{Block}
-use Rattle.block.specs.Refusal.{numberOf, answerOf}
+use Rattle.block.specs.Refusal.{numberOf}
 use Rattle.block.specs.Check.{Verdict}
-use Rattle.block.specs.declared.refusal.Checked.{Checked}
 use Rattle.block.specs.declared.refusal.Answer.{Answer}
 use Rattle.block.specs.declared.refusal.Answer.the-variants as answer
 use Rattle.text.specs.Text.{readCall, answerTo}
@@ -16,27 +15,23 @@ use Rattle.lookup.specs.States.{StatesCall, RefusalCall}
 use Rattle.report.specs.Call.{listingBytes, ListingCall}
 use Rattle.writer.specs.Call.{WriteCall}
 
--- minus the number of a refusal, and 0 for none
-abbrev pub minus : ℕ → ℤ
-minus n = negℤ (pos n)
-
--- what a value or a refusal is handed back as
+-- a value, or minus the number of a refusal
 abbrev pub answerCode : Answer → ℤ
 answerCode (answer.Value n) = pos n
-answerCode (answer.Refused r) = minus (numberOf r)
+answerCode (answer.Refused r) = negℤ (pos (numberOf r))
 
 -- a value is the number of a joint action, a count of states or the length of a text or a listing
 abbrev pub Small : Answer → Type 0
 Small (answer.Value n) = n ≤ listingBytes
 Small (answer.Refused r) = Unit {0}
 
--- r is 0 where the block passes, or minus the number of its refusal
+-- what the check call answers: 0 where the block passes
 abbrev pub CheckAnswer : Block → ℤ → Type 0
-CheckAnswer b r = (n : ℕ) × Verdict b n × (r ≡ minus n)
+CheckAnswer b r = (a : Answer) × Verdict b a × (r ≡ answerCode a)
 
 -- what the read call answers
 abbrev pub readAnswer : List ℕ → Block → ℤ
-readAnswer t b = minus (answerOf (answerTo (readCall t b)))
+readAnswer t b = answerCode (answerTo (readCall t b))
 
 -- what the write call promises of its answer and of the text buffer, t before it and u after it
 abbrev pub WriteAnswer : Block → List ℕ → List ℕ → ℤ → Type 0
@@ -44,11 +39,11 @@ WriteAnswer b t u r = (a : Answer) × WriteCall b t u a × (r ≡ answerCode a)
 
 -- what the label call promises of its answer, the sets and the room, each before and after it
 abbrev pub LabelAnswer : Block → List ℕ → List ℕ → List ℕ → List ℕ → ℤ → Type 0
-LabelAnswer b sets room sets′ room′ r = (a : Checked) × LabelCall b sets room sets′ room′ a × (r ≡ minus (answerOf a))
+LabelAnswer b sets room sets′ room′ r = (a : Answer) × LabelCall b sets room sets′ room′ a × (r ≡ answerCode a)
 
 -- what the table call promises of its answer, the ranks and the moves, each before and after it
 abbrev pub TableAnswer : Block → ℕ → List ℕ → List ℕ → List ℕ → List ℕ → ℤ → Type 0
-TableAnswer b i ranks moves ranks′ moves′ r = (a : Checked) × TableCall b i ranks moves ranks′ moves′ a × (r ≡ minus (answerOf a))
+TableAnswer b i ranks moves ranks′ moves′ r = (a : Answer) × TableCall b i ranks moves ranks′ moves′ a × (r ≡ answerCode a)
 
 -- what the team's move and the reply calls promise of their answer and of the room, before and after
 abbrev pub MoveAnswer : Block → ℕ → ℕ → List ℕ → List ℕ → List ℕ → ℤ → Type 0
@@ -63,7 +58,7 @@ StatesAnswer b i list room list′ room′ r = (a : Answer) × StatesCall b i li
 
 -- what its second call promises of its answer and of the room, before and after it
 abbrev pub RefusalAnswer : Block → ℕ → List ℕ → List ℕ → List ℕ → ℤ → Type 0
-RefusalAnswer b i list room room′ r = (a : Checked) × RefusalCall b i list room room′ a × (r ≡ minus (answerOf a))
+RefusalAnswer b i list room room′ r = (a : Answer) × RefusalCall b i list room room′ a × (r ≡ answerCode a)
 
 -- what the listing call promises of its answer, the listing, the ranks and the moves, each before and after it
 abbrev pub ListAnswer : List ℕ → List ℕ → List ℕ → List ℕ → List ℕ → List ℕ → List ℕ → ℤ → Type 0

@@ -1,50 +1,20 @@
 // The C library: each call of document 01 under its C name, and nothing else. include/rbatl.h is its header.
+use block::refusal;
 use block::refusal::Answer;
-use block::refusal::Checked;
-use block::refusal::Refusal;
 ghost use mathlib.Core.List.{[], _∷_};
 ghost use mathlib.Core.Path.{_≡_};
-ghost use Rattle.block.specs.Refusal.{numberOf, answerOf};
 ghost use Rattle.text.specs.Text.{readCall, blockAfter, Exact, Numbered};
 ghost use Rattle.game.specs.Demand.{Demand3};
-ghost use Rattle.rbatl.specs.Answer.{minus, CheckAnswer, readAnswer, WriteAnswer, LabelAnswer, TableAnswer, Small, answerCode, MoveAnswer, ReplyAnswer, StatesAnswer, RefusalAnswer, ListAnswer};
+ghost use Rattle.rbatl.specs.Answer.{CheckAnswer, readAnswer, WriteAnswer, LabelAnswer, TableAnswer, Small, answerCode, MoveAnswer, ReplyAnswer, StatesAnswer, RefusalAnswer, ListAnswer};
 
-fn refused(r: Refusal) -> i32
-    ensures { λ x. ⌜ x ≡ minus (numberOf r) ⌝ }
-{
-    match r {
-        Refusal::Length => -1,
-        Refusal::Sizes => -2,
-        Refusal::State => -3,
-        Refusal::Next => -4,
-        Refusal::Row => -5,
-        Refusal::Unused => -6,
-        Refusal::Form => -7,
-        Refusal::RowChoice => -8,
-        Refusal::Position => -9,
-        Refusal::WrongSide => -10,
-        Refusal::Move => -11,
-    }
-}
-
-// The answer of a call that gives no value.
-fn answer(c: Checked) -> i32
-    ensures { λ x. ⌜ x ≡ minus (answerOf c) ⌝ }
-{
-    match c {
-        Checked::Passed => 0,
-        Checked::Refused(r) => refused(r),
-    }
-}
-
-// The answer of a call that gives a value.
-fn value(a: Answer) -> i32
+// The number that is handed back: a value, or minus the number of a refusal.
+fn code(a: Answer) -> i32
     requires { ⌜ Small a ⌝ }
     ensures { λ x. ⌜ x ≡ answerCode a ⌝ }
 {
     match a {
         Answer::Value(n) => n as i32,
-        Answer::Refused(r) => refused(r),
+        Answer::Refused(r) => -(refusal::number(r) as i32),
     }
 }
 
@@ -52,7 +22,7 @@ fn value(a: Answer) -> i32
 pub extern "C" fn rbatl_check(block: &[u8]) -> i32
     ensures { λ r. ⌜ CheckAnswer (now (block .entry)) r ⌝ }
 {
-    answer(block::check(block))
+    code(block::check(block))
 }
 
 #[no_mangle]
@@ -62,21 +32,21 @@ pub extern "C" fn rbatl_read(text: &[u8], block: &mut [u8]) -> i32
     ensures { λ _. ⌜ Exact (now (text .entry)) ⌝ }
     ensures { λ _. ⌜ Numbered (now (text .entry)) ⌝ }
 {
-    answer(reader::read(text, block))
+    code(reader::read(text, block))
 }
 
 #[no_mangle]
 pub extern "C" fn rbatl_write(block: &[u8], text: &mut [u8]) -> i32
     ensures { λ r. ⌜ WriteAnswer (now (block .entry)) (now (text .entry)) (now (text .exit)) r ⌝ }
 {
-    value(writer::write(block, text))
+    code(writer::write(block, text))
 }
 
 #[no_mangle]
 pub extern "C" fn rbatl_label(block: &[u8], sets: &mut [u8], room: &mut [u8]) -> i32
     ensures { λ r. ⌜ LabelAnswer (now (block .entry)) (now (sets .entry)) (now (room .entry)) (now (sets .exit)) (now (room .exit)) r ⌝ }
 {
-    answer(solver::label::label(block, sets, room))
+    code(solver::label::label(block, sets, room))
 }
 
 #[no_mangle]
@@ -84,7 +54,7 @@ pub extern "C" fn rbatl_table(block: &[u8], row: u8, ranks: &mut [u8], moves: &m
     ensures { λ r. ⌜ TableAnswer (now (block .entry)) row (now (ranks .entry)) (now (moves .entry)) (now (ranks .exit)) (now (moves .exit)) r ⌝ }
     ensures { λ _. ⌜ Demand3 (now (block .entry)) row ⌝ }
 {
-    answer(solver::table::table(block, row as usize, ranks, moves))
+    code(solver::table::table(block, row as usize, ranks, moves))
 }
 
 #[no_mangle]
@@ -99,7 +69,7 @@ pub extern "C" fn rbatl_move(
     ensures { λ r. ⌜ MoveAnswer (now (block .entry)) row state (stock0 ∷ stock1 ∷ []) (now (room .entry)) (now (room .exit)) r ⌝ }
     ensures { λ _. ⌜ Demand3 (now (block .entry)) row ⌝ }
 {
-    value(lookup::coalition::coalition_move(
+    code(lookup::coalition::coalition_move(
         block,
         row as usize,
         state as usize,
@@ -122,7 +92,7 @@ pub extern "C" fn rbatl_reply(
     ensures { λ r. ⌜ ReplyAnswer (now (block .entry)) row state (stock0 ∷ stock1 ∷ []) mv (now (room .entry)) (now (room .exit)) r ⌝ }
     ensures { λ _. ⌜ Demand3 (now (block .entry)) row ⌝ }
 {
-    value(lookup::opponents::reply(
+    code(lookup::opponents::reply(
         block,
         row as usize,
         state as usize,
@@ -137,14 +107,14 @@ pub extern "C" fn rbatl_reply(
 pub extern "C" fn rbatl_states(block: &[u8], row: u8, list: &mut [u8], room: &mut [u8]) -> i32
     ensures { λ r. ⌜ StatesAnswer (now (block .entry)) row (now (list .entry)) (now (room .entry)) (now (list .exit)) (now (room .exit)) r ⌝ }
 {
-    value(lookup::states::fill_states(block, row as usize, list, room))
+    code(lookup::states::fill_states(block, row as usize, list, room))
 }
 
 #[no_mangle]
 pub extern "C" fn rbatl_states_refusal(block: &[u8], row: u8, list: &[u8], room: &mut [u8]) -> i32
     ensures { λ r. ⌜ RefusalAnswer (now (block .entry)) row (now (list .entry)) (now (room .entry)) (now (room .exit)) r ⌝ }
 {
-    answer(lookup::states::states_refusal(block, row as usize, list, room))
+    code(lookup::states::states_refusal(block, row as usize, list, room))
 }
 
 #[no_mangle]
@@ -156,5 +126,5 @@ pub extern "C" fn rbatl_list(
 ) -> i32
     ensures { λ r. ⌜ ListAnswer (now (text .entry)) (now (listing .entry)) (now (ranks .entry)) (now (moves .entry)) (now (listing .exit)) (now (ranks .exit)) (now (moves .exit)) r ⌝ }
 {
-    value(report::listing(text, listing, ranks, moves))
+    code(report::listing(text, listing, ranks, moves))
 }

@@ -7,7 +7,7 @@ mod rows;
 mod states;
 
 use block::layout::BLOCK_BYTES;
-use block::refusal::Checked;
+use block::refusal::Answer;
 use block::refusal::Refusal;
 use header::header;
 use rows::rows;
@@ -36,39 +36,40 @@ fn lines(text: &[u8], job: &mut [u8]) -> Step
 }
 
 // Reads the text into a block; nothing may follow its last line.
-fn read_into(text: &[u8], job: &mut [u8]) -> Checked
+fn read_into(text: &[u8], job: &mut [u8]) -> Answer
     requires { ⌜ length (now job) ≡ blockBytes ⌝ }
     ensures { λ r. ⌜ read J.job (now (job .entry)) (now (text .entry)) ≡ outcomeOf r (now (job .exit)) ⌝ }
 {
     match lines(text, job) {
         Step::Next(at) => {
             if at < text.len() {
-                Checked::Refused(Refusal::Form)
+                Answer::Refused(Refusal::Form)
             } else {
-                Checked::Passed
+                Answer::Value(0)
             }
         }
-        Step::Refused(r) => Checked::Refused(r),
+        Step::Refused(r) => Answer::Refused(r),
     }
 }
 
 // Reads a text into a block, which keeps its bytes where the text is refused.
-pub fn read(text: &[u8], block: &mut [u8]) -> Checked
+pub fn read(text: &[u8], block: &mut [u8]) -> Answer
     ensures { λ r. ⌜ r ≡ answerTo (readCall (now (text .entry)) (now (block .entry))) ⌝ }
     ensures { λ _. ⌜ now (block .exit) ≡ blockAfter (now (block .entry)) (readCall (now (text .entry)) (now (block .entry))) ⌝ }
     ensures { λ _. ⌜ Exact (now (text .entry)) ⌝ }
     ensures { λ _. ⌜ Numbered (now (text .entry)) ⌝ }
 {
     if TEXT_BYTES < text.len() {
-        return Checked::Refused(Refusal::Length);
+        return Answer::Refused(Refusal::Length);
     }
     if block.len() != BLOCK_BYTES {
-        return Checked::Refused(Refusal::Length);
+        return Answer::Refused(Refusal::Length);
     }
     let mut blank = [0u8; BLOCK_BYTES];
     let r = read_into(text, &mut blank);
-    if let Checked::Passed = r {
-        bytes::copy(&blank, block);
+    if let Answer::Refused(_) = r {
+        return r;
     }
-    r
+    bytes::copy(&blank, block);
+    Answer::Value(0)
 }

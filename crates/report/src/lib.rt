@@ -7,7 +7,6 @@ use block::fill;
 use block::layout;
 use block::refusal;
 use block::refusal::Answer;
-use block::refusal::Checked;
 use block::refusal::Refusal;
 use turns::sizes;
 ghost use mathlib.Core.Path.{_≡_};
@@ -15,7 +14,7 @@ ghost use lib.ListN.{length, replicate};
 ghost use Rattle.block.specs.Refusal.{numberOf};
 ghost use Rattle.block.specs.Valid.{Valid};
 ghost use Rattle.turns.specs.Sizes.{roomBytes, movesBytes};
-ghost use Rattle.report.specs.Call.{listingBytes, refusedBytes, Filled, ListingIn, RoomsAfter, ListingCall};
+ghost use Rattle.report.specs.Call.{listingBytes, refusedBytes, Filled, ListingIn, ListingCall};
 ghost use Rattle.report.specs.Listing.{refusedLine};
 
 // The listing is at most as long as a text, so its buffer has the length of one.
@@ -38,18 +37,6 @@ fn list_job(block: &[u8], out: &mut [u8], ranks: &mut [u8], moves: &mut [u8]) ->
     n
 }
 
-// The rooms as a refusal leaves them: under number 1 as they were lent, and else filled with zeros.
-fn leave(ranks: &mut [u8], moves: &mut [u8], r: Refusal)
-    requires { ⌜ (length (now ranks) ≡ roomBytes) × (length (now moves) ≡ movesBytes) ⌝ }
-    ensures { λ _. ⌜ RoomsAfter (now (ranks .entry)) (now (moves .entry)) (now (ranks .exit)) (now (moves .exit)) (numberOf r) ⌝ }
-{
-    if refusal::number(r) == 1 {
-        return;
-    }
-    fill::zeros(ranks, 0);
-    fill::zeros(moves, 0);
-}
-
 // Fills the buffer with the listing of the text's job, and gives its length. Ranks and moves are working room.
 pub fn listing(text: &[u8], out: &mut [u8], ranks: &mut [u8], moves: &mut [u8]) -> Answer
     ensures { λ r. ⌜ ListingCall (now (text .entry)) (now (out .entry)) (now (ranks .entry)) (now (moves .entry)) (now (out .exit)) (now (ranks .exit)) (now (moves .exit)) r ⌝ }
@@ -65,9 +52,10 @@ pub fn listing(text: &[u8], out: &mut [u8], ranks: &mut [u8], moves: &mut [u8]) 
     }
     let mut block = [0u8; layout::BLOCK_BYTES];
     match reader::read(text, &mut block) {
-        Checked::Passed => Answer::Value(list_job(&block, out, ranks, moves)),
-        Checked::Refused(r) => {
-            leave(ranks, moves, r);
+        Answer::Value(_) => Answer::Value(list_job(&block, out, ranks, moves)),
+        Answer::Refused(r) => {
+            fill::leave(ranks, r);
+            fill::leave(moves, r);
             Answer::Refused(r)
         }
     }

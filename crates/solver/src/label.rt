@@ -3,7 +3,7 @@ use crate::needs;
 use crate::rows;
 use block::fill;
 use block::layout;
-use block::refusal::Checked;
+use block::refusal::Answer;
 use block::refusal::Refusal;
 use turns::buffers;
 use turns::sizes;
@@ -95,28 +95,25 @@ pub fn label_needed(block: &[u8], i: usize, sets: &mut [u8], ranks: &mut [u8])
 }
 
 // The sets of all rows of a block that passes the check. The room is left filled with zeros, unless a buffer has another length.
-pub fn label(block: &[u8], sets: &mut [u8], room: &mut [u8]) -> Checked
+pub fn label(block: &[u8], sets: &mut [u8], room: &mut [u8]) -> Answer
     ensures { λ r. ⌜ LabelCall (now (block .entry)) (now (sets .entry)) (now (room .entry)) (now (sets .exit)) (now (room .exit)) r ⌝ }
 {
-    if block.len() != layout::BLOCK_BYTES {
-        return Checked::Refused(Refusal::Length);
-    }
     if sets.len() != sizes::SETS_BYTES {
-        return Checked::Refused(Refusal::Length);
+        return Answer::Refused(Refusal::Length);
     }
     if room.len() != sizes::ROOM_BYTES {
-        return Checked::Refused(Refusal::Length);
+        return Answer::Refused(Refusal::Length);
     }
     match block::check(block) {
-        Checked::Passed => {
+        Answer::Value(_) => {
             fill::zeros(sets, 0);
             label_rows(block, layout::rows(block), ALL_ROWS, sets, room);
             fill::zeros(room, 0);
-            Checked::Passed
+            Answer::Value(0)
         }
-        Checked::Refused(r) => {
-            fill::zeros(room, 0); // a refusal leaves nothing behind either
-            Checked::Refused(r)
+        Answer::Refused(r) => {
+            fill::leave(room, r);
+            Answer::Refused(r)
         }
     }
 }

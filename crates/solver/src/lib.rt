@@ -1,4 +1,5 @@
 // Ranks, moves and sets of the rows of a block.
+pub mod admit;
 pub mod choose;
 pub mod label;
 mod needs;

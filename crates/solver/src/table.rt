@@ -1,31 +1,19 @@
 // The table of a strategic row: rank and move of every position.
+use crate::admit;
 use crate::choose;
 use crate::label;
 use crate::rows;
-use block::layout;
-use block::refusal::Checked;
+use block::refusal::Answer;
 use block::refusal::Refusal;
 use turns::sizes;
 ghost use mathlib.Core.Path.{_≡_};
 ghost use Prim.Native.Nat.{_<_};
 ghost use lib.ListN.{length};
-ghost use Rattle.block.specs.Decide.{Decides};
 ghost use Rattle.block.specs.Layout as L;
 ghost use Rattle.block.specs.Valid.{Valid};
 ghost use Rattle.game.specs.Demand.{Demand3};
-ghost use Rattle.solver.specs.Calls.{NoChoice, RowTable, TableCall};
+ghost use Rattle.solver.specs.Calls.{RowTable, TableCall};
 ghost use Rattle.turns.specs.Sizes.{roomBytes, maxPositions};
-
-// Whether row i does not exist, or is of kind prop, not or or.
-pub fn no_choice(block: &[u8], i: usize) -> bool
-    requires { ⌜ Valid (now block) ⌝ }
-    ensures { λ r. ⌜ Decides (NoChoice (now (block .entry)) i) r ⌝ }
-{
-    if layout::rows(block) <= i {
-        return true;
-    }
-    layout::kind(block, i) < layout::NEXT_KIND
-}
 
 // Fills the table of row i. The moves' buffer holds the sets of the rows that it needs until the ranks are there.
 fn fill_table(block: &[u8], i: usize, ranks: &mut [u8], moves: &mut [u8])
@@ -41,25 +29,22 @@ fn fill_table(block: &[u8], i: usize, ranks: &mut [u8], moves: &mut [u8])
     choose::fill_moves(block, i, left, ranks, moves);
 }
 
-// The table of row i of a block that passes the check.
-pub fn table(block: &[u8], i: usize, ranks: &mut [u8], moves: &mut [u8]) -> Checked
+// The table of row i, a strategic row of a block that passes the check.
+pub fn table(block: &[u8], i: usize, ranks: &mut [u8], moves: &mut [u8]) -> Answer
     ensures { λ r. ⌜ TableCall (now (block .entry)) i (now (ranks .entry)) (now (moves .entry)) (now (ranks .exit)) (now (moves .exit)) r ⌝ }
     ensures { λ _. ⌜ Demand3 (now (block .entry)) i ⌝ }
 {
     if ranks.len() != sizes::ROOM_BYTES {
-        return Checked::Refused(Refusal::Length);
+        return Answer::Refused(Refusal::Length);
     }
     if moves.len() != sizes::MOVES_BYTES {
-        return Checked::Refused(Refusal::Length);
+        return Answer::Refused(Refusal::Length);
     }
-    match block::check(block) {
-        Checked::Passed => {
-            if no_choice(block, i) {
-                return Checked::Refused(Refusal::RowChoice);
-            }
+    match admit::row(block, i) {
+        Answer::Value(_) => {
             fill_table(block, i, ranks, moves);
-            Checked::Passed
+            Answer::Value(0)
         }
-        Checked::Refused(r) => Checked::Refused(r),
+        Answer::Refused(r) => Answer::Refused(r),
     }
 }

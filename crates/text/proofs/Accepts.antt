@@ -5,7 +5,7 @@ use mathlib.Core.Path.{_≡_, sym, _∙_}
 use Prim.Native.Nat.{ℕ, _<_}
 use lib.ListN.{length, length-replicate, getD-replicate}
 use Rattle.block.specs.Layout.{Block, blockBytes, byteAt, Used}
-use Rattle.block.specs.Check.{Verdict}
+use Rattle.block.specs.Check.{Passes}
 use Rattle.block.specs.Valid.{Valid}
 use Rattle.block.proofs.Passing.{passing}
 use Rattle.text.specs.Format.{Spells, accepted}
@@ -25,7 +25,7 @@ pub blank-zero : (n : ℕ) → n < blockBytes → byteAt blank n ≡ 0
 unfolding blank
 blank-zero n h = getD-replicate blockBytes n 0 0 h
 
-reads : (t : List ℕ) (b : Block) → readText t ≡ accepted b → Verdict b 0 × Spells job b t
+reads : (t : List ℕ) (b : Block) → readText t ≡ accepted b → Passes b × Spells job b t
 reads t b e =
     let (spells, bytes, kept) = sound job blank b t job-proper blank-length e in
     let fits = job-every _ b .0 (spells-good job b t spells) in
@@ -38,7 +38,5 @@ valid-reads t b v s = complete job blank b t job-proper (v .sized .bytes) (blank
 pub accepts : (t : List ℕ) → Exact t
 accepts t b = (reads t b, λ p. valid-reads t b (passing (p .0)) (p .1))
 
-pub round-trip : (b : Block) → Verdict b 0 → RoundTrip b
-round-trip b p =
-    let v = passing p in
-    valid-reads (textOf b) b v (written job b job-proper (job-every _ b .1 (valid-fits b v)))
+pub round-trip : (b : Block) → Valid b → RoundTrip b
+round-trip b v = valid-reads (textOf b) b v (written job b job-proper (job-every _ b .1 (valid-fits b v)))

@@ -1,19 +1,16 @@
 -- A valid block passes the check: the converse of block's Passing.
 -- Assumes nothing.
-use mathlib.Core.List.{List, [], _∷_}
 use mathlib.Core.Logic.{inl, inr}
 use mathlib.Core.Path.{refl}
 use Prim.Native.Nat.{ℕ, _<_, _^_}
 use native.Mathlib.Nat.{div-eq-of-lt}
 use native.Mathlib.Omega.{arith}
 use Rattle.block.specs.Decide.{Outside, BitFrom}
-use Rattle.block.specs.Refusal.{First, none, later}
 use Rattle.block.specs.Layout.{Block, agents, resources, states, cost, count, kind, Strategic}
-use Rattle.block.specs.Check.{BadSizes, agents-range, resources-range, states-range, propositions-range, rows-range, BadCost, BadActions, BadState, BadOperands, BadTeam, BadRow, kind-unknown, operands, coalition, prop-range, left-range, right-range, team-empty, team-absent, bound-range, Broken, blockOrder, Verdict}
+use Rattle.block.specs.Check.{BadSizes, agents-range, resources-range, states-range, propositions-range, rows-range, BadCost, BadActions, BadState, BadNext, BadOperands, BadTeam, BadRow, kind-unknown, operands, coalition, prop-range, left-range, right-range, team-empty, team-absent, bound-range, Passes}
 use Rattle.block.specs.Valid.{Range, RowFits, Valid}
-use Rattle.block.specs.declared.refusal.Refusal.{Refusal}
-use Rattle.block.specs.declared.refusal.Refusal.the-variants.{Length, Sizes, State, Next, Row, Unused, Form, RowChoice, Position, WrongSide, Move}
 use Rattle.block.proofs.Masks.{no-bit-above}
+use Rattle.block.proofs.Refusals.{past, answered}
 
 not-outside : (low high n : ℕ) → Range low high n → Outside low high n → ⊥
 not-outside low high n r (inl h) = omega arith
@@ -57,23 +54,14 @@ module _ (b : Block) (v : Valid b) where
   row-passes i r (operands h) = operands-pass i r h
   row-passes i r (coalition s h) = team-passes i r s h
 
-  -- none of the conditions holds
-  passes : (r : Refusal) → Broken b r → ⊥
-  passes Length h = h (v .sized .bytes)
-  passes Sizes h = sizes-pass h
-  passes State h = state-passes (h .0) (h .1) (h .2)
-  passes Next h = omega (arith, v .next-fits (h .0) (h .2 .0) (h .1) (h .2 .2 .0), h .2 .2 .1)
-  passes Row h = row-passes (h .0) (v .row-fits (h .0) (h .1)) (h .2)
-  passes Unused h = h .2 .1 (v .unused-zero (h .0) (h .1) (h .2 .0))
-  passes Form h = h
-  passes RowChoice h = h
-  passes Position h = h
-  passes WrongSide h = h
-  passes Move h = h
+  next-passes : (s joint : ℕ) → s < states b → BadNext b s joint → ⊥
+  next-passes s joint hs h = omega (arith, v .next-fits s joint hs (h .0), h .1)
 
-  pub valid-passes : Verdict b 0
-  valid-passes = every blockOrder
-    where
-      every : (rs : List Refusal) → First (Broken b) rs 0
-      every [] = none refl
-      every (r ∷ rs) = later (passes r) (every rs)
+  pub valid-passes : Passes b
+  valid-passes =
+      past (λ h. h (v .sized .bytes))
+      (past sizes-pass
+      (past (λ h. state-passes (h .0) (h .1) (h .2))
+      (past (λ h. next-passes (h .0) (h .2 .0) (h .1) (h .2 .2))
+      (past (λ h. row-passes (h .0) (v .row-fits (h .0) (h .1)) (h .2))
+      (past (λ h. h .2 .1 (v .unused-zero (h .0) (h .1) (h .2 .0))) (answered refl))))))

@@ -7,11 +7,12 @@ use Prim.Native.Nat.{ℕ}
 use lib.Dec.{ltb, eqb}
 use lib.ListN.{length, replicate}
 use Rattle.block.specs.Layout.{Block, blockBytes}
-use Rattle.block.specs.Check.{Broken, Verdict}
+use Rattle.block.specs.Refusal.{Meets}
+use Rattle.block.specs.Check.{blockRules, Passes}
 use Rattle.block.specs.declared.refusal.Refusal.{Refusal}
 use Rattle.block.specs.declared.refusal.Refusal.the-variants.{Length, Form}
-use Rattle.block.specs.declared.refusal.Checked.{Checked}
-use Rattle.block.specs.declared.refusal.Checked.the-variants.{Passed, Refused}
+use Rattle.block.specs.declared.refusal.Answer.{Answer}
+use Rattle.block.specs.declared.refusal.Answer.the-variants.{Value, Refused}
 use Rattle.text.specs.Format.{Outcome, accepted, refused, write, Spells, read, Stop, nowhere, stopped, stop}
 use Rattle.text.specs.Job.{either, job}
 use Rattle.text.specs.Broken.{BrokenAt, UnlimitedNumber}
@@ -36,8 +37,8 @@ abbrev pub readCall : List ℕ → Block → Outcome
 readCall t b = cond (either (ltb textBytes (length t)) (not (eqb (length b) blockBytes))) (refused Length) (readText t)
 
 -- the answer of a call that comes to an outcome, and the lent block afterwards
-abbrev pub answerTo : Outcome → Checked
-answerTo (accepted b) = Passed
+abbrev pub answerTo : Outcome → Answer
+answerTo (accepted b) = Value 0
 answerTo (refused r) = Refused r
 
 abbrev pub blockAfter : Block → Outcome → Block
@@ -45,19 +46,19 @@ blockAfter b (accepted c) = c
 blockAfter b (refused r) = b
 
 -- the outcome that an answer and a block stand for
-abbrev pub outcomeOf : Checked → Block → Outcome
-outcomeOf Passed b = accepted b
+abbrev pub outcomeOf : Answer → Block → Outcome
+outcomeOf (Value n) b = accepted b
 outcomeOf (Refused r) b = refused r
 
 -- a text is accepted as a block exactly where the block passes and the text is one of its texts
 abbrev pub Exact : List ℕ → Type 0
-Exact t = (b : Block) → (readText t ≡ accepted b) ↔ (Verdict b 0 × Spells job b t)
+Exact t = (b : Block) → (readText t ≡ accepted b) ↔ (Passes b × Spells job b t)
 
 -- a text that is refused at a value gets the number of the condition that the block read so far, with that value's byte, meets at that very place;
 -- one that is refused elsewhere gets the number of the form
 abbrev pub NumberedAt : Stop → Outcome → Type 0
 NumberedAt nowhere o = (r : Refusal) → o ≡ refused r → r ≡ Form
-NumberedAt (stopped p b t) o = (r : Refusal) × (o ≡ refused r) × ((BrokenAt b p r × Broken b r) ⊎ UnlimitedNumber b t p r)
+NumberedAt (stopped p b t) o = (r : Refusal) × (o ≡ refused r) × ((BrokenAt b p r × Meets (blockRules b) r) ⊎ UnlimitedNumber b t p r)
 
 abbrev pub Numbered : List ℕ → Type 0
 Numbered t = NumberedAt (stop job blank t) (readText t)

@@ -7,7 +7,6 @@ mod states;
 
 use block::fill;
 use block::refusal::Answer;
-use block::refusal::Checked;
 use block::refusal::Refusal;
 use job::job;
 use text::TEXT_BYTES;
@@ -21,11 +20,11 @@ pub fn write(block: &[u8], text: &mut [u8]) -> Answer
         return Answer::Refused(Refusal::Length);
     }
     match block::check(block) {
-        Checked::Passed => {
+        Answer::Value(_) => {
             let length = job(block, text);
             fill::zeros(text, length);
             Answer::Value(length)
         }
-        Checked::Refused(r) => Answer::Refused(r),
+        Answer::Refused(r) => Answer::Refused(r),
     }
 }

@@ -1,15 +1,15 @@
 -- `check` gives the verdict: the conditions are tried in order, each where those before it do not hold. Assumes nothing.
-use mathlib.Core.List.{_∷_, []}
 use mathlib.Core.Path.{refl}
-use Prim.Native.Nat.{ℕ}
 use borrow.Author.Needs.{needs}
-use Rattle.block.specs.Refusal.{First, none, here, later}
+use lib.ListN.{drop}
+use Rattle.block.specs.Refusal.{Answers, NoValue}
 use Rattle.block.specs.Layout.{Block}
-use Rattle.block.specs.Check.{Broken, Verdict}
+use Rattle.block.specs.Check.{blockRules, Verdict}
 use Rattle.block.specs.Valid.{Sized}
-use Rattle.block.specs.declared.refusal.Refusal.the-variants.{Length, Sizes, State, Next, Row, Unused}
+use Rattle.block.specs.declared.refusal.Answer.{Answer}
 use Rattle.block.proofs.Decide as D
 use Rattle.block.proofs.Passing.{sized, counted}
+use Rattle.block.proofs.Refusals.{turned-down, past, answered}
 use Rattle.block.proofs.check.Statement.{statement}
 use Rattle.block.proofs.check.Tie as tie
 
@@ -17,51 +17,51 @@ use Rattle.block.proofs.check.Tie as tie
 abbrev bytes : tie.Else1 → Block
 bytes c = c .before .before .args .block .now
 
--- past each test, the verdict is what the later conditions give
-past-length : (c : tie.Else1) {n : ℕ} → First (Broken (bytes c)) (Sizes ∷ State ∷ Next ∷ Row ∷ Unused ∷ []) n → Verdict (bytes c) n
-past-length c f = later {r = Length} (λ h. h (c .if1 .left)) f
+-- past each test, the verdict is what the later rules give
+past-length : (c : tie.Else1) {a : Answer} → Answers (drop 1 (blockRules (bytes c))) NoValue a → Verdict (bytes c) a
+past-length c f = past (λ h. h (c .if1 .left)) f
 
-past-sizes : (c : tie.Else2) {n : ℕ} → First (Broken (bytes (c .before .before))) (State ∷ Next ∷ Row ∷ Unused ∷ []) n → Verdict (bytes (c .before .before)) n
-past-sizes c f = past-length (c .before .before) (later (D.falsity (c .before .sizes-bad .ensures) (c .if2 .left)) f)
+past-sizes : (c : tie.Else2) {a : Answer} → Answers (drop 2 (blockRules (bytes (c .before .before)))) NoValue a → Verdict (bytes (c .before .before)) a
+past-sizes c f = past-length (c .before .before) (past (D.falsity (c .before .sizes-bad .ensures) (c .if2 .left)) f)
 
-past-states : (c : tie.Else3) {n : ℕ} → First (Broken (bytes (c .before .before .before .before))) (Next ∷ Row ∷ Unused ∷ []) n → Verdict (bytes (c .before .before .before .before)) n
-past-states c f = past-sizes (c .before .before) (later (D.falsity (c .before .states-bad .ensures) (c .if3 .left)) f)
+past-states : (c : tie.Else3) {a : Answer} → Answers (drop 3 (blockRules (bytes (c .before .before .before .before)))) NoValue a → Verdict (bytes (c .before .before .before .before)) a
+past-states c f = past-sizes (c .before .before) (past (D.falsity (c .before .states-bad .ensures) (c .if3 .left)) f)
 
-past-nexts : (c : tie.Else4) {n : ℕ} → First (Broken (bytes (c .before .before .before .before .before .before))) (Row ∷ Unused ∷ []) n → Verdict (bytes (c .before .before .before .before .before .before)) n
-past-nexts c f = past-states (c .before .before) (later (D.falsity (c .before .nexts-bad .ensures) (c .if4 .left)) f)
+past-nexts : (c : tie.Else4) {a : Answer} → Answers (drop 4 (blockRules (bytes (c .before .before .before .before .before .before)))) NoValue a → Verdict (bytes (c .before .before .before .before .before .before)) a
+past-nexts c f = past-states (c .before .before) (past (D.falsity (c .before .nexts-bad .ensures) (c .if4 .left)) f)
 
-past-rows : (c : tie.Else5) {n : ℕ} → First (Broken (bytes (c .before .before .before .before .before .before .before .before))) (Unused ∷ []) n → Verdict (bytes (c .before .before .before .before .before .before .before .before)) n
-past-rows c f = past-nexts (c .before .before) (later (D.falsity (c .before .rows-bad .ensures) (c .if5 .left)) f)
+past-rows : (c : tie.Else5) {a : Answer} → Answers (drop 5 (blockRules (bytes (c .before .before .before .before .before .before .before .before)))) NoValue a → Verdict (bytes (c .before .before .before .before .before .before .before .before)) a
+past-rows c f = past-nexts (c .before .before) (past (D.falsity (c .before .rows-bad .ensures) (c .if5 .left)) f)
 
 is-sized : (c : tie.Else2) → Sized (bytes (c .before .before))
 is-sized c = sized (c .before .before .if1 .left) (D.falsity (c .before .sizes-bad .ensures) (c .if2 .left))
 
 returns : tie.Need-returns
-returns c = here (c .if1 .taken) refl
+returns c = turned-down (c .if1 .taken)
 
 sizes-bad-requires : tie.Need-sizes-bad-requires
 sizes-bad-requires c κs = search needs
 
 returns-2 : tie.Need-returns-2
-returns-2 c = past-length (c .before .before) (here (D.truth (c .before .sizes-bad .ensures) (c .if2 .taken)) refl)
+returns-2 c = past-length (c .before .before) (turned-down (D.truth (c .before .sizes-bad .ensures) (c .if2 .taken)))
 
 states-bad-requires : tie.Need-states-bad-requires
 states-bad-requires c κs = is-sized c
 
 returns-3 : tie.Need-returns-3
-returns-3 c = past-sizes (c .before .before) (here (D.truth (c .before .states-bad .ensures) (c .if3 .taken)) refl)
+returns-3 c = past-sizes (c .before .before) (turned-down (D.truth (c .before .states-bad .ensures) (c .if3 .taken)))
 
 nexts-bad-requires : tie.Need-nexts-bad-requires
 nexts-bad-requires c κs = is-sized (c .before .before)
 
 returns-4 : tie.Need-returns-4
-returns-4 c = past-states (c .before .before) (here (D.truth (c .before .nexts-bad .ensures) (c .if4 .taken)) refl)
+returns-4 c = past-states (c .before .before) (turned-down (D.truth (c .before .nexts-bad .ensures) (c .if4 .taken)))
 
 rows-bad-requires : tie.Need-rows-bad-requires
 rows-bad-requires c κs = is-sized (c .before .before .before .before)
 
 returns-5 : tie.Need-returns-5
-returns-5 c = past-nexts (c .before .before) (here (D.truth (c .before .rows-bad .ensures) (c .if5 .taken)) refl)
+returns-5 c = past-nexts (c .before .before) (turned-down (D.truth (c .before .rows-bad .ensures) (c .if5 .taken)))
 
 places-bad-requires : tie.Need-places-bad-requires
 places-bad-requires c κs =
@@ -69,10 +69,10 @@ places-bad-requires c κs =
     (is-sized (past .before .before), counted (bytes (past .before .before .before .before)) (D.falsity (past .before .states-bad .ensures) (past .if3 .left)))
 
 returns-6 : tie.Need-returns-6
-returns-6 c = past-rows (c .before .before) (here (D.truth (c .before .places-bad .ensures) (c .if6 .taken)) refl)
+returns-6 c = past-rows (c .before .before) (turned-down (D.truth (c .before .places-bad .ensures) (c .if6 .taken)))
 
 returns-7 : tie.Need-returns-7
-returns-7 c = past-rows (c .before .before) (later (D.falsity (c .before .places-bad .ensures) (c .if6 .left)) (none refl))
+returns-7 c = past-rows (c .before .before) (past (D.falsity (c .before .places-bad .ensures) (c .if6 .left)) (answered refl))
 
 pub check-spec : {M : Type 1} → statement M
 check-spec =

@@ -7,8 +7,8 @@ use Rattle.rbatl.proofs.rbatl_list.Tie as tie
 listing-requires : tie.Need-listing-requires
 listing-requires c κs = search needs
 
-value-requires : tie.Need-value-requires
-value-requires c κs =
+code-requires : tie.Need-code-requires
+code-requires c κs =
     let args = c .before .before .before .before .before .before .before .before .before .before .before .before .before .before .args in
     let listed = c .before .before .before .before .before .before .listing in
     small-listing (args .text .now) (args .listing .now) (args .ranks .now) (args .moves .now) (listed .last .1 .0) (listed .last .1 .1 .0) (listed .last .1 .1 .1 .0) (listed .result) (listed .ensures)
@@ -28,4 +28,4 @@ returns c = search needs
 pub rbatl-list-spec : {M : Type 1} → statement M
 rbatl-list-spec =
     tie.close
-    (tie.spec listing-requires value-requires same-length same-length-2 same-length-3 returns)
+    (tie.spec listing-requires code-requires same-length same-length-2 same-length-3 returns)

@@ -1,43 +1,94 @@
--- `reply` looks at the lengths, answers, and clears the room. Assumes nothing.
+-- `reply` refuses first, then answers, and clears the room. Assumes nothing.
 use mathlib.Core.List.{[], _∷_}
-use mathlib.Core.Logic.{inl, inr}
 use native.Mathlib.Omega.{arith}
-use borrow.Author.Needs.{needs}
-use Rattle.turns.proofs.Bytes.{cleared}
-use Rattle.block.specs.declared.refusal.Refusal.the-variants as refusal
+use lib.ListN.{length}
+use Rattle.block.proofs.Refusals.{turned-down, past, refused, passed, none-holds, room-left, room-cleared}
 use Rattle.game.specs.Position.{position}
-use Rattle.game.specs.Demand.{RowReply}
 use Rattle.game.proofs.Blocks.Rowwise.{row-demanded}
-use Rattle.lookup.proofs.Refusing.{clears, another-length, LateReply, late-reply}
+use Rattle.turns.proofs.Bytes.{cleared}
+use Rattle.lookup.specs.Calls.{answerRules}
+use Rattle.lookup.proofs.Refusing.{place-admitted, reply-answered, reply-other}
+use Rattle.lookup.proofs.Replying.{not-both}
+use borrow.Author.Needs.{needs}
 use Rattle.lookup.proofs.opponents.reply.Statement.{statement}
 use Rattle.lookup.proofs.opponents.reply.Tie as tie
 
 returns : tie.Need-returns
-returns c = let args = c .before .before .before .args in (another-length (args .block .now) (args .i) (args .s) (args .stock0 ∷ args .stock1 ∷ []) (args .room .now) (LateReply (args .block .now) (args .i) (args .s) (args .stock0 ∷ args .stock1 ∷ []) (args .m)) (late-reply (args .block .now) (args .i) (args .s) (args .stock0 ∷ args .stock1 ∷ []) (args .m)) (refusal.WrongSide ∷ refusal.Move ∷ []) (RowReply (args .block .now) (args .i) (position (args .s) (args .stock0 ∷ args .stock1 ∷ [])) (args .m)) (inl (c .if1 .taken)), row-demanded (args .block .now) (args .i))
+returns c = (record { answer = turned-down (c .if1 .taken); room-after = room-left }, row-demanded (c .before .before .before .args .block .now) (c .before .before .before .args .i))
 
-returns-2 : tie.Need-returns-2
-returns-2 c = let args = c .before .before .before .before .args in (another-length (args .block .now) (args .i) (args .s) (args .stock0 ∷ args .stock1 ∷ []) (args .room .now) (LateReply (args .block .now) (args .i) (args .s) (args .stock0 ∷ args .stock1 ∷ []) (args .m)) (late-reply (args .block .now) (args .i) (args .s) (args .stock0 ∷ args .stock1 ∷ []) (args .m)) (refusal.WrongSide ∷ refusal.Move ∷ []) (RowReply (args .block .now) (args .i) (position (args .s) (args .stock0 ∷ args .stock1 ∷ [])) (args .m)) (inr (c .if2 .taken)), row-demanded (args .block .now) (args .i))
+slice-aggregate-position : tie.Need-slice-aggregate-position
+slice-aggregate-position c = search needs
 
-slice-aggregate-opponents-answer : tie.Need-slice-aggregate-opponents-answer
-slice-aggregate-opponents-answer c = search needs
+position-requires : tie.Need-position-requires
+position-requires c κs = search needs
 
-opponents-answer-requires : tie.Need-opponents-answer-requires
-opponents-answer-requires c κs = (omega arith, omega (arith, c .before .before .if2 .left))
+enum-told : tie.Need-enum-told
+enum-told c = search needs
+
+slice-aggregate-opponents-at : tie.Need-slice-aggregate-opponents-at
+slice-aggregate-opponents-at c = search needs
+
+opponents-at-requires : tie.Need-opponents-at-requires
+opponents-at-requires c κs =
+    let args = c .before .before .before .before .before .before .before .before .before .args in
+    let (valid, (row, fits)) = place-admitted (args .block .now) (args .i) (args .s) (args .stock0 ∷ args .stock1 ∷ []) (none-holds (rw (c .before .before .enum-told .given .1) at (c .before .before .before .before .position .ensures))) in
+    (valid, ((row .0, row .1, omega (arith, valid .sized .resources-fit), omega (arith, c .before .before .before .before .before .before .if1 .left)), fits))
 
 zeros-requires : tie.Need-zeros-requires
 zeros-requires c κs = search needs
 
+enum-known-r : tie.Need-enum-known-r
+enum-known-r c = search needs
+
+leave-requires : tie.Need-leave-requires
+leave-requires c κs = search needs
+
 same-length : tie.Need-same-length
 same-length c = search needs
 
+returns-2 : tie.Need-returns-2
+returns-2 c =
+    let args = c .before .before .before .before .before .before .before .before .before .before .before .before .before .before .before .before .args in
+    let b = args .block .now in
+    let p = position (args .s) (args .stock0 ∷ args .stock1 ∷ []) in
+    let told = rw (c .before .before .before .before .before .before .before .before .before .enum-told .given .1) at (c .before .before .before .before .before .before .before .before .before .before .before .position .ensures) in
+    let (valid, (row, fits)) = place-admitted b (args .i) (args .s) (args .stock0 ∷ args .stock1 ∷ []) (none-holds told) in
+    let found = c .before .before .before .before .before .before .opponents-at in (
+      record {
+        answer = past (λ h. h (c .before .before .before .before .before .before .before .before .before .before .before .before .before .if1 .left)) (passed told (reply-answered b (args .i) p (args .m) (not-both b valid (args .i) row p fits) (found .result) (found .ensures .0)));
+        room-after = room-cleared (reply-other b (args .i) p (args .m) (found .result) (found .ensures .0)) (cleared (found .last .1 .1 .1 .1 .1 .0) (c .before .before .zeros .last .0) (length (args .room .now)) (c .before .before .zeros .ensures) (found .ensures .1));
+      },
+      row-demanded b (args .i),
+    )
+
+same-length-2 : tie.Need-same-length-2
+same-length-2 c = search needs
+
 returns-3 : tie.Need-returns-3
 returns-3 c =
-    let args = c .before .before .before .before .before .before .before .before .before .before .before .before .before .args in
-    let found = c .before .before .before .before .before .before .opponents-answer in (
-      clears (args .block .now) (args .i) (args .s) (args .stock0 ∷ args .stock1 ∷ []) (args .room .now) (LateReply (args .block .now) (args .i) (args .s) (args .stock0 ∷ args .stock1 ∷ []) (args .m)) (late-reply (args .block .now) (args .i) (args .s) (args .stock0 ∷ args .stock1 ∷ []) (args .m)) (refusal.WrongSide ∷ refusal.Move ∷ []) (RowReply (args .block .now) (args .i) (position (args .s) (args .stock0 ∷ args .stock1 ∷ [])) (args .m)) (c .before .before .before .before .before .before .before .before .before .if2 .left) (c .before .before .before .before .before .before .before .before .before .before .if1 .left) (omega arith, (omega arith, tt)) (c .before .before .zeros .last .0) (found .result) (found .ensures .0)
-          (cleared (found .last .1 .1 .1 .1 .1 .0) (c .before .before .zeros .last .0) 12288 (c .before .before .zeros .ensures) (omega (arith, found .ensures .1, c .before .before .before .before .before .before .before .before .before .if2 .left))),
+    let args = c .before .before .before .before .before .before .before .before .before .before .before .before .args in
+    let p = position (args .s) (args .stock0 ∷ args .stock1 ∷ []) in (
+      record {
+        answer = past (λ h. h (c .before .before .before .before .before .before .before .before .before .if1 .left)) (refused (answerRules (args .block .now) (args .i) p (args .m)) (rw (c .before .before .before .before .before .r .given .1) at (c .before .before .before .before .before .before .before .position .ensures)));
+        room-after = c .before .before .leave .ensures;
+      },
       row-demanded (args .block .now) (args .i),
     )
 
 pub reply-spec : {M : Type 1} → statement M
-reply-spec = tie.close (tie.spec returns returns-2 slice-aggregate-opponents-answer opponents-answer-requires zeros-requires same-length returns-3)
+reply-spec =
+    tie.close
+    (tie.spec
+    returns
+    slice-aggregate-position
+    position-requires
+    enum-told
+    slice-aggregate-opponents-at
+    opponents-at-requires
+    zeros-requires
+    enum-known-r
+    leave-requires
+    same-length
+    returns-2
+    same-length-2
+    returns-3)

@@ -1,6 +1,8 @@
 -- `states_refusal` tries what the lister tries, and leaves the room as it does. Assumes nothing.
-use native.Mathlib.Omega.{arith}
-use Rattle.lookup.proofs.Calls.{room-cleared}
+use mathlib.Core.List.{[]}
+use mathlib.Core.Path.{refl}
+use Rattle.block.proofs.Zeros.{cleared}
+use Rattle.block.proofs.Refusals.{no-refusal, answered, refused, passed, room-cleared}
 use borrow.Author.Needs.{needs}
 use Rattle.lookup.proofs.states.states_refusal.Statement.{statement}
 use Rattle.lookup.proofs.states.states_refusal.Tie as tie
@@ -18,23 +20,22 @@ enum-known-r : tie.Need-enum-known-r
 enum-known-r c = search needs
 
 leave-requires : tie.Need-leave-requires
-leave-requires c κs = (rw (c .before .before .r .given .1) at (c .before .before .before .before .turned-down .ensures)) .1
+leave-requires c κs = search needs
 
 same-length : tie.Need-same-length
 same-length c = search needs
 
 returns : tie.Need-returns
-returns c =
-    let told = rw (c .before .before .before .before .enum-told .given .1) at (c .before .before .before .before .before .before .turned-down .ensures) in
-    record { number = told .0; room-after = room-cleared (c .before .before .before .before .before .before .before .before .before .before .args .room .now) (c .before .before .before .before .before .before .before .before .before .before .args .room .now) (c .before .before .zeros .last .0) 0 (λ e. omega arith) (told .1 .1 .1 .1) (c .before .before .zeros .ensures) }
+returns c = record {
+  answer = passed (rw (c .before .before .before .before .enum-told .given .1) at (c .before .before .before .before .before .before .turned-down .ensures)) (answered refl);
+  room-after = room-cleared no-refusal (cleared (c .before .before .before .before .before .before .before .before .before .before .args .room .now) (c .before .before .zeros .ensures));
+}
 
 same-length-2 : tie.Need-same-length-2
 same-length-2 c = search needs
 
 returns-2 : tie.Need-returns-2
-returns-2 c =
-    let told = rw (c .before .before .before .before .before .r .given .1) at (c .before .before .before .before .before .before .before .turned-down .ensures) in
-    record { number = told .0; room-after = c .before .before .leave .ensures }
+returns-2 c = record { answer = refused [] (rw (c .before .before .before .before .before .r .given .1) at (c .before .before .before .before .before .before .before .turned-down .ensures)); room-after = c .before .before .leave .ensures }
 
 pub states-refusal-spec : {M : Type 1} → statement M
 states-refusal-spec =

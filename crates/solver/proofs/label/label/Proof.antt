@@ -1,27 +1,25 @@
 -- `label` refuses first, and then labels every row into sets that hold zeros. Assumes nothing.
-use mathlib.Core.List.{List}
-use mathlib.Core.Logic.{inl, inr}
-use mathlib.Core.Path.{_∙_, ap}
+use mathlib.Core.List.{List, []}
+use mathlib.Core.Path.{refl, _∙_, ap}
 use Prim.Native.Nat.{ℕ, _≤_}
 use native.Mathlib.Omega.{arith}
+use lib.ListN.{length}
 use Rattle.block.specs.Layout as L
 use Rattle.block.proofs.Passing.{passing}
+use Rattle.block.proofs.Refusals.{no-refusal, turned-down, past, answered, refused, passed, room-left, room-cleared}
 use Rattle.turns.specs.Buffers.{wordIn}
 use Rattle.turns.proofs.Bytes.{cleared, zero-word}
-use Rattle.solver.proofs.Calls.{label-length, label-refused, label-passed}
+use Rattle.solver.proofs.Calls.{sets-in}
 use Rattle.solver.proofs.Needing.{all-ones, all-closed}
 use borrow.Author.Needs.{needs}
 use Rattle.solver.proofs.label.label.Statement.{statement}
 use Rattle.solver.proofs.label.label.Tie as tie
 
 returns : tie.Need-returns
-returns c = let args = c .before .before .before .before .args in label-length (args .block .now) (args .sets .now) (args .room .now) (inl (c .if1 .taken))
+returns c = record { answer = turned-down (c .if1 .taken); kept = refl; room-after = room-left }
 
 returns-2 : tie.Need-returns-2
-returns-2 c = let args = c .before .before .before .before .before .args in label-length (args .block .now) (args .sets .now) (args .room .now) (inr (inl (c .if2 .taken)))
-
-returns-3 : tie.Need-returns-3
-returns-3 c = let args = c .before .before .before .before .before .before .args in label-length (args .block .now) (args .sets .now) (args .room .now) (inr (inr (c .if3 .taken)))
+returns-2 c = record { answer = past (λ h. h (c .before .if1 .left)) (turned-down (c .if2 .taken)); kept = refl; room-after = room-left }
 
 check-requires : tie.Need-check-requires
 check-requires c κs = search needs
@@ -33,14 +31,14 @@ zeros-requires : tie.Need-zeros-requires
 zeros-requires c κs = search needs
 
 rows-requires : tie.Need-rows-requires
-rows-requires c κs = search needs
+rows-requires c κs = passing {b = c .before .before .before .before .before .before .before .before .before .before .before .before .args .block .now} (rw (c .before .before .before .before .enum-told .given .1) at (c .before .before .before .before .before .before .check .ensures)) .sized .bytes
 
 label-rows-requires : tie.Need-label-rows-requires
 label-rows-requires c κs =
-    let b = c .before .before .before .before .before .before .before .before .before .before .before .before .before .before .before .before .args .block .now in
-    let valid = passing (rw (c .before .before .before .before .before .before .before .enum-told .given .1) at (c .before .before .before .before .before .before .before .before .before .check .ensures)) in
+    let b = c .before .before .before .before .before .before .before .before .before .before .before .before .before .before .before .args .block .now in
+    let valid = passing {b = c .before .before .before .before .before .before .before .before .before .before .before .before .before .before .before .args .block .now} (rw (c .before .before .before .before .before .before .before .enum-told .given .1) at (c .before .before .before .before .before .before .before .before .before .check .ensures)) in
     let few : c .before .before .rows .result ≤ L.rows b = omega (arith, c .before .before .rows .ensures) in
-    (valid, ((few, omega (arith, c .before .before .before .before .before .zeros .kept .0, c .before .before .before .before .before .before .before .before .before .before .before .if2 .left), omega (arith, c .before .before .before .before .before .before .before .before .before .before .if3 .left)), all-closed b valid (c .before .before .rows .result) few))
+    (valid, ((few, omega (arith, c .before .before .before .before .before .zeros .kept .0, c .before .before .before .before .before .before .before .before .before .before .before .if1 .left), omega (arith, c .before .before .before .before .before .before .before .before .before .before .if2 .left)), all-closed b valid (c .before .before .rows .result) few))
 
 zeros-requires-2 : tie.Need-zeros-requires-2
 zeros-requires-2 c κs = search needs
@@ -48,8 +46,8 @@ zeros-requires-2 c κs = search needs
 enum-known-r : tie.Need-enum-known-r
 enum-known-r c = search needs
 
-zeros-requires-3 : tie.Need-zeros-requires-3
-zeros-requires-3 c κs = search needs
+leave-requires : tie.Need-leave-requires
+leave-requires c κs = search needs
 
 same-length : tie.Need-same-length
 same-length c = search needs
@@ -57,29 +55,36 @@ same-length c = search needs
 same-length-2 : tie.Need-same-length-2
 same-length-2 c = search needs
 
-returns-4 : tie.Need-returns-4
-returns-4 c =
-    let args = c .before .before .before .before .before .before .before .before .before .before .before .before .before .before .before .before .before .before .before .before .before .before .before .before .before .args in
-    let b = args .block .now in
+returns-3 : tie.Need-returns-3
+returns-3 c =
+    let args = c .before .before .before .before .before .before .before .before .before .before .before .before .before .before .before .before .before .before .before .before .before .before .before .before .args in
     let rows = c .before .before .before .before .before .before .before .before .label-rows in
-    let first = cleared (args .sets .now) (c .before .before .before .before .before .before .before .before .before .before .before .before .before .before .zeros .last .0) 128 (c .before .before .before .before .before .before .before .before .before .before .before .before .before .before .zeros .ensures) (c .before .before .before .before .before .before .before .before .before .before .before .before .before .before .before .before .before .before .before .before .if2 .left) in
     let all = c .before .before .before .before .before .before .before .before .before .before .before .rows .ensures in
+    let sets-long = c .before .before .before .before .before .before .before .before .before .before .before .before .before .before .before .before .before .before .before .before .if1 .left in
+    let first = cleared (args .sets .now) (c .before .before .before .before .before .before .before .before .before .before .before .before .before .before .zeros .last .0) 128 (c .before .before .before .before .before .before .before .before .before .before .before .before .before .before .zeros .ensures) sets-long in
     let told = rw (c .before .before .before .before .before .before .before .before .before .before .before .before .before .before .before .before .enum-told .given .1) at (c .before .before .before .before .before .before .before .before .before .before .before .before .before .before .before .before .before .before .check .ensures) in
-    label-passed b (args .sets .now) (args .room .now) (c .before .before .before .before .before .before .before .before .before .before .before .before .before .before .before .before .before .before .before .before .before .if1 .left) (c .before .before .before .before .before .before .before .before .before .before .before .before .before .before .before .before .before .before .before .before .if2 .left) (c .before .before .before .before .before .before .before .before .before .before .before .before .before .before .before .before .before .before .before .if3 .left) (rows .last .1 .1 .1 .0) (c .before .before .zeros2 .last .0)
-    told
-    (λ j l. rows .ensures .0 .each j (omega (arith, all), all-ones 32 j (omega (arith, passing told .sized .rows-fit))))
-    (λ j l. rows .ensures .0 .others j (λ (small, _). omega (arith, all)) ∙ ap (λ (x : List ℕ). wordIn x j) first ∙ zero-word 128 j)
-    (omega (arith, rows .ensures .0 .long, c .before .before .before .before .before .before .before .before .before .before .before .before .before .before .zeros .kept .0, c .before .before .before .before .before .before .before .before .before .before .before .before .before .before .before .before .before .before .before .before .if2 .left))
-    (cleared (rows .last .1 .1 .1 .1 .0) (c .before .before .zeros2 .last .0) 12288 (c .before .before .zeros2 .ensures) (omega (arith, rows .ensures .1, c .before .before .before .before .before .before .before .before .before .before .before .before .before .before .before .before .before .before .before .if3 .left)))
+    let valid = passing {b = args .block .now} told in
+    record {
+      answer = past (λ h. h sets-long) (past (λ h. h (c .before .before .before .before .before .before .before .before .before .before .before .before .before .before .before .before .before .before .before .if2 .left)) (passed told (answered (
+        refl,
+        sets-in (args .block .now) (rows .last .1 .1 .1 .0) valid
+            (λ j l. rows .ensures .0 .each j (omega (arith, all), all-ones 32 j (omega (arith, valid .sized .rows-fit))))
+            (λ j l. rows .ensures .0 .others j (λ (small, _). omega (arith, all)) ∙ ap (λ (x : List ℕ). wordIn x j) first ∙ zero-word 128 j)
+            (omega (arith, rows .ensures .0 .long, c .before .before .before .before .before .before .before .before .before .before .before .before .before .before .zeros .kept .0, sets-long)),
+      ))));
+      kept = tt;
+      room-after = room-cleared no-refusal (cleared (rows .last .1 .1 .1 .1 .0) (c .before .before .zeros2 .last .0) (length (args .room .now)) (c .before .before .zeros2 .ensures) (rows .ensures .1));
+    }
 
 same-length-3 : tie.Need-same-length-3
 same-length-3 c = search needs
 
-returns-5 : tie.Need-returns-5
-returns-5 c =
-    let args = c .before .before .before .before .before .before .before .before .before .before .before .before .before .before .args in
-    label-refused (args .block .now) (args .sets .now) (args .room .now) (c .before .before .before .before .before .before .before .before .before .before .if1 .left) (c .before .before .before .before .before .before .before .before .before .if2 .left) (c .before .before .before .before .before .before .before .before .if3 .left) (c .before .before .before .before .before .r .given .0 .0) (c .before .before .zeros3 .last .0)
-    (rw (c .before .before .before .before .before .r .given .1) at (c .before .before .before .before .before .before .before .check .ensures)) (cleared (args .room .now) (c .before .before .zeros3 .last .0) 12288 (c .before .before .zeros3 .ensures) (c .before .before .before .before .before .before .before .before .if3 .left))
+returns-4 : tie.Need-returns-4
+returns-4 c = record {
+  answer = past (λ h. h (c .before .before .before .before .before .before .before .before .before .if1 .left)) (past (λ h. h (c .before .before .before .before .before .before .before .before .if2 .left)) (refused [] (rw (c .before .before .before .before .before .r .given .1) at (c .before .before .before .before .before .before .before .check .ensures))));
+  kept = refl;
+  room-after = c .before .before .leave .ensures;
+}
 
 pub label-spec : {M : Type 1} → statement M
 label-spec =
@@ -87,7 +92,6 @@ label-spec =
     (tie.spec
     returns
     returns-2
-    returns-3
     check-requires
     enum-told
     zeros-requires
@@ -95,9 +99,9 @@ label-spec =
     label-rows-requires
     zeros-requires-2
     enum-known-r
-    zeros-requires-3
+    leave-requires
     same-length
     same-length-2
-    returns-4
+    returns-3
     same-length-3
-    returns-5)
+    returns-4)
