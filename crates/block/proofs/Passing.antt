@@ -8,13 +8,16 @@ use native.Mathlib.Omega.{arith}
 use lib.ListN.{length}
 use lib.Pow.{pow-pos}
 use Rattle.block.specs.Decide.{Decides, holds, fails, Some, Outside, BitFrom}
-use Rattle.block.specs.Layout.{Block, blockBytes, agents, resources, states, cost}
-use Rattle.block.specs.Check.{BadSizes, agents-range, resources-range, states-range, propositions-range, rows-range, BadState, BadRow, kind-unknown, operands, coalition, prop-range, left-range, right-range, team-empty, team-absent, bound-range, blockRules, Verdict}
+use Rattle.block.specs.Refusal.{Meets}
+use Rattle.block.specs.Layout.{Block, blockBytes, maxJoint, agents, resources, states, rows, cost}
+use Rattle.block.specs.Check.{BadSizes, agents-range, resources-range, states-range, propositions-range, rows-range, BadState, BadNext, BadRow, BadPlace, kind-unknown, operands, coalition, prop-range, left-range, right-range, team-empty, team-absent, bound-range, blockRules, Verdict}
 use Rattle.block.specs.Valid.{Range, Sized, Counted, RowFits, Valid}
+use Rattle.block.specs.declared.refusal.Refusal.{Refusal}
+use Rattle.block.specs.declared.refusal.Refusal.the-variants.{Length, Sizes, State, Next, Row, Unused}
 use Rattle.block.specs.declared.refusal.Answer.the-variants.{Value}
 use Rattle.block.proofs.Decide as D
 use Rattle.block.proofs.Masks.{bit-above}
-use Rattle.block.proofs.Refusals.{Fails, none-holds}
+use Rattle.block.proofs.Refusals.{Fails, none-holds, unmet}
 
 -- an equation of numbers that cannot fail holds
 pub stable : (a b : ℕ) → ((a ≡ b → ⊥) → ⊥) → a ≡ b
@@ -74,18 +77,26 @@ row-valid {b} {i} h = record {
   bound-fits = λ s j hj g. stable _ _ (λ x. h (coalition s (bound-range (j, hj, (g, x)))));
 }
 
--- none of the block's conditions holds
+-- none of the block's conditions holds, in whatever order they are tried
 pub unbroken : (b : Block) → Fails (blockRules b) → Valid b
-unbroken b (no-length, (no-sizes, (no-state, (no-next, (no-row, (no-unused, _)))))) = record {
-  sized = sized (stable _ _ no-length) no-sizes;
-  counted = counted b no-state;
-  mask-fits = λ s hs. below-bit _ _ (λ x. no-state (s, hs, inl x));
-  cost-fits = λ s a k j hs ha hk hj. at-most (λ x. no-state (s, hs, inr (a, ha, inr (k, hk, (j, hj, inl x)))));
-  idle-free = idle-valid b no-state;
-  next-fits = λ s joint hs av. below (λ x. no-next (s, hs, (joint, av .0, (av, x))));
-  row-fits = λ i hi. row-valid (λ x. no-row (i, hi, x));
-  unused-zero = λ p hp u. stable _ _ (λ z. no-unused (p, hp, (u, z)));
-}
+unbroken b none =
+    let no : (r : Refusal) → Meets (blockRules b) r → ⊥ = unmet (blockRules b) none in
+    let no-length : (length b ≡ blockBytes → ⊥) → ⊥ = λ x. no Length (search (inl, inr) depth 8) in
+    let no-sizes : BadSizes b → ⊥ = λ x. no Sizes (search (inl, inr) depth 8) in
+    let no-state : Some (states b) (BadState b) → ⊥ = λ x. no State (search (inl, inr) depth 8) in
+    let no-next : Some (states b) (λ s. Some maxJoint (BadNext b s)) → ⊥ = λ x. no Next (search (inl, inr) depth 8) in
+    let no-row : Some (rows b) (BadRow b) → ⊥ = λ x. no Row (search (inl, inr) depth 8) in
+    let no-unused : Some blockBytes (BadPlace b) → ⊥ = λ x. no Unused (search (inl, inr) depth 8) in
+    record {
+      sized = sized (stable _ _ no-length) no-sizes;
+      counted = counted b no-state;
+      mask-fits = λ s hs. below-bit _ _ (λ x. no-state (s, hs, inl x));
+      cost-fits = λ s a k j hs ha hk hj. at-most (λ x. no-state (s, hs, inr (a, ha, inr (k, hk, (j, hj, inl x)))));
+      idle-free = idle-valid b no-state;
+      next-fits = λ s joint hs av. below (λ x. no-next (s, hs, (joint, av .0, (av, x))));
+      row-fits = λ i hi. row-valid (λ x. no-row (i, hi, x));
+      unused-zero = λ p hp u. stable _ _ (λ z. no-unused (p, hp, (u, z)));
+    }
 
 pub passing : {b : Block} {n : ℕ} → Verdict b (Value n) → Valid b
 passing {b} v = unbroken b (none-holds v)

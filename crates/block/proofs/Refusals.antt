@@ -5,7 +5,7 @@ use mathlib.Core.Path.{_≡_, refl}
 use Prim.Native.Nat.{ℕ}
 use native.Mathlib.Omega.{arith}
 use lib.ListN.{length, replicate}
-use Rattle.block.specs.Refusal.{Rule, _when_, Tried, First, Gives, value, Answers, RoomAfter}
+use Rattle.block.specs.Refusal.{Rule, _when_, Tried, First, Gives, value, Answers, Meets, RoomAfter}
 use Rattle.block.specs.declared.refusal.Refusal.{Refusal}
 use Rattle.block.specs.declared.refusal.Refusal.the-variants.{Length}
 use Rattle.block.specs.declared.refusal.Answer.{Answer}
@@ -55,6 +55,10 @@ none-holds {rules} {Rest} {n} w = go rules (w .tried)
     go [] w = tt
     go ((r when P) ∷ rules) (inl h) = no-refusal (h .1)
     go ((r when P) ∷ rules) (inr (h, w)) = (h, go rules w)
+
+pub unmet : (rules : List Rule) → Fails rules → (r : Refusal) → Meets rules r → ⊥
+unmet ((q when P) ∷ rules) (h, fails) r (inl (e, holds)) = h holds
+unmet ((q when P) ∷ rules) (h, fails) r (inr later) = unmet rules fails r later
 
 pub apart : (rules more : List Rule) → Fails (rules ++ more) → Fails rules × Fails more
 apart [] more fails = (tt, fails)

@@ -14,9 +14,9 @@ use lib.Dec.{T, ltb, leb, eqb, leb→le, lit<}
 use lib.Pow.{pow-pos}
 use borrow.Author.Tests.{ltb-false, leb-false, lt-ltb}
 use Rattle.block.specs.Decide.{Some, BitFrom}
-use Rattle.block.specs.Layout.{Block, placeOf, InLayout, at, agents, resources, states, propositions, rows, mask, cost, kind, left, team, bound, maxRows, nextKind, untilKind, propKind, Strategic}
+use Rattle.block.specs.Layout.{Block, placeOf, InLayout, at, agents, resources, states, propositions, rows, mask, cost, kind, left, team, bound, maxRows, maxJoint, nextKind, untilKind, propKind, Strategic}
 use Rattle.block.specs.Refusal.{Meets}
-use Rattle.block.specs.Check.{BadSizes, agents-range, resources-range, states-range, propositions-range, rows-range, prop-range, left-range, right-range, team-empty, team-absent, bound-range, operands, coalition, BadState, BadRow, blockRules}
+use Rattle.block.specs.Check.{BadSizes, agents-range, resources-range, states-range, propositions-range, rows-range, prop-range, left-range, right-range, team-empty, team-absent, bound-range, operands, coalition, BadState, BadNext, BadRow, blockRules}
 use Rattle.block.specs.declared.layout.Place.{Place}
 use Rattle.block.specs.declared.layout.Place.the-variants.{Header, Mask, Count, Cost, Next, Field}
 use Rattle.block.specs.declared.refusal.Refusal.{Refusal}
@@ -35,32 +35,35 @@ use Rattle.text.proofs.Possible.{possible-acts}
 use Rattle.text.proofs.Fitting.{binary-case, on-zero, on-other}
 use Rattle.text.proofs.Accepts.{blank-length, blank-zero}
 
--- the block's second, third and fifth rule are met
-second : {b : Block} → BadSizes b → Meets (blockRules b) refusal.Sizes
-second h = inr (inl (refl, h))
+-- the conditions of the sizes, the states and the rows, wherever they stand among the block's
+sizes-met : {b : Block} → BadSizes b → Meets (blockRules b) refusal.Sizes
+sizes-met h = search (inl, inr) depth 8
 
-third : {b : Block} → Some (states b) (BadState b) → Meets (blockRules b) refusal.State
-third h = inr (inr (inl (refl, h)))
+state-met : {b : Block} → Some (states b) (BadState b) → Meets (blockRules b) refusal.State
+state-met h = search (inl, inr) depth 8
 
-fifth : {b : Block} → Some (rows b) (BadRow b) → Meets (blockRules b) refusal.Row
-fifth h = inr (inr (inr (inr (inl (refl, h)))))
+next-met : {b : Block} → Some (states b) (λ s. Some maxJoint (BadNext b s)) → Meets (blockRules b) refusal.Next
+next-met h = search (inl, inr) depth 8
+
+row-met : {b : Block} → Some (rows b) (BadRow b) → Meets (blockRules b) refusal.Row
+row-met h = search (inl, inr) depth 8
 
 pub broken-at : {b : Block} {p : Place} {r : Refusal} → BrokenAt b p r → Meets (blockRules b) r
-broken-at (agents-at h) = second (agents-range h)
-broken-at (resources-at h) = second (resources-range h)
-broken-at (states-at h) = second (states-range h)
-broken-at (propositions-at h) = second (propositions-range h)
-broken-at (rows-at h) = second (rows-range h)
-broken-at (mask-at {s} hs h) = third (s, hs, inl h)
-broken-at (count-at {s} {a} hs ha h) = third (s, hs, inr (a, ha, inl h))
-broken-at (cost-at {s} {a} {k} {j} hs ha hk hj h) = third (s, hs, inr (a, ha, inr (k, hk, (j, hj, h))))
-broken-at (next-at {s} {joint} hs h) = inr (inr (inr (inl (refl, (s, hs, (joint, h .0 .0, h))))))
-broken-at (prop-at {i} hi k h) = fifth (i, hi, operands (prop-range k h))
-broken-at (left-at {i} hi k h) = fifth (i, hi, operands (left-range k h))
-broken-at (right-at {i} hi k h) = fifth (i, hi, operands (right-range k h))
-broken-at (team-empty-at {i} hi k h) = fifth (i, hi, coalition k (team-empty h))
-broken-at (team-absent-at {i} hi k h) = fifth (i, hi, coalition k (team-absent h))
-broken-at (bound-at {i} {j} hi k hj h) = fifth (i, hi, coalition k (bound-range (j, hj, h)))
+broken-at (agents-at h) = sizes-met (agents-range h)
+broken-at (resources-at h) = sizes-met (resources-range h)
+broken-at (states-at h) = sizes-met (states-range h)
+broken-at (propositions-at h) = sizes-met (propositions-range h)
+broken-at (rows-at h) = sizes-met (rows-range h)
+broken-at (mask-at {s} hs h) = state-met (s, hs, inl h)
+broken-at (count-at {s} {a} hs ha h) = state-met (s, hs, inr (a, ha, inl h))
+broken-at (cost-at {s} {a} {k} {j} hs ha hk hj h) = state-met (s, hs, inr (a, ha, inr (k, hk, (j, hj, h))))
+broken-at (next-at {s} {joint} hs h) = next-met (s, hs, (joint, h .0 .0, h))
+broken-at (prop-at {i} hi k h) = row-met (i, hi, operands (prop-range k h))
+broken-at (left-at {i} hi k h) = row-met (i, hi, operands (left-range k h))
+broken-at (right-at {i} hi k h) = row-met (i, hi, operands (right-range k h))
+broken-at (team-empty-at {i} hi k h) = row-met (i, hi, coalition k (team-empty h))
+broken-at (team-absent-at {i} hi k h) = row-met (i, hi, coalition k (team-absent h))
+broken-at (bound-at {i} {j} hi k hj h) = row-met (i, hi, coalition k (bound-range (j, hj, h)))
 
 -- a mask of 2 ^ p or more has a bit at or above p
 bit-from : (p m : ℕ) → 2 ^ p ≤ m → BitFrom p m
