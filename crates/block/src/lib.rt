@@ -2,6 +2,7 @@
 mod bits;
 pub mod fill;
 pub mod joint;
+pub mod kinds;
 pub mod layout;
 mod nexts;
 pub mod refusal;

@@ -1,29 +1,13 @@
 // Number 5: the rows.
 use crate::bits::bit_from;
+use crate::kinds::binary;
+use crate::kinds::strategic;
 use crate::layout;
 ghost use Prim.Native.Nat.{_<_};
 ghost use Rattle.block.specs.Decide.{Decides, Some};
-ghost use Rattle.block.specs.Layout.{maxRows, maxResources, resources, rows, Strategic, Binary};
+ghost use Rattle.block.specs.Layout.{maxRows, maxResources, resources, rows};
 ghost use Rattle.block.specs.Check.{BadBound, BadOperands, BadTeam, BadRow};
 ghost use Rattle.block.specs.Valid.{Sized};
-
-pub fn binary(k: usize) -> bool
-    ensures { λ r. ⌜ Decides (Binary k) r ⌝ }
-{
-    if k == layout::OR_KIND {
-        return true;
-    }
-    k == layout::UNTIL_KIND
-}
-
-pub fn strategic(k: usize) -> bool
-    ensures { λ r. ⌜ Decides (Strategic k) r ⌝ }
-{
-    if k < layout::NEXT_KIND {
-        return false;
-    }
-    k <= layout::UNTIL_KIND
-}
 
 fn bound_bad(block: &[u8], i: usize, j: usize) -> bool
     requires { ⌜ Sized (now block) ⌝ }

@@ -1,9 +1,9 @@
 // Number 6: unused places.
 use crate::joint::available;
+use crate::kinds::binary;
+use crate::kinds::strategic;
 use crate::layout;
 use crate::layout::Place;
-use crate::rows::binary;
-use crate::rows::strategic;
 ghost use mathlib.Core.Path.{_≡_};
 ghost use Prim.Native.Nat.{_<_};
 ghost use Rattle.block.specs.Decide.{Decides, Some};

@@ -1,4 +1,5 @@
 // The go lines of a state.
+use block::joint::digit;
 use block::layout;
 use block::layout::Place;
 use block::refusal::Refusal;
@@ -7,7 +8,6 @@ use scan::steps::past_field;
 use scan::steps::past_index;
 use scan::steps::past_word;
 use text::LINE_END;
-use text::joint::digit;
 use text::joint::possible;
 use text::sizes::Sizes;
 ghost use mathlib.Core.Bool.{cond};

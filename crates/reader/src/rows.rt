@@ -1,4 +1,6 @@
 // The lines of the rows.
+use block::kinds::binary;
+use block::kinds::strategic;
 use block::layout;
 use block::layout::Place;
 use block::refusal::Refusal;
@@ -10,7 +12,6 @@ use scan::steps::past_value;
 use scan::steps::value_or;
 use text::COMMA;
 use text::LINE_END;
-use text::kinds::binary;
 use text::sizes::Sizes;
 use text::sizes::masks;
 ghost use mathlib.Core.Bool.{cond};
@@ -46,7 +47,7 @@ fn team(text: &[u8], at: Step, job: &mut [u8], z: Sizes, i: usize, k: usize) -> 
     ensures { λ r. ⌜ ((f : Format) → resume (now (text .entry)) at (read (J.teamFields z i k f) (now (job .entry))) ≡ resume (now (text .entry)) r (read f (now (job .exit)))) ⌝ }
     ensures { λ r. ⌜ Inside (now (text .entry)) r ⌝ }
 {
-    if k < layout::NEXT_KIND {
+    if !strategic(k) {
         return at;
     }
     let limit = masks(z.agents);

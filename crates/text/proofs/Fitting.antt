@@ -7,26 +7,20 @@ use mathlib.Core.Logic.{inl, inr, ⊎-elim}
 use mathlib.Core.Path.{_≡_, refl}
 use Prim.Native.Nat.{ℕ, zero, suc, _+_, _-_, _^_, _≤_, _<_, zero-le}
 use native.Mathlib.Omega.{arith}
-use lib.Dec.{T, eqb, eqb→eq, leb→le, le→leb, lit<}
+use lib.Dec.{eqb, lit<}
 use lib.ListN.{length}
 use lib.Pow.{pow-mono}
 use borrow.Author.Tests.{eq-eqb, ne-eqb}
-use Rattle.block.specs.Layout.{Block, blockBytes, placeOf, InUse, Used, UsesField, byteAt, at, agents, resources, states, propositions, rows, count, cost, left, bound, kind, nextKind, propKind, orKind, untilKind, Binary, Strategic}
+use Rattle.block.specs.Layout.{Block, blockBytes, placeOf, InUse, Used, UsesField, byteAt, at, agents, resources, states, propositions, rows, count, cost, left, bound, kind, propKind}
 use Rattle.block.specs.Valid.{Counted, RowFits, Valid}
 use Rattle.block.specs.declared.layout.Place.{Place}
 use Rattle.block.specs.declared.layout.Place.the-variants.{Header, Mask, Count, Cost, Next, Field}
-use Rattle.text.specs.Job.{costLimit, binary}
+use Rattle.text.specs.Job.{costLimit}
 use Rattle.text.proofs.Decimals.{lt-or-ge}
-use Rattle.text.proofs.Spellings.{Fits, either-case, number-range, number-fits, bound-range, bound-fits, kind-range, kind-fits}
+use Rattle.text.proofs.Spellings.{Fits, number-range, number-fits, bound-range, bound-fits, kind-range, kind-fits}
 use Rattle.text.proofs.FieldsByName.{Everywhere}
+use Rattle.text.proofs.KindTests.{binary-true, binary-case, strategic-true, strategic-case}
 use Rattle.text.proofs.Possible.{possible-acts}
-
-binary-true : (k : ℕ) → Binary k → T (binary k)
-binary-true k (inl e) = rw e tt
-binary-true k (inr e) = rw e tt
-
-pub binary-case : (k : ℕ) → T (binary k) → Binary k
-binary-case k h = ⊎-elim (λ x. inl (eqb→eq k orKind x)) (λ x. inr (eqb→eq k untilKind x)) (either-case (eqb k orKind) (eqb k untilKind) h)
 
 -- the limit of a field that depends on whether a number is 0
 pub on-zero : (k p q : ℕ) → k ≡ 0 → cond (eqb k 0) p q ≡ p
@@ -59,9 +53,9 @@ module _ (b : Block) where
         prop-fits = λ q. omega (arith, below, on-zero (kind b i) (propositions b) i q);
         left-lower = λ q. omega (arith, below, on-other (kind b i) (propositions b) i q);
         right-lower = λ q. number-range 0 i (r (binary-true (kind b i) q)) .1;
-        team-some = λ q. number-range 1 (2 ^ agents b) (t (le→leb nextKind (kind b i) (q .0)) .0) .0;
-        team-fits = λ q. number-range 1 (2 ^ agents b) (t (le→leb nextKind (kind b i) (q .0)) .0) .1;
-        bound-fits = λ q j hj g. ⊎-elim (λ x. absurd (omega arith)) (λ x. x) (bound-range (t (le→leb nextKind (kind b i) (q .0)) .1 j zero-le hj));
+        team-some = λ q. number-range 1 (2 ^ agents b) (t (strategic-true (kind b i) q) .0) .0;
+        team-fits = λ q. number-range 1 (2 ^ agents b) (t (strategic-true (kind b i) q) .0) .1;
+        bound-fits = λ q j hj g. ⊎-elim (λ x. absurd (omega arith)) (λ x. x) (bound-range (t (strategic-true (kind b i) q) .1 j zero-le hj));
       }
 
   pub fits-valid : FitsEverywhere → length b ≡ blockBytes → ((p : ℕ) → p < blockBytes → (Used b p → ⊥) → byteAt b p ≡ 0) → Valid b
@@ -119,7 +113,7 @@ module _ (b : Block) where
         row-fields = λ i _ hi.
             let r = v .row-fits i hi in (
               kind-fits (omega (arith, r .known)),
-              λ t. let q : Strategic (kind b i) = (leb→le nextKind (kind b i) t, r .known) in (
+              λ t. let q = strategic-case (kind b i) t in (
                 number-fits 1 (2 ^ agents b) (r .team-some q) (r .team-fits q) (mask-byte _ (agents b) (omega arith) (r .team-fits q)),
                 λ j _ hj. bound-fits (⊎-elim inl (λ g. inr (r .bound-fits q j hj g)) (lt-or-ge (bound b i j) 16)),
               ),
@@ -142,7 +136,7 @@ module _ (b : Block) where
           (lt-or-ge f 1)
       field i f hi (inr (inl h)) q = e .row-fields i zero-le hi .3 (binary-true (kind b i) (h .1)) (omega arith)
       field i f hi (inr (inr h)) q =
-          let (t, bs) = e .row-fields i zero-le hi .1 (le→leb nextKind (kind b i) (h .0 .0)) in
+          let (t, bs) = e .row-fields i zero-le hi .1 (strategic-true (kind b i) (h .0)) in
           ⊎-elim
           (λ z. t (omega arith))
           (λ z. let (l, s) = from-four f (resources b) z (h .1 .1) in bs (f - 4) zero-le l (rw s q))
@@ -173,14 +167,13 @@ module _ (b : Block) where
       λ a _ ha. (λ q. u (Count s a, q, (hs, ha)), λ k _ hk j _ hj q. u (Cost s a k j, q, (hs, ha, hk, hj))),
       λ joint _ hj t q. u (Next s joint, q, (hs, (hj, possible-acts b s joint .0 t))),
     );
-    row-fields = λ i _ hi.
-        let k : kind b i ≤ untilKind = omega (arith, kind-range (e .row-fields i zero-le hi .0)) in (
-          λ q. u (Field i 0, q, (hi, inl (omega arith))),
-          λ t. let str : Strategic (kind b i) = (leb→le nextKind (kind b i) t, k) in (
-            λ q. u (Field i 3, q, (hi, inr (inr (str, (omega arith, omega arith))))),
-            λ j _ hj q. u (Field i (4 + j), q, (hi, inr (inr (str, (omega arith, omega arith))))),
-          ),
-          λ q. u (Field i 1, q, (hi, inl (omega arith))),
-          λ t q. u (Field i 2, q, (hi, inr (inl (refl, binary-case (kind b i) t)))),
-        );
+    row-fields = λ i _ hi. (
+      λ q. u (Field i 0, q, (hi, inl (omega arith))),
+      λ t. let str = strategic-case (kind b i) t in (
+        λ q. u (Field i 3, q, (hi, inr (inr (str, (omega arith, omega arith))))),
+        λ j _ hj q. u (Field i (4 + j), q, (hi, inr (inr (str, (omega arith, omega arith))))),
+      ),
+      λ q. u (Field i 1, q, (hi, inl (omega arith))),
+      λ t q. u (Field i 2, q, (hi, inr (inl (refl, binary-case (kind b i) t)))),
+    );
   }

@@ -9,6 +9,7 @@ pub mod DistinctPlaces
 pub mod FieldsByName
 pub mod ValidPasses
 pub mod Possible
+pub mod KindTests
 pub mod Fitting
 pub mod Accepts
 pub mod Numbered

@@ -10,7 +10,7 @@ use mathlib.Core.Path.{_≡_, refl, sym, _∙_}
 use Prim.Native.Nat.{ℕ, zero, suc, _+_, _≤_, _<_, _/_, _^_}
 use native.Mathlib.Nat.{div-lt-iff-lt-mul, one-mul}
 use native.Mathlib.Omega.{arith}
-use lib.Dec.{T, ltb, leb, eqb, leb→le, lit<}
+use lib.Dec.{T, ltb, leb, eqb, lit<}
 use lib.Pow.{pow-pos}
 use borrow.Author.Tests.{ltb-false, leb-false, lt-ltb}
 use Rattle.block.specs.Decide.{Some, BitFrom}
@@ -28,12 +28,13 @@ use Rattle.text.specs.Broken.{BrokenAt, agents-at, resources-at, states-
 use Rattle.text.specs.Text.{blank, readText, NumberedAt, Numbered}
 use Rattle.text.proofs.Decimals.{lt-or-ge}
 use Rattle.text.proofs.Spellings.{bound-small}
-use Rattle.text.proofs.Stops.{Spelled, Barred, along-every, From, as-it-was, was-read, halted, misread}
+use Rattle.text.proofs.Stops.{Barred, along-every, halted, misread}
 use Rattle.text.proofs.DistinctPlaces.{job-proper}
 use Rattle.text.proofs.FieldsByName.{sizesOf, Everywhere, job-every}
 use Rattle.text.proofs.Possible.{possible-acts}
-use Rattle.text.proofs.Fitting.{binary-case, on-zero, on-other}
-use Rattle.text.proofs.Accepts.{blank-length, blank-zero}
+use Rattle.text.proofs.KindTests.{binary-case, strategic-case}
+use Rattle.text.proofs.Fitting.{on-zero, on-other}
+use Rattle.text.proofs.Accepts.{blank-length}
 
 -- the conditions of the sizes, the states and the rows, wherever they stand among the block's
 sizes-met : {b : Block} → BadSizes b → Meets (blockRules b) refusal.Sizes
@@ -91,43 +92,15 @@ cost-bad : (k c : ℕ) → costLimit k ≤ c → (15 < c) ⊎ ((k ≡ 0) × (0 <
 cost-bad zero c h = inr (refl, h)
 cost-bad (suc k) c h = inl (omega (arith, h, on-other (suc k) 1 16 (omega arith)))
 
--- a kind that stands at a place of a row is one of the six
-abbrev KindAt : Place → ℕ → Type 0
-KindAt (Header f) v = Unit {0}
-KindAt (Mask s) v = Unit {0}
-KindAt (Count s a) v = Unit {0}
-KindAt (Cost s a k j) v = Unit {0}
-KindAt (Next s joint) v = Unit {0}
-KindAt (Field i f) v = f ≡ 0 → v ≤ untilKind
-
-kinds : (b : Block) → Everywhere (λ x p. Spelled x (at b p) → KindAt p (at b p)) b
-kinds b = record {
-  agents-field = λ _. tt;
-  resources-field = λ _. tt;
-  states-field = λ _. tt;
-  propositions-field = λ _. tt;
-  rows-field = λ _. tt;
-  state-fields = λ s _ hs. (λ _. tt, λ a _ ha. (λ _. tt, λ k _ hk j _ hj _. tt), λ joint _ hj can _. tt);
-  row-fields = λ i _ hi. (
-    λ x _. omega (arith, x .1, x .2),
-    λ t. (λ _ e. absurd (omega arith), λ j _ hj _ e. absurd (omega arith)),
-    λ _ e. absurd (omega arith),
-    λ t _ e. absurd (omega arith),
-  );
-}
-
-module _ (b : Block) (t : List ℕ) (known : (i : ℕ) → i < maxRows → kind b i ≤ untilKind) where
+module _ (b : Block) (t : List ℕ) where
   -- where the field's spelling with which the text t begins may not stand there, the block is broken at the field's place
   abbrev Told : Spelling → Place → Type 0
   Told x p = InLayout p → Barred x (at b p) t → BrokenAt b p (x .refusal) ⊎ UnlimitedNumber b t p (x .refusal)
 
-  is-strategic : (i : ℕ) → i < maxRows → T (strategic (kind b i)) → Strategic (kind b i)
-  is-strategic i h s = (leb→le nextKind (kind b i) s, known i h)
-
   team-told : (i : ℕ) → i < rows b → T (strategic (kind b i)) → Told (teamSpelling (sizesOf b)) (Field i 3)
   team-told i hi s l x = ⊎-elim
-      (λ h. inl (team-empty-at hi (is-strategic i (l .0) s) (omega arith)))
-      (λ h. inl (team-absent-at hi (is-strategic i (l .0) s) (bit-from (agents b) (team b i) h)))
+      (λ h. inl (team-empty-at hi (strategic-case (kind b i) s) (omega arith)))
+      (λ h. inl (team-absent-at hi (strategic-case (kind b i) s) (bit-from (agents b) (team b i) h)))
       (out-of-range 1 (2 ^ agents b) (x .meant) (x .not-allowed))
 
   -- a bound that is refused is a number from 16 on
@@ -137,7 +110,7 @@ module _ (b : Block) (t : List ℕ) (known : (i : ℕ) → i < maxRows → kind 
       let from : 16 ≤ x .option = ltb-false (x .option) 16 small in
       let below : x .option < 256 = leb-false 256 (x .option) large in
       let byte : x .option ≡ bound b i j = sym (simp (lt-ltb (x .option) 256 below)) ∙ x .meant in
-      let k = is-strategic i (l .0) s in
+      let k = strategic-case (kind b i) s in
       ⊎-elim
       (λ h. inl (bound-at hi k hj (omega arith, λ e. omega arith)))
       (λ h. let full : x .option ≡ 255 = omega arith in inr (written hi k hj (sym byte ∙ full) (rw (full, bound-small 255 (lit< tt)) at (x .begins))))
@@ -182,10 +155,5 @@ numbered t = on (stop job blank t) refl
     on nowhere e = λ r. misread job blank t r e
     on (stopped p b u) e =
         let h = halted job blank t p b u job-proper blank-length e in
-        let known : (i : ℕ) → i < maxRows → kind b i ≤ untilKind = λ i l. kind-of i l (h .from (Field i 0) (l, lit< tt)) in
-        let field = along-every (Told b u known) (h .along) (job-every _ b .1 (told b u known)) (h .in-layout) (h .barred) in
+        let field = along-every (Told b u) (h .along) (job-every _ b .1 (told b u)) (h .in-layout) (h .barred) in
         (h .spelling .refusal, h .refuses, ⊎-elim (λ bad. inl (bad, broken-at bad)) inr field)
-      where
-        kind-of : (i : ℕ) → i < maxRows → From job blank b (Field i 0) → kind b i ≤ untilKind
-        kind-of i l (as-it-was x) = omega (arith, x, blank-zero (placeOf (Field i 0)) (omega arith))
-        kind-of i l (was-read y a x) = along-every (λ x p. Spelled x (at b p) → KindAt p (at b p)) a (job-every _ b .1 (kinds b)) x refl

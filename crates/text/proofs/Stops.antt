@@ -1,7 +1,6 @@
 -- Where reading by a format stops at a value (specs' stop), for every format whose fields stand at different places.
 --     Along b x p f     x at p is a field of b's text by f
---     Halted            what is known where reading stops: the spelling that may not stand there, that it is a field of the block read so far, and
---                       that each byte of this block is one that was read, or as it was
+--     Halted            what is known where reading stops: the spelling that may not stand there, and that it is a field of the block read so far
 --     halted            so it is wherever reading stops at a value
 --     misread           elsewhere a text is refused for its form only
 -- Assumes nothing.
@@ -10,10 +9,9 @@ use mathlib.Core.List.{List, [], _∷_}
 use mathlib.Core.Path.{_≡_, refl, sym, ap, subst, _∙_}
 use Prim.Native.Nat.{ℕ, suc, _≤_, _<_}
 use native.Mathlib.Omega.{arith}
-use lib.Dec.{T, eqb}
+use lib.Dec.{T}
 use lib.ListN.{length, length-set}
 use lib.Seq.{getD-set-other}
-use borrow.Author.Tests.{eqb-true, eqb-false}
 use Rattle.block.specs.Layout.{Block, blockBytes, placeOf, InLayout, at}
 use Rattle.block.specs.declared.layout.Place.{Place}
 use Rattle.block.specs.declared.refusal.Refusal.{Refusal}
@@ -36,21 +34,13 @@ along-every P here e = e .0
 along-every P (past-word a) e = along-every P a e
 along-every P (past a) e = along-every P a (e .1)
 
--- a spelling of the byte v, and one that may not stand there, with which the text t begins
-abbrev pub Spelled : Spelling → ℕ → Type 0
-Spelled x v = (o : ℕ) × (o < x .options) × (x .byte o ≡ v)
-
+-- a spelling of the byte v that may not stand there, with which the text t begins
 pub record Barred (x : Spelling) (v : ℕ) (t : List ℕ) : Type 0 where
   pub option : ℕ
   pub few : option < x .options
   pub meant : x .byte option ≡ v
   pub not-allowed : x .allowed option ≡ false
   pub begins : Starts (x .spell option) t
-
--- the byte at q is as it was, or one that was read
-pub data From (f : Format) (b₀ b : Block) (q : Place) : Type 0 where
-  as-it-was : at b q ≡ at b₀ q → From f b₀ b q
-  was-read : (y : Spelling) → Along b y q f → Spelled y (at b q) → From f b₀ b q
 
 pub record Halted (n : ℕ) (f : Format) (b₀ : Block) (p : Place) (b : Block) (t : List ℕ) (out : Outcome) : Type 0 where
   pub spelling : Spelling
@@ -60,29 +50,11 @@ pub record Halted (n : ℕ) (f : Format) (b₀ : Block) (p : Place) (b : Block) 
   pub along : Along b spelling p f
   -- a place whose turn has passed keeps its byte
   pub kept : (q : Place) → InLayout q → turn q < n → at b q ≡ at b₀ q
-  pub from : (q : Place) → InLayout q → From f b₀ b q
-
--- the fields of a part are fields of the whole
-from-on : {f g : Format} {b₀ b : Block} {q : Place} → ((y : Spelling) → Along b y q f → Along b y q g) → From f b₀ b q → From g b₀ b q
-from-on h (as-it-was e) = as-it-was e
-from-on h (was-read y a s) = was-read y (h y a) s
 
 -- a store at p leaves the places of other turns
 other-turn : (b : Block) (p q : Place) (v : ℕ) → InLayout p → InLayout q → turn q < turn p → at (store b p v) q ≡ at b q
 other-turn b p q v i j l =
     getD-set-other b (placeOf p) (placeOf q) v 0 (λ e. let same : turn q ≡ turn p = ap turn (one-place q p j i e) in omega arith)
-
--- after a store at p, a byte is the one stored or as it was
-from-store : {x : Spelling} {p : Place} {k : ℕ → Format} {b₀ b : Block} (o : ℕ) → o < x .options → length b₀ ≡ blockBytes → InLayout p →
-    (q : Place) → InLayout q → at b q ≡ at (store b₀ p (x .byte o)) q → From (value x p k) b₀ b q
-from-store {x} {p} {k} {b₀} {b} o l s i q j e = on (eqb (placeOf q) (placeOf p)) refl
-  where
-    on : (t : Bool) → eqb (placeOf q) (placeOf p) ≡ t → From (value x p k) b₀ b q
-    on true h =
-        let same : p ≡ q = sym (one-place q p j i (eqb-true (placeOf q) (placeOf p) h)) in
-        let byte : x .byte o ≡ at b q = sym (e ∙ subst (λ (r : Place). at (store b₀ p (x .byte o)) r ≡ x .byte o) same (stored b₀ p (x .byte o) s i)) in
-        was-read x (subst (λ (r : Place). Along b x r (value x p k)) same here) (o, l, byte)
-    on false h = as-it-was (e ∙ getD-set-other b₀ (placeOf p) (placeOf q) (x .byte o) 0 (eqb-false (placeOf q) (placeOf p) h))
 
 nowhere-stopped : {A : Type 0} (p : Place) (b : Block) (t : List ℕ) → nowhere ≡ stopped p b t → A
 nowhere-stopped p b t e = let z : _≡_ {A = ℕ} 0 1 = cc in absurd (omega arith)
@@ -103,13 +75,12 @@ module _ {n : ℕ} (x : Spelling) (q : Place) (k : ℕ → Format) (b₀ : Block
         barred = record { option = o; few = few; meant = sym (stored b₀ q (x .byte o) s i); not-allowed = bar; begins = begins };
         along = here;
         kept = λ r j m. other-turn b₀ q r (x .byte o) i j (omega arith);
-        from = λ r j. from-store o few s i r j refl;
       })
 
   -- reading goes on past this field
-  past-field : (o : ℕ) → o < x .options → {out : Outcome} →
+  past-field : (o : ℕ) → {out : Outcome} →
       Halted (suc (turn q)) (k (x .byte o)) (store b₀ q (x .byte o)) p b t out → Halted n (value x q k) b₀ p b t out
-  past-field o few h =
+  past-field o h =
       record {
         spelling = h .spelling;
         refuses = h .refuses;
@@ -117,15 +88,10 @@ module _ {n : ℕ} (x : Spelling) (q : Place) (k : ℕ → Format) (b₀ : Block
         barred = h .barred;
         along = on (h .spelling) p (h .along);
         kept = λ r j m. h .kept r j (omega arith) ∙ other-turn b₀ q r (x .byte o) i j (omega arith);
-        from = λ r j. from-past r j (h .from r j);
       }
     where
       on : (y : Spelling) (r : Place) → Along b y r (k (x .byte o)) → Along b y r (value x q k)
       on y r a = past (subst (λ (v : ℕ). Along b y r (k v)) (sym (h .kept q i (omega arith) ∙ stored b₀ q (x .byte o) s i)) a)
-
-      from-past : (r : Place) → InLayout r → From (k (x .byte o)) (store b₀ q (x .byte o)) b r → From (value x q k) b₀ b r
-      from-past r j (as-it-was e) = from-store o few s i r j e
-      from-past r j (was-read y a m) = was-read y (on y r a) m
 
   halted-value : ((v : ℕ) → Fits x v → Proper (suc (turn q)) (k v)) →
       ((v : ℕ) (b₁ : Block) (rest : List ℕ) → Proper (suc (turn q)) (k v) → length b₁ ≡ blockBytes → stop (k v) b₁ rest ≡ stopped p b t → Halted (suc (turn q)) (k v) b₁ p b t (read (k v) b₁ rest)) →
@@ -138,7 +104,7 @@ module _ {n : ℕ} (x : Spelling) (q : Place) (k : ℕ → Format) (b₀ : Block
       goes o rest true a f e =
           let is = search-inv (x .spell) t₀ (x .options) o rest f in
           let may : T (x .allowed o) = rw a tt in
-          past-field o (is .0)
+          past-field o
           (ih (x .byte o) (store b₀ q (x .byte o)) rest (proper (x .byte o) (o, is .0, may, refl)) (length-set b₀ (placeOf q) (x .byte o) ∙ s) e)
       goes o rest false a f e =
           let is = search-inv (x .spell) t₀ (x .options) o rest f in
@@ -163,7 +129,6 @@ halted {n} (exactly w f) b₀ t₀ p b t (word h) s e = on (λ rest. halted f b�
       barred = g .barred;
       along = past-word (g .along);
       kept = g .kept;
-      from = λ r j. from-on (λ y a. past-word a) (g .from r j);
     }
 
     on : ((rest : List ℕ) → stop f b₀ rest ≡ stopped p b t → Halted n f b₀ p b t (read f b₀ rest)) →

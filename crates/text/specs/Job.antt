@@ -150,7 +150,7 @@ states z zero s f = f
 states z (suc n) s f = stateLines z s (states z n (suc s) f)
 
 abbrev pub strategic : ℕ → Bool
-strategic k = leb nextKind k
+strategic k = both (leb nextKind k) (leb k untilKind)
 
 abbrev pub binary : ℕ → Bool
 binary k = either (eqb k orKind) (eqb k untilKind)

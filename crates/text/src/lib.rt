@@ -1,7 +1,6 @@
 // The text of a job: the one description of it (specs/), and what reader and writer share.
 pub mod ends;
 pub mod joint;
-pub mod kinds;
 pub mod output;
 pub mod sizes;
 

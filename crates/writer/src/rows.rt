@@ -1,8 +1,9 @@
 // The lines of the rows.
 use crate::output;
 use crate::output::number;
+use block::kinds::binary;
+use block::kinds::strategic;
 use block::layout;
-use text::kinds::binary;
 ghost use mathlib.Core.Path.{_≡_};
 ghost use Prim.Native.Nat.{_+_, _≤_, _<_};
 ghost use Rattle.block.specs.Layout as L;
@@ -34,7 +35,7 @@ fn team_fields(block: &[u8], text: &mut [u8], at: usize, i: usize, k: usize) -> 
     requires { ⌜ i < maxRows ⌝ }
     ensures { λ r. ⌜ Past (now (block .entry)) (J.teamFields (sizesOf (now (block .entry))) i k) (now (text .entry)) at (now (text .exit)) r × (r ≤ at + teamBytes) ⌝ }
 {
-    if layout::NEXT_KIND <= k {
+    if strategic(k) {
         let next = number(text, at, layout::team(block, i), b',');
         return bounds(block, text, next, i);
     }

@@ -2,8 +2,9 @@
 use crate::agents::agent_lines;
 use crate::agents::counts;
 use crate::output::number;
+use block::joint::digit;
 use block::layout;
-use text::joint;
+use text::joint::possible;
 use text::output::word;
 ghost use mathlib.Core.Bool.{cond};
 ghost use Prim.Native.Nat.{_+_, _≤_, _<_};
@@ -34,7 +35,7 @@ fn joint_fields(block: &[u8], text: &mut [u8], at: usize, joint: usize) -> usize
     let mut next = at;
     let mut a = 0;
     while a < agents {
-        next = number(text, next, joint::digit(joint, a), b',');
+        next = number(text, next, digit(joint, a), b',');
         a += 1;
     }
     next
@@ -65,7 +66,7 @@ fn go_line_if(
     requires { ⌜ (s < maxStates) × (joint < maxJoint) ⌝ }
     ensures { λ r. ⌜ Past (now (block .entry)) (λ f. cond (J.possible counts joint) (J.goLine (sizesOf (now (block .entry))) s joint f) f) (now (text .entry)) at (now (text .exit)) r × (r ≤ at + goLineBytes) ⌝ }
 {
-    if joint::possible(counts, joint) {
+    if possible(counts, joint) {
         return go_line(block, text, at, s, joint);
     }
     at

@@ -5,6 +5,7 @@ use Rattle.block.specs.Layout.{placeOf}
 use Rattle.block.specs.declared.layout.Place.the-variants.{Field}
 use Rattle.text.specs.Format.{write}
 use Rattle.text.specs.Job.{operandFields}
+use Rattle.text.proofs.KindTests.{binary-is}
 use borrow.Author.Needs.{needs}
 use Rattle.writer.proofs.rows.operand_fields.Statement.{statement}
 use Rattle.writer.proofs.rows.operand_fields.Tie as tie
@@ -41,7 +42,7 @@ returns c =
     let right = c .before .before .before .right .ensures in
     let number2 = c .before .before .number2 .ensures in
     let b = g .block .now in
-    (λ f. rw (sym binary ∙ if1 .taken) (rw (left, right) at (number2 .0 (write f b) ∙ number .0 _)), omega arith)
+    (λ f. rw (sym (binary-is binary) ∙ if1 .taken) (rw (left, right) at (number2 .0 (write f b) ∙ number .0 _)), omega arith)
 
 number-requires-3 : tie.Need-number-requires-3
 number-requires-3 c κs = omega (arith, c .before .before .before .before .before .shared-slice-known .given (placeOf (Field (c .before .before .before .before .before .before .args .i) 1)))
@@ -58,7 +59,7 @@ returns-2 c =
     let if1 = c .before .before .before .before .if1 in
     let number3 = c .before .before .number3 .ensures in
     let b = g .block .now in
-    (λ f. rw (sym binary ∙ if1 .left) (rw left at (number3 .0 (write f b))), omega arith)
+    (λ f. rw (sym (binary-is binary) ∙ if1 .left) (rw left at (number3 .0 (write f b))), omega arith)
 
 pub operand-fields-spec : {M : Type 1} → statement M
 operand-fields-spec =

@@ -1,9 +1,9 @@
 -- `digit` takes a digit of a joint action by the powers of 4. Assumes nothing.
 use mathlib.Core.Path.{_≡_, refl}
 use native.Mathlib.Omega.{arith}
 use Rattle.block.proofs.Digits.{digit-zero}
-use Rattle.text.proofs.joint.digit.Statement.{statement}
-use Rattle.text.proofs.joint.digit.Tie as tie
+use Rattle.block.proofs.joint.digit.Statement.{statement}
+use Rattle.block.proofs.joint.digit.Tie as tie
 
 returns : tie.Need-returns
 returns c =

@@ -2,8 +2,8 @@
 use native.Mathlib.Omega.{arith}
 use Rattle.block.specs.Decide.{fails}
 use Rattle.block.proofs.Decide as D
-use Rattle.block.proofs.rows.strategic.Statement.{statement}
-use Rattle.block.proofs.rows.strategic.Tie as tie
+use Rattle.block.proofs.kinds.strategic.Statement.{statement}
+use Rattle.block.proofs.kinds.strategic.Tie as tie
 
 returns : tie.Need-returns
 returns c = fails (λ x. omega arith)

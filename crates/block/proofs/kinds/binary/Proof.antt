@@ -2,8 +2,8 @@
 use mathlib.Core.Logic.{inl, inr, ⊎-elim}
 use Rattle.block.specs.Decide.{holds}
 use Rattle.block.proofs.Decide as D
-use Rattle.block.proofs.rows.binary.Statement.{statement}
-use Rattle.block.proofs.rows.binary.Tie as tie
+use Rattle.block.proofs.kinds.binary.Statement.{statement}
+use Rattle.block.proofs.kinds.binary.Tie as tie
 
 returns : tie.Need-returns
 returns c = holds (inl (c .if1 .taken))
