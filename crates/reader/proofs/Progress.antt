@@ -11,7 +11,7 @@ use Rattle.block.specs.Layout.{Block}
 use Rattle.text.specs.declared.sizes.Sizes.{Sizes}
 use Rattle.text.specs.Format.{Format, read}
 use Rattle.text.specs.Job.{actsLine, agentLines, noCounts}
-use Rattle.scan.specs.Step.{resume}
+use Rattle.scan.specs.Inner.Step.{resume}
 use Rattle.scan.specs.declared.step.Step.{Step}
 use Rattle.text.proofs.Loops.{Loop, left-more, turn, finish}
 

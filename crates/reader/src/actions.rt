@@ -7,12 +7,12 @@ use scan::steps::past_field;
 use text::ends::cost_end;
 use text::sizes::Sizes;
 ghost use mathlib.Core.Path.{_≡_};
-ghost use Prim.Native.Nat.{ℕ, _+_, _≤_, _<_};
+ghost use Prim.Native.Nat.{_+_, _≤_, _<_};
 ghost use lib.ListN.{length};
 ghost use Rattle.block.specs.Layout.{blockBytes, maxStates, maxAgents, maxActions, maxResources};
 ghost use Rattle.text.specs.Format.{Format, value, read};
 ghost use Rattle.text.specs.Job as J;
-ghost use Rattle.scan.specs.Step.{resume, Inside, Fitting};
+ghost use Rattle.scan.specs.Inner.Step.{resume, Inside, Fitting};
 
 // Costs are below this.
 const COST_LIMIT: usize = layout::MAX_UNITS + 1;

@@ -12,14 +12,13 @@ use scan::steps::value_at;
 use scan::steps::value_or;
 use text::COMMA;
 use text::sizes::Sizes;
-ghost use mathlib.Core.List.{List};
 ghost use mathlib.Core.Path.{_≡_};
-ghost use Prim.Native.Nat.{ℕ, _≤_, _<_};
+ghost use Prim.Native.Nat.{ℕ, _<_};
 ghost use lib.ListN.{length};
-ghost use Rattle.block.specs.Layout.{blockBytes, maxStates, maxAgents, maxActions};
+ghost use Rattle.block.specs.Layout.{blockBytes, maxStates, maxAgents};
 ghost use Rattle.text.specs.Format.{Format, read};
 ghost use Rattle.text.specs.Job as J;
-ghost use Rattle.scan.specs.Step.{resume, Inside, Fitting};
+ghost use Rattle.scan.specs.Inner.Step.{resume, Inside, Fitting};
 
 // Counts are below this.
 const COUNT_LIMIT: usize = layout::MAX_ACTIONS + 1;

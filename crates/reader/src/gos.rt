@@ -12,12 +12,12 @@ use text::joint::possible;
 use text::sizes::Sizes;
 ghost use mathlib.Core.Bool.{cond};
 ghost use mathlib.Core.Path.{_≡_};
-ghost use Prim.Native.Nat.{ℕ, _≤_, _<_};
+ghost use Prim.Native.Nat.{_≤_, _<_};
 ghost use lib.ListN.{length};
 ghost use Rattle.block.specs.Layout.{Block, blockBytes, maxStates, maxAgents, maxJoint};
 ghost use Rattle.text.specs.Format.{Format, read};
 ghost use Rattle.text.specs.Job as J;
-ghost use Rattle.scan.specs.Step.{resume, Inside, Fitting};
+ghost use Rattle.scan.specs.Inner.Step.{resume, Inside, Fitting};
 
 // The actions of a joint action, one for each of n agents.
 fn joint_fields(text: &[u8], at: Step, joint: usize, n: usize) -> Step

@@ -12,13 +12,14 @@ use text::COMMA;
 use text::LINE_END;
 use text::sizes::Sizes;
 ghost use mathlib.Core.Path.{_≡_};
-ghost use Prim.Native.Nat.{ℕ, suc, _≤_, _<_};
+ghost use Prim.Native.Nat.{ℕ, _≤_, _<_};
 ghost use lib.ListN.{length};
 ghost use Rattle.block.specs.Layout.{blockBytes, headerBytes};
 ghost use Rattle.text.specs.Format.{Format, read};
 ghost use Rattle.text.specs.Job as J;
-ghost use Rattle.text.specs.Numeral.{numbers, Ends};
-ghost use Rattle.scan.specs.Step.{resume, Inside, Fitting};
+ghost use Rattle.text.specs.Numeral.{numbers};
+ghost use Rattle.text.specs.Inner.Fields.{Ends};
+ghost use Rattle.scan.specs.Inner.Step.{resume, Inside, Fitting};
 
 // The sizes of the job, or what stands in for them after a refusal, and the step past the line.
 pub struct Opened {

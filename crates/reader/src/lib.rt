@@ -19,7 +19,7 @@ ghost use lib.ListN.{length};
 ghost use Rattle.block.specs.Layout.{blockBytes};
 ghost use Rattle.text.specs.Format.{end, read};
 ghost use Rattle.text.specs.Job as J;
-ghost use Rattle.scan.specs.Step.{resume, Inside};
+ghost use Rattle.scan.specs.Inner.Step.{resume, Inside};
 ghost use Rattle.text.specs.Text.{outcomeOf, readCall, answerTo, blockAfter, Exact, Numbered};
 
 // All lines of the text.

@@ -16,14 +16,15 @@ use text::sizes::Sizes;
 use text::sizes::masks;
 ghost use mathlib.Core.Bool.{cond};
 ghost use mathlib.Core.Path.{_≡_};
-ghost use Prim.Native.Nat.{ℕ, _≤_, _<_};
+ghost use Prim.Native.Nat.{_≤_, _<_};
 ghost use lib.ListN.{length};
 ghost use lib.Dec.{eqb};
 ghost use Rattle.block.specs.Layout.{blockBytes, maxRows, maxResources, rightByte, propKind};
-ghost use Rattle.text.specs.Numeral.{comma, lineEnd, Ends};
+ghost use Rattle.text.specs.Numeral.{comma, lineEnd};
+ghost use Rattle.text.specs.Inner.Fields.{Ends};
 ghost use Rattle.text.specs.Format.{Format, value, read};
 ghost use Rattle.text.specs.Job as J;
-ghost use Rattle.scan.specs.Step.{resume, Inside, Fitting};
+ghost use Rattle.scan.specs.Inner.Step.{resume, Inside, Fitting};
 
 fn bounds(text: &[u8], at: Step, job: &mut [u8], i: usize, count: usize) -> Step
     requires { ⌜ Inside (now text) at × (length (now job) ≡ blockBytes) ⌝ }

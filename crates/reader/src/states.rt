@@ -12,12 +12,12 @@ use text::LINE_END;
 use text::sizes::Sizes;
 use text::sizes::masks;
 ghost use mathlib.Core.Path.{_≡_};
-ghost use Prim.Native.Nat.{ℕ, _≤_, _<_};
+ghost use Prim.Native.Nat.{_<_};
 ghost use lib.ListN.{length};
 ghost use Rattle.block.specs.Layout.{blockBytes, maxStates, maxJoint};
 ghost use Rattle.text.specs.Format.{Format, read};
 ghost use Rattle.text.specs.Job as J;
-ghost use Rattle.scan.specs.Step.{resume, Inside, Fitting};
+ghost use Rattle.scan.specs.Inner.Step.{resume, Inside, Fitting};
 
 fn state_line(text: &[u8], at: Step, job: &mut [u8], z: Sizes, s: usize) -> Step
     requires { ⌜ Inside (now text) at × (length (now job) ≡ blockBytes) ⌝ }

@@ -6,7 +6,7 @@ use native.Mathlib.Omega.{arith}
 use lib.ListN.{take}
 use Rattle.block.specs.Layout as L
 use Rattle.block.specs.Layout.{Block}
-use Rattle.text.specs.Adding.{Adds}
+use Rattle.text.specs.Inner.Adding.{Adds}
 use Rattle.text.proofs.Adding.{added-front}
 use Rattle.report.specs.Listing.{listLine, RowListed, RowsListed, none, next, Listed}
 

@@ -18,7 +18,7 @@ use Rattle.block.specs.Layout as L
 use Rattle.block.specs.Layout.{Block}
 use Rattle.block.proofs.Masks.{no-bit-above}
 use Rattle.block.proofs.Ones.{lowest-from}
-use Rattle.text.specs.Adding.{Adds}
+use Rattle.text.specs.Inner.Adding.{Adds}
 use Rattle.text.proofs.Adding.{adds-then}
 use Rattle.text.proofs.Decimals.{lt-or-ge}
 use Rattle.game.specs.Table.{Table}

@@ -6,7 +6,7 @@ use turns::sets;
 ghost use mathlib.Core.Path.{_≡_};
 ghost use Prim.Native.Nat.{_+_, _^_, _≤_, _<_};
 ghost use lib.ListN.{length};
-ghost use Rattle.text.specs.Adding.{Adds};
+ghost use Rattle.text.specs.Inner.Adding.{Adds};
 ghost use Rattle.text.specs.Numeral as F;
 ghost use Rattle.report.specs.Listing.{listLine, setLine, planLine, refusedLine};
 

@@ -13,7 +13,7 @@ ghost use Prim.Native.Nat.{ℕ, _+_, _≤_, _<_};
 ghost use lib.ListN.{length, take};
 ghost use Rattle.block.specs.Layout as L;
 ghost use Rattle.block.specs.Valid.{Valid};
-ghost use Rattle.text.specs.Adding.{Adds};
+ghost use Rattle.text.specs.Inner.Adding.{Adds};
 ghost use Rattle.turns.specs.Sizes.{setsBytes, roomBytes, movesBytes};
 ghost use Rattle.solver.specs.Calls.{RowTable};
 ghost use Rattle.solver.specs.Labels.{LowerSets, RowLabelled, Ranked};

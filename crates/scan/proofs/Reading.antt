@@ -12,8 +12,8 @@ use Rattle.block.specs.declared.layout.Place.{Place}
 use Rattle.block.specs.declared.refusal.Refusal.the-variants.{Form}
 use Rattle.text.specs.Numeral.{ascii, comma, numbers, decimal, Starts, Found, found, missing, after, search}
 use Rattle.text.specs.Format.{Spelling, Format, value, Outcome, refused, store, onFound, read}
-use Rattle.text.specs.Job.{both, either, infBound, emptyBound, boundSpellings, bound, boundField, kindWord, index}
-use Rattle.scan.specs.Step.{resume, resumeWith, pastValue, valueOr, Ranged, Inside, InsideWith}
+use Rattle.text.specs.Job.{both, infBound, emptyBound, boundSpellings, bound, boundField, kindWord, index}
+use Rattle.scan.specs.Inner.Step.{resume, resumeWith, pastValue, valueOr, Ranged, Inside, InsideWith}
 use Rattle.scan.specs.declared.step.Value.{Value}
 use Rattle.scan.specs.declared.step.Value.the-variants as value-at
 use Rattle.text.proofs.Search.{after-found, after-other, search-step, search-same}

@@ -1,2 +1,2 @@
--- What the steps of the reader come to.
-pub mod Step
+-- What the steps of the reader come to. Nothing here is to be believed: the read call's contract (text's Text) cites none of it.
+pub mod Inner

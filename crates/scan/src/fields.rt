@@ -15,8 +15,9 @@ ghost use lib.ListN.{length, drop, set};
 ghost use Rattle.block.specs.Layout.{Block, blockBytes, kinds, placeOf, InLayout};
 ghost use Rattle.text.specs.Format.{Format, value, read};
 ghost use Rattle.text.specs.Job as J;
-ghost use Rattle.scan.specs.Step.{resume, resumeWith, Inside, InsideWith, InsideNumeral, Ranged, foundAt};
-ghost use Rattle.text.specs.Numeral.{numbers, Ends, search};
+ghost use Rattle.scan.specs.Inner.Step.{resume, resumeWith, Inside, InsideWith, InsideNumeral, Ranged, foundAt};
+ghost use Rattle.text.specs.Numeral.{numbers, search};
+ghost use Rattle.text.specs.Inner.Fields.{Ends};
 
 // The spellings of an unlimited bound, past those of the numbers.
 const INF_BOUND: usize = NUMBERS;

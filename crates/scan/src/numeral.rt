@@ -4,14 +4,14 @@ use block::widths::wide;
 use text::NINE;
 use text::NUMBERS;
 use text::ZERO;
-ghost use mathlib.Core.Bool.{Bool};
 ghost use mathlib.Core.List.{_∷_, [], _++_};
 ghost use mathlib.Core.Path.{_≡_};
 ghost use Prim.Native.Nat.{_+_, _/_, _%_, _≤_, _<_};
 ghost use lib.ListN.{length, getD, drop};
 ghost use Rattle.block.specs.Decide.{Decides};
-ghost use Rattle.text.specs.Numeral.{numeral, numbers, decimal, Ends, search};
-ghost use Rattle.scan.specs.Step.{foundAt, InsideNumeral};
+ghost use Rattle.text.specs.Numeral.{numeral, numbers, decimal, search};
+ghost use Rattle.text.specs.Inner.Fields.{Ends};
+ghost use Rattle.scan.specs.Inner.Step.{foundAt, InsideNumeral};
 
 // The byte at a place of the text, 0 past its end.
 pub fn byte(text: &[u8], at: usize) -> usize

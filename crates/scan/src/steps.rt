@@ -8,15 +8,15 @@ use crate::step::Value;
 use crate::words::word;
 use block::layout::Place;
 use block::refusal::Refusal;
-ghost use mathlib.Core.List.{List};
 ghost use mathlib.Core.Path.{_≡_};
-ghost use Prim.Native.Nat.{ℕ, _≤_, _<_};
+ghost use Prim.Native.Nat.{ℕ, _<_};
 ghost use lib.ListN.{length};
 ghost use Rattle.block.specs.Layout.{Block, blockBytes, InLayout};
 ghost use Rattle.text.specs.Format.{Format, exactly, value, read};
 ghost use Rattle.text.specs.Job as J;
-ghost use Rattle.text.specs.Numeral.{numbers, Ends};
-ghost use Rattle.scan.specs.Step.{resume, pastValue, valueOr, Ranged, Inside};
+ghost use Rattle.text.specs.Numeral.{numbers};
+ghost use Rattle.text.specs.Inner.Fields.{Ends};
+ghost use Rattle.scan.specs.Inner.Step.{resume, pastValue, valueOr, Ranged, Inside};
 
 // Past the word.
 pub fn past_word(text: &[u8], at: Step, w: &[u8]) -> Step

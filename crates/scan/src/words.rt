@@ -2,7 +2,6 @@
 use crate::step::Numeral;
 use crate::step::Step;
 use block::refusal::Refusal;
-ghost use mathlib.Core.Bool.{Bool};
 ghost use mathlib.Core.Path.{_≡_};
 ghost use Prim.Native.Nat.{_<_, _≤_};
 ghost use lib.ListN.{length, drop};
@@ -11,7 +10,7 @@ ghost use Rattle.block.specs.Layout.{Block};
 ghost use Rattle.text.specs.Numeral.{Starts, after};
 ghost use Rattle.text.specs.Format.{Format, exactly, read};
 ghost use Rattle.text.specs.Job.{boundSpellings};
-ghost use Rattle.scan.specs.Step.{resume, foundAt, Inside, InsideNumeral};
+ghost use Rattle.scan.specs.Inner.Step.{resume, foundAt, Inside, InsideNumeral};
 
 // Whether the word stands at a place of the text.
 fn stands(text: &[u8], at: usize, word: &[u8]) -> bool

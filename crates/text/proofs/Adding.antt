@@ -7,7 +7,7 @@ use native.Mathlib.Numerals.{add-one}
 use native.Mathlib.Omega.{arith}
 use lib.ListN.{length, getD, take, drop, set}
 use lib.Seq.{take-suc, take-suc-set, take-all, drop-nil, drop-set-lt}
-use Rattle.text.specs.Adding.{Adds, Untouched}
+use Rattle.text.specs.Inner.Adding.{Adds, Untouched}
 
 -- a byte stored at a place
 pub byte-added : (t : List ℕ) (place x : ℕ) → place < length t → Adds (x ∷ []) t place (set t place x) (place + 1)

@@ -7,7 +7,7 @@ use Prim.Native.Nat.{ℕ, zero, suc, _+_, _*_, _≤_, _<_}
 use native.Mathlib.Omega.{arith}
 use lib.Dec.{eqb, lit<}
 use lib.ListN.{set}
-use Rattle.block.specs.Layout.{InLayout, maxJoint, maxAgents, maxResources, maxStates, maxPropositions, maxRows}
+use Rattle.block.specs.Layout.{InLayout, maxJoint, maxAgents, maxResources, maxStates, maxPropositions, maxRows, maxActions, headerBytes, rowBytes, actionCosts}
 use Rattle.block.specs.declared.layout.Place.{Place}
 use Rattle.block.specs.declared.refusal.Refusal.{Refusal}
 use Rattle.text.specs.declared.sizes.Sizes.{Sizes}
@@ -15,7 +15,7 @@ use Rattle.text.specs.Numeral.{comma, lineEnd}
 use Rattle.text.specs.Format.{Spelling, Format, exactly, value}
 use Rattle.text.specs.Job.{number, index, stateLine, costs, actions, actsLine, agentLines, possible, jointFields, goLine, goLines, noCounts, stateLines, states, strategic, binary, boundFields, teamFields, operandFields, rowLine, rowLines, size, headerLine, job}
 use Rattle.text.proofs.Spellings.{Fits, Clear, number-range, number-clear, bound-clear, kind-clear}
-use Rattle.text.proofs.Formats.{turn, Proper, done, word, field, sooner}
+use Rattle.text.proofs.Formats.{agentTurns, nextTurn, stateTurns, stateTurn, rowTurn, turn, Proper, done, word, field, sooner}
 
 -- the sizes of a job are in range
 pub record Small (z : Sizes) : Type 0 where
@@ -47,30 +47,30 @@ either-proper true h h′ = h
 either-proper false h h′ = h′
 
 module _ (z : Sizes) (small : Small z) (s : ℕ) (hs : s < maxStates) where
-  costs-proper : {n : ℕ} (a left k m j : ℕ) {f : Format} → a < maxAgents → k < 4 → j + m ≤ 2 → n ≤ 8 + 128 * s + (2 + 9 * a + 2 * k + j) →
-      Proper (8 + 128 * s + (4 + 9 * a + 2 * k)) f → Proper n (costs s a left k m j f)
+  costs-proper : {n : ℕ} (a left k m j : ℕ) {f : Format} → a < maxAgents → k < maxActions → j + m ≤ maxResources → n ≤ stateTurn s + (2 + agentTurns * a + actionCosts * k + j) →
+      Proper (stateTurn s + (2 + maxResources + agentTurns * a + actionCosts * k)) f → Proper n (costs s a left k m j f)
   unfolding costs
   costs-proper a left k zero j ha hk hj l h = sooner (omega arith) h
   costs-proper a left k (suc m) j ha hk hj l h =
       number-field (sep-small (eqb (left + m) 0) lineEnd comma (lit< tt) (lit< tt)) l (omega arith)
       (λ v _ _. costs-proper a left k m (suc j) ha hk (omega arith) (omega arith) h)
 
-  actions-proper : {n : ℕ} (a left k : ℕ) {f : Format} → a < maxAgents → k + left ≤ 4 → n ≤ 8 + 128 * s + (2 + 9 * a + 2 * k) →
-      Proper (8 + 128 * s + (10 + 9 * a)) f → Proper n (actions z s a left k f)
+  actions-proper : {n : ℕ} (a left k : ℕ) {f : Format} → a < maxAgents → k + left ≤ maxActions → n ≤ stateTurn s + (2 + agentTurns * a + actionCosts * k) →
+      Proper (stateTurn s + (1 + agentTurns + agentTurns * a)) f → Proper n (actions z s a left k f)
   unfolding actions
   actions-proper a zero k ha hk l h = sooner (omega arith) h
   actions-proper a (suc left) k ha hk l h =
       costs-proper a left k (z .resources) 0 ha (omega arith) (omega arith) (omega arith)
       (actions-proper a left (suc k) ha (omega arith) (omega arith) h)
 
-  acts-proper : {n : ℕ} (a : ℕ) {f : ℕ → Format} → a < maxAgents → n ≤ 8 + 128 * s + (1 + 9 * a) →
-      ((c : ℕ) → Proper (8 + 128 * s + (10 + 9 * a)) (f c)) → Proper n (actsLine z s a f)
+  acts-proper : {n : ℕ} (a : ℕ) {f : ℕ → Format} → a < maxAgents → n ≤ stateTurn s + (1 + agentTurns * a) →
+      ((c : ℕ) → Proper (stateTurn s + (1 + agentTurns + agentTurns * a)) (f c)) → Proper n (actsLine z s a f)
   unfolding actsLine index
   acts-proper a ha l h =
       past (past (past (number-field (lit< tt) l (omega arith) (λ c _ g. actions-proper a c 0 ha (omega arith) (omega arith) (h c)))))
 
-  agents-proper : {n : ℕ} (left a : ℕ) (counts : List ℕ) {f : List ℕ → Format} → a + left ≤ maxAgents → n ≤ 8 + 128 * s + (1 + 9 * a) →
-      ((counts : List ℕ) → Proper (8 + 128 * s + 32) (f counts)) → Proper n (agentLines z s left a counts f)
+  agents-proper : {n : ℕ} (left a : ℕ) (counts : List ℕ) {f : List ℕ → Format} → a + left ≤ maxAgents → n ≤ stateTurn s + (1 + agentTurns * a) →
+      ((counts : List ℕ) → Proper (stateTurn s + nextTurn) (f counts)) → Proper n (agentLines z s left a counts f)
   unfolding agentLines
   agents-proper zero a counts ha l h = sooner (omega arith) (h counts)
   agents-proper (suc left) a counts ha l h =
@@ -81,14 +81,14 @@ module _ (z : Sizes) (small : Small z) (s : ℕ) (hs : s < maxStates) where
   joint-proper joint zero a h = h
   joint-proper joint (suc left) a h = past (joint-proper joint left (suc a) h)
 
-  go-proper : {n : ℕ} (joint : ℕ) {f : Format} → joint < maxJoint → n ≤ 8 + 128 * s + (32 + joint) →
-      Proper (8 + 128 * s + (33 + joint)) f → Proper n (goLine z s joint f)
+  go-proper : {n : ℕ} (joint : ℕ) {f : Format} → joint < maxJoint → n ≤ stateTurn s + (nextTurn + joint) →
+      Proper (stateTurn s + (1 + nextTurn + joint)) f → Proper n (goLine z s joint f)
   unfolding goLine index
   go-proper joint hj l h =
       past (past (joint-proper joint (z .agents) 0 (number-field (lit< tt) l (omega arith) (λ q _ _. sooner (omega arith) h))))
 
-  gos-proper : {n : ℕ} (left joint : ℕ) (counts : List ℕ) {f : Format} → joint + left ≤ maxJoint → n ≤ 8 + 128 * s + (32 + joint) →
-      Proper (8 + 128 * s + 128) f → Proper n (goLines z s counts left joint f)
+  gos-proper : {n : ℕ} (left joint : ℕ) (counts : List ℕ) {f : Format} → joint + left ≤ maxJoint → n ≤ stateTurn s + (nextTurn + joint) →
+      Proper (stateTurn s + stateTurns) f → Proper n (goLines z s counts left joint f)
   unfolding goLines
   gos-proper zero joint counts hj l h = sooner (omega arith) h
   gos-proper (suc left) joint counts hj l h =
@@ -96,34 +96,34 @@ module _ (z : Sizes) (small : Small z) (s : ℕ) (hs : s < maxStates) where
       (go-proper joint (omega arith) l (gos-proper left (suc joint) counts (omega arith) (omega arith) h))
       (gos-proper left (suc joint) counts (omega arith) (omega arith) h)
 
-  state-proper : {n : ℕ} {f : Format} → n ≤ 8 + 128 * s → Proper (8 + 128 * s + 128) f → Proper n (stateLines z s f)
+  state-proper : {n : ℕ} {f : Format} → n ≤ stateTurn s → Proper (stateTurn s + stateTurns) f → Proper n (stateLines z s f)
   unfolding stateLines stateLine index
   state-proper l h =
       past (past (number-field (lit< tt) l hs
       (λ m _ _. agents-proper (z .agents) 0 noCounts (omega arith) (omega arith) (λ counts. gos-proper maxJoint 0 counts (omega arith) (omega arith) h))))
 
 module _ (z : Sizes) (small : Small z) where
-  states-proper : {n : ℕ} (left s : ℕ) {f : Format} → s + left ≤ maxStates → n ≤ 8 + 128 * s → Proper 3080 f → Proper n (states z left s f)
+  states-proper : {n : ℕ} (left s : ℕ) {f : Format} → s + left ≤ maxStates → n ≤ stateTurn s → Proper (rowTurn 0) f → Proper n (states z left s f)
   unfolding states
   states-proper zero s hs l h = sooner (omega arith) h
   states-proper (suc left) s hs l h =
       state-proper z small s (omega arith) l (states-proper left (suc s) (omega arith) (omega arith) h)
 
-  bounds-proper : {n : ℕ} (i left j : ℕ) {f : Format} → i < maxRows → j + left ≤ 2 → n ≤ 3080 + 8 * i + (2 + j) →
-      Proper (3080 + 8 * i + 4) f → Proper n (boundFields i left j f)
+  bounds-proper : {n : ℕ} (i left j : ℕ) {f : Format} → i < maxRows → j + left ≤ maxResources → n ≤ rowTurn i + (2 + j) →
+      Proper (rowTurn i + (2 + maxResources)) f → Proper n (boundFields i left j f)
   unfolding boundFields
   bounds-proper i zero j hi hj l h = sooner (omega arith) h
   bounds-proper i (suc left) j hi hj l h =
       clear-field bound-clear (omega arith) (omega arith) (λ v _. bounds-proper i left (suc j) hi (omega arith) (omega arith) h)
 
-  team-proper : {n : ℕ} (i k : ℕ) {f : Format} → i < maxRows → n ≤ 3080 + 8 * i + 1 → Proper (3080 + 8 * i + 4) f → Proper n (teamFields z i k f)
+  team-proper : {n : ℕ} (i k : ℕ) {f : Format} → i < maxRows → n ≤ rowTurn i + 1 → Proper (rowTurn i + (2 + maxResources)) f → Proper n (teamFields z i k f)
   unfolding teamFields
   team-proper i k hi l h =
       either-proper (strategic k)
       (number-field (lit< tt) (omega arith) (omega arith) (λ t _ _. bounds-proper i (z .resources) 0 hi (omega arith) (omega arith) h))
       (sooner (omega arith) h)
 
-  operands-proper : {n : ℕ} (i k : ℕ) {f : Format} → i < maxRows → n ≤ 3080 + 8 * i + 4 → Proper (3080 + 8 * i + 8) f → Proper n (operandFields z i k f)
+  operands-proper : {n : ℕ} (i k : ℕ) {f : Format} → i < maxRows → n ≤ rowTurn i + (2 + maxResources) → Proper (rowTurn i + rowBytes) f → Proper n (operandFields z i k f)
   unfolding operandFields
   operands-proper i k hi l h =
       number-field (sep-small (binary k) comma lineEnd (lit< tt) (lit< tt)) (omega arith) (omega arith)
@@ -131,7 +131,7 @@ module _ (z : Sizes) (small : Small z) where
       (number-field (lit< tt) (omega arith) (omega arith) (λ w _ _. sooner (omega arith) h))
       (sooner (omega arith) h))
 
-  rows-proper : {n : ℕ} (left i : ℕ) {f : Format} → i + left ≤ maxRows → n ≤ 3080 + 8 * i → Proper 3336 f → Proper n (rowLines z left i f)
+  rows-proper : {n : ℕ} (left i : ℕ) {f : Format} → i + left ≤ maxRows → n ≤ rowTurn i → Proper (rowTurn maxRows) f → Proper n (rowLines z left i f)
   unfolding rowLines rowLine
   rows-proper zero i hi l h = sooner (omega arith) h
   rows-proper (suc left) i hi l h =
@@ -139,11 +139,11 @@ module _ (z : Sizes) (small : Small z) where
       (λ k _. team-proper i k (omega arith) (omega arith)
       (operands-proper i k (omega arith) (omega arith) (rows-proper left (suc i) (omega arith) (omega arith) h)))
 
-size-proper : {n : ℕ} (sep f high : ℕ) {k : ℕ → Format} → sep < 48 → n ≤ f → f < 5 → ((v : ℕ) → v ≤ high → Proper (suc f) (k v)) → Proper n (size sep f high k)
+size-proper : {n : ℕ} (sep f high : ℕ) {k : ℕ → Format} → sep < 48 → n ≤ f → f < headerBytes → ((v : ℕ) → v ≤ high → Proper (suc f) (k v)) → Proper n (size sep f high k)
 unfolding size
 size-proper sep f high hs l h g = number-field hs l h (λ v _ m. g v (omega arith))
 
-header-proper : {f : Sizes → Format} → ((z : Sizes) → Small z → Proper 5 (f z)) → Proper 0 (headerLine f)
+header-proper : {f : Sizes → Format} → ((z : Sizes) → Small z → Proper headerBytes (f z)) → Proper 0 (headerLine f)
 unfolding headerLine
 header-proper h =
     past

@@ -9,10 +9,11 @@ use native.Mathlib.Nat.{eq-or-lt-of-le}
 use native.Mathlib.Omega.{arith}
 use lib.Dec.{T}
 use lib.ListN.{set}
-use Rattle.block.specs.Layout.{Block, maxJoint, maxAgents, maxResources, maxStates, maxPropositions, maxRows, agents, resources, states, propositions, rows, count, kind}
+use Rattle.block.specs.Layout.{Block, maxJoint, maxAgents, maxResources, maxStates, maxPropositions, maxRows, boundByte, agents, resources, states, rows, count, kind}
 use Rattle.block.specs.declared.layout.Place.{Place}
 use Rattle.block.specs.declared.layout.Place.the-variants.{Header, Mask, Count, Cost, Next, Field}
 use Rattle.text.specs.declared.sizes.Sizes.{Sizes}
+use Rattle.text.specs.Inner.Fields.{sizesOf}
 use Rattle.text.specs.Numeral.{comma, lineEnd}
 use Rattle.text.specs.Format.{Spelling, Format, end, value}
 use Rattle.text.specs.Job.{bound, kindSpelling, index, maskSpelling, stateLine, costSpelling, costs, actions, countSpelling, actsLine, agentLines, possible, jointFields, nextSpelling, goLine, goLines, noCounts, stateLines, states as allStates, strategic, binary, boundFields, teamSpelling, teamFields, leftSpelling, rightSpelling, operandFields, rowLine, rowLines, sizeSpelling, size, headerLine, job}
@@ -41,10 +42,6 @@ loop-step {j} {e} {Q} {X} {R = R} l body rest = (there, back)
 abbrev pub told : Block → ℕ → ℕ → ℕ → List ℕ → List ℕ
 told b s zero a counts = counts
 told b s (suc n) a counts = told b s n (suc a) (set counts a (count b s a))
-
--- the sizes as told by the first line
-abbrev pub sizesOf : Block → Sizes
-sizesOf b = record { agents = agents b; resources = resources b; states = states b; propositions = propositions b; rows = rows b }
 
 module _ (P : Spelling → Place → Type 0) (b : Block) where
   -- the cost of action k in resource j, where left further actions and resources up to r follow
@@ -130,13 +127,13 @@ module _ (P : Spelling → Place → Type 0) (b : Block) where
   states-every z n zero s f e = loop-end (omega arith)
   states-every z n (suc left) s f e = loop-step (omega arith) (state-every z s _) (states-every z n left (suc s) f (omega arith))
 
-  bounds-every : (i r left j : ℕ) (f : Format) → j + left ≡ r → Every P (boundFields i left j f) b ↔ (Between j r (λ j. P bound (Field i (4 + j))) × Every P f b)
+  bounds-every : (i r left j : ℕ) (f : Format) → j + left ≡ r → Every P (boundFields i left j f) b ↔ (Between j r (λ j. P bound (Field i (boundByte + j))) × Every P f b)
   unfolding boundFields
   bounds-every i r zero j f e = loop-end (omega arith)
   bounds-every i r (suc left) j f e = loop-step (omega arith) Iff·rfl (bounds-every i r left (suc j) f (omega arith))
 
   abbrev TeamFields : Sizes → ℕ → Type 0
-  TeamFields z i = P (teamSpelling z) (Field i 3) × Between 0 (z .resources) (λ j. P bound (Field i (4 + j)))
+  TeamFields z i = P (teamSpelling z) (Field i 3) × Between 0 (z .resources) (λ j. P bound (Field i (boundByte + j)))
 
   team-every : (z : Sizes) (i k : ℕ) (f : Format) → Every P (teamFields z i k f) b ↔ ((T (strategic k) → TeamFields z i) × Every P f b)
   unfolding teamFields

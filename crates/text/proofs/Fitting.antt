@@ -11,10 +11,11 @@ use lib.Dec.{eqb, lit<}
 use lib.ListN.{length}
 use lib.Pow.{pow-mono}
 use borrow.Author.Tests.{eq-eqb, ne-eqb}
-use Rattle.block.specs.Layout.{Block, blockBytes, placeOf, InUse, Used, UsesField, byteAt, at, agents, resources, states, propositions, rows, count, cost, left, bound, kind, propKind}
+use Rattle.block.specs.Layout.{Block, maxAgents, maxResources, maxStates, maxPropositions, maxRows, maxActions, maxUnits, boundByte, blockBytes, placeOf, InUse, Used, UsesField, byteAt, at, agents, resources, states, propositions, rows, count, cost, left, bound, kind, propKind}
 use Rattle.block.specs.Valid.{Counted, RowFits, Valid}
 use Rattle.block.specs.declared.layout.Place.{Place}
 use Rattle.block.specs.declared.layout.Place.the-variants.{Header, Mask, Count, Cost, Next, Field}
+use Rattle.text.specs.Numeral.{numbers}
 use Rattle.text.specs.Job.{costLimit}
 use Rattle.text.proofs.Decimals.{lt-or-ge}
 use Rattle.text.proofs.Spellings.{Fits, number-range, number-fits, bound-range, bound-fits, kind-range, kind-fits}
@@ -33,11 +34,11 @@ either-le : (t : Bool) (p q n : ℕ) → p ≤ n → q ≤ n → cond t p q ≤ 
 either-le true p q n h g = h
 either-le false p q n h g = g
 
-cost-limit : (k : ℕ) → costLimit k ≤ 16
-cost-limit k = either-le (eqb k 0) _ _ 16 (omega arith) (omega arith)
+cost-limit : (k : ℕ) → costLimit k ≤ suc maxUnits
+cost-limit k = either-le (eqb k 0) _ _ (suc maxUnits) (omega arith) (omega arith)
 
-from-four : (f r : ℕ) → 4 ≤ f → f < 4 + r → (f - 4 < r) × (4 + (f - 4) ≡ f)
-from-four f r h g = omega arith
+from-bound : (f r : ℕ) → boundByte ≤ f → f < boundByte + r → (f - boundByte < r) × (boundByte + (f - boundByte) ≡ f)
+from-bound f r h g = omega arith
 
 module _ (b : Block) where
   abbrev FitsEverywhere : Type 0
@@ -60,15 +61,15 @@ module _ (b : Block) where
 
   pub fits-valid : FitsEverywhere → length b ≡ blockBytes → ((p : ℕ) → p < blockBytes → (Used b p → ⊥) → byteAt b p ≡ 0) → Valid b
   fits-valid e l u =
-      let c : Counted b = λ s a hs ha. omega (arith, number-range 1 5 (e .state-fields s zero-le hs .1 a zero-le ha .0)) in
+      let c : Counted b = λ s a hs ha. omega (arith, number-range 1 (suc maxActions) (e .state-fields s zero-le hs .1 a zero-le ha .0)) in
       record {
         sized = record {
           bytes = l;
-          agents-fit = omega (arith, number-range 1 4 (e .agents-field));
-          resources-fit = omega (arith, number-range 1 3 (e .resources-field));
-          states-fit = omega (arith, number-range 1 25 (e .states-field));
-          propositions-fit = omega (arith, number-range 1 9 (e .propositions-field));
-          rows-fit = omega (arith, number-range 1 33 (e .rows-field));
+          agents-fit = omega (arith, number-range 1 (suc maxAgents) (e .agents-field));
+          resources-fit = omega (arith, number-range 1 (suc maxResources) (e .resources-field));
+          states-fit = omega (arith, number-range 1 (suc maxStates) (e .states-field));
+          propositions-fit = omega (arith, number-range 1 (suc maxPropositions) (e .propositions-field));
+          rows-fit = omega (arith, number-range 1 (suc maxRows) (e .rows-field));
         };
         counted = c;
         mask-fits = λ s hs. number-range 0 (2 ^ propositions b) (e .state-fields s zero-le hs .0) .1;
@@ -81,7 +82,7 @@ module _ (b : Block) where
 
   cost-valid : Valid b → (s a k j : ℕ) → s < states b → a < agents b → k < count b s a → j < resources b → cost b s a k j < costLimit k
   cost-valid v s a zero j hs ha hk hj = omega (arith, v .idle-free s a j hs ha hj)
-  cost-valid v s a (suc k) j hs ha hk hj = omega (arith, on-other (suc k) 1 16 (omega arith), v .cost-fits s a (suc k) j hs ha hk hj)
+  cost-valid v s a (suc k) j hs ha hk hj = omega (arith, on-other (suc k) 1 (suc maxUnits) (omega arith), v .cost-fits s a (suc k) j hs ha hk hj)
 
   left-valid : (i : ℕ) → RowFits b i → left b i < cond (eqb (kind b i) propKind) (propositions b) i
   left-valid i r = ⊎-elim
@@ -90,22 +91,22 @@ module _ (b : Block) where
       (lt-or-ge (kind b i) 1)
 
   -- a mask of a few bits is a byte
-  mask-byte : (m n : ℕ) → n ≤ 8 → m < 2 ^ n → m < 256
+  mask-byte : (m n : ℕ) → n ≤ maxPropositions → m < 2 ^ n → m < numbers
   mask-byte m n h l = omega (arith, pow-mono h)
 
   pub valid-fits : Valid b → FitsEverywhere
   valid-fits v =
       let z = v .sized in
       record {
-        agents-field = number-fits 1 4 (z .agents-fit .0) (omega arith) (omega arith);
-        resources-field = number-fits 1 3 (z .resources-fit .0) (omega arith) (omega arith);
-        states-field = number-fits 1 25 (z .states-fit .0) (omega arith) (omega arith);
-        propositions-field = number-fits 1 9 (z .propositions-fit .0) (omega arith) (omega arith);
-        rows-field = number-fits 1 33 (z .rows-fit .0) (omega arith) (omega arith);
+        agents-field = number-fits 1 (suc maxAgents) (z .agents-fit .0) (omega arith) (omega arith);
+        resources-field = number-fits 1 (suc maxResources) (z .resources-fit .0) (omega arith) (omega arith);
+        states-field = number-fits 1 (suc maxStates) (z .states-fit .0) (omega arith) (omega arith);
+        propositions-field = number-fits 1 (suc maxPropositions) (z .propositions-fit .0) (omega arith) (omega arith);
+        rows-field = number-fits 1 (suc maxRows) (z .rows-fit .0) (omega arith) (omega arith);
         state-fields = λ s _ hs. (
           number-fits 0 (2 ^ propositions b) zero-le (v .mask-fits s hs) (mask-byte _ (propositions b) (z .propositions-fit .1) (v .mask-fits s hs)),
           λ a _ ha. let c = v .counted s a hs ha in (
-            number-fits 1 5 (c .0) (omega arith) (omega arith),
+            number-fits 1 (suc maxActions) (c .0) (omega arith) (omega arith),
             λ k _ hk j _ hj. let l = cost-valid v s a k j hs ha hk hj in number-fits 0 (costLimit k) zero-le l (omega (arith, cost-limit k)),
           ),
           λ joint _ hj t. let l = v .next-fits s joint hs (hj, possible-acts b s joint .0 t) in number-fits 0 (states b) zero-le l (omega arith),
@@ -115,7 +116,7 @@ module _ (b : Block) where
               kind-fits (omega (arith, r .known)),
               λ t. let q = strategic-case (kind b i) t in (
                 number-fits 1 (2 ^ agents b) (r .team-some q) (r .team-fits q) (mask-byte _ (agents b) (omega arith) (r .team-fits q)),
-                λ j _ hj. bound-fits (⊎-elim inl (λ g. inr (r .bound-fits q j hj g)) (lt-or-ge (bound b i j) 16)),
+                λ j _ hj. bound-fits (⊎-elim inl (λ g. inr (r .bound-fits q j hj g)) (lt-or-ge (bound b i j) (suc maxUnits))),
               ),
               number-fits 0 _ zero-le (left-valid i r) (omega (arith, left-valid i r, either-le (eqb (kind b i) propKind) (propositions b) i 255 (omega arith) (omega arith))),
               λ t. let l = r .right-lower (binary-case (kind b i) t) in number-fits 0 i zero-le l (omega arith),
@@ -139,8 +140,8 @@ module _ (b : Block) where
           let (t, bs) = e .row-fields i zero-le hi .1 (strategic-true (kind b i) (h .0)) in
           ⊎-elim
           (λ z. t (omega arith))
-          (λ z. let (l, s) = from-four f (resources b) z (h .1 .1) in bs (f - 4) zero-le l (rw s q))
-          (lt-or-ge f 4)
+          (λ z. let (l, s) = from-bound f (resources b) z (h .1 .1) in bs (f - boundByte) zero-le l (rw s q))
+          (lt-or-ge f boundByte)
 
       place : (x : Place) → InUse b x → placeOf x ≡ n → ⊥
       place (Header zero) h q = e .agents-field q
@@ -171,7 +172,7 @@ module _ (b : Block) where
       λ q. u (Field i 0, q, (hi, inl (omega arith))),
       λ t. let str = strategic-case (kind b i) t in (
         λ q. u (Field i 3, q, (hi, inr (inr (str, (omega arith, omega arith))))),
-        λ j _ hj q. u (Field i (4 + j), q, (hi, inr (inr (str, (omega arith, omega arith))))),
+        λ j _ hj q. u (Field i (boundByte + j), q, (hi, inr (inr (str, (omega arith, omega arith))))),
       ),
       λ q. u (Field i 1, q, (hi, inl (omega arith))),
       λ t q. u (Field i 2, q, (hi, inr (inl (refl, binary-case (kind b i) t)))),

@@ -16,7 +16,7 @@ use lib.Dec.{T, eqb}
 use lib.ListN.{length, length-set}
 use lib.Seq.{getD-set-same, getD-set-other, ext-getD}
 use borrow.Author.Tests.{eqb-true, eqb-false}
-use Rattle.block.specs.Layout.{Block, blockBytes, placeOf, InLayout, byteAt, at}
+use Rattle.block.specs.Layout.{Block, maxAgents, maxResources, maxStates, maxJoint, headerBytes, boundByte, rowBytes, actionCosts, agentCosts, blockBytes, placeOf, InLayout, byteAt, at}
 use Rattle.block.specs.declared.layout.Place.{Place}
 use Rattle.block.specs.declared.layout.Place.the-variants.{Header, Mask, Count, Cost, Next, Field}
 use Rattle.block.specs.declared.refusal.Refusal.{Refusal}
@@ -27,14 +27,32 @@ use Rattle.text.specs.Format.{Spelling, Format, end, exactly, value, wri
 use Rattle.text.proofs.Search.{starts, after-found, after-other, search-found, search-inv}
 use Rattle.text.proofs.Spellings.{Fits, Clear}
 
--- when a place's turn comes in the text: the sizes, then state by state, then row by row, where the fields 0, 3, 4, 5, 1, 2 come in this order
+-- how many turns the line of an agent has, from its count on; the turn of a state's first next state; the turns of a state
+abbrev pub agentTurns : ℕ
+agentTurns = 1 + agentCosts
+
+abbrev pub nextTurn : ℕ
+nextTurn = 1 + maxAgents * agentTurns
+
+abbrev pub stateTurns : ℕ
+stateTurns = nextTurn + maxJoint
+
+-- the turns of state s and of row i
+abbrev pub stateTurn : ℕ → ℕ
+stateTurn s = headerBytes + stateTurns * s
+
+abbrev pub rowTurn : ℕ → ℕ
+rowTurn i = headerBytes + stateTurns * maxStates + rowBytes * i
+
+-- when a place's turn comes in the text: the sizes, then state by state, then row by row, where the kind, the team and the bounds come before
+-- what the row names
 abbrev pub turn : Place → ℕ
 turn (Header f) = f
-turn (Mask s) = 8 + 128 * s
-turn (Count s a) = 8 + 128 * s + (1 + 9 * a)
-turn (Cost s a k j) = 8 + 128 * s + (2 + 9 * a + 2 * k + j)
-turn (Next s joint) = 8 + 128 * s + (32 + joint)
-turn (Field i f) = 3080 + 8 * i + (1 + (f + 3) % 6 - 4 * (1 - f))
+turn (Mask s) = stateTurn s
+turn (Count s a) = stateTurn s + (1 + agentTurns * a)
+turn (Cost s a k j) = stateTurn s + (2 + agentTurns * a + actionCosts * k + j)
+turn (Next s joint) = stateTurn s + (nextTurn + joint)
+turn (Field i f) = rowTurn i + (1 + (f + (1 + maxResources)) % (boundByte + maxResources) - (2 + maxResources) * (1 - f))
 
 abbrev pub Every : (Spelling → Place → Type 0) → Format → Block → Type 0
 Every P end b = Unit {0}

@@ -14,23 +14,25 @@ use lib.Dec.{T, ltb, leb, eqb, lit<}
 use lib.Pow.{pow-pos}
 use borrow.Author.Tests.{ltb-false, leb-false, lt-ltb}
 use Rattle.block.specs.Decide.{Some, BitFrom}
-use Rattle.block.specs.Layout.{Block, placeOf, InLayout, at, agents, resources, states, propositions, rows, mask, cost, kind, left, team, bound, maxRows, maxJoint, nextKind, untilKind, propKind, Strategic}
+use Rattle.block.specs.Layout.{Block, maxAgents, maxResources, maxStates, maxPropositions, maxRows, maxActions, maxUnits, maxJoint, boundByte, unlimited, InLayout, at, agents, resources, states, propositions, rows, mask, cost, kind, left, team, bound, propKind}
 use Rattle.block.specs.Refusal.{Meets}
 use Rattle.block.specs.Check.{BadSizes, agents-range, resources-range, states-range, propositions-range, rows-range, prop-range, left-range, right-range, team-empty, team-absent, bound-range, operands, coalition, BadState, BadNext, BadRow, blockRules}
 use Rattle.block.specs.declared.layout.Place.{Place}
-use Rattle.block.specs.declared.layout.Place.the-variants.{Header, Mask, Count, Cost, Next, Field}
+use Rattle.block.specs.declared.layout.Place.the-variants.{Field}
 use Rattle.block.specs.declared.refusal.Refusal.{Refusal}
 use Rattle.block.specs.declared.refusal.Refusal.the-variants as refusal
 use Rattle.block.proofs.Masks.{bit-above}
 use Rattle.text.specs.Format.{Spelling, Stop, nowhere, stopped, stop}
-use Rattle.text.specs.Job.{both, either, bound as boundSpelling, costLimit, strategic, teamSpelling, leftSpelling, job}
+use Rattle.text.specs.Numeral.{numbers}
+use Rattle.text.specs.Job.{both, either, infBound, bound as boundSpelling, costLimit, strategic, teamSpelling, leftSpelling, job}
 use Rattle.text.specs.Broken.{BrokenAt, agents-at, resources-at, states-at, propositions-at, rows-at, mask-at, count-at, cost-at, next-at, prop-at, left-at, right-at, team-empty-at, team-absent-at, bound-at, UnlimitedNumber, written}
 use Rattle.text.specs.Text.{blank, readText, NumberedAt, Numbered}
 use Rattle.text.proofs.Decimals.{lt-or-ge}
 use Rattle.text.proofs.Spellings.{bound-small}
 use Rattle.text.proofs.Stops.{Barred, along-every, halted, misread}
 use Rattle.text.proofs.DistinctPlaces.{job-proper}
-use Rattle.text.proofs.FieldsByName.{sizesOf, Everywhere, job-every}
+use Rattle.text.specs.Inner.Fields.{sizesOf}
+use Rattle.text.proofs.FieldsByName.{Everywhere, job-every}
 use Rattle.text.proofs.Possible.{possible-acts}
 use Rattle.text.proofs.KindTests.{binary-case, strategic-case}
 use Rattle.text.proofs.Fitting.{on-zero, on-other}
@@ -88,9 +90,9 @@ out-of-range low limit {o} e h = ⊎-elim
 from-limit : (limit : ℕ) {o v : ℕ} → o ≡ v → both (leb 0 o) (ltb o limit) ≡ false → limit ≤ v
 from-limit limit e h = ⊎-elim (λ x. absurd (omega arith)) (λ x. x) (out-of-range 0 limit e h)
 
-cost-bad : (k c : ℕ) → costLimit k ≤ c → (15 < c) ⊎ ((k ≡ 0) × (0 < c))
+cost-bad : (k c : ℕ) → costLimit k ≤ c → (maxUnits < c) ⊎ ((k ≡ 0) × (0 < c))
 cost-bad zero c h = inr (refl, h)
-cost-bad (suc k) c h = inl (omega (arith, h, on-other (suc k) 1 16 (omega arith)))
+cost-bad (suc k) c h = inl (omega (arith, h, on-other (suc k) 1 (suc maxUnits) (omega arith)))
 
 module _ (b : Block) (t : List ℕ) where
   -- where the field's spelling with which the text t begins may not stand there, the block is broken at the field's place
@@ -104,17 +106,17 @@ module _ (b : Block) (t : List ℕ) where
       (out-of-range 1 (2 ^ agents b) (x .meant) (x .not-allowed))
 
   -- a bound that is refused is a number from 16 on
-  bound-told : (i j : ℕ) → i < rows b → T (strategic (kind b i)) → j < resources b → Told boundSpelling (Field i (4 + j))
+  bound-told : (i j : ℕ) → i < rows b → T (strategic (kind b i)) → j < resources b → Told boundSpelling (Field i (boundByte + j))
   bound-told i j hi s hj l x =
-      let (small, large) = not-either (ltb (x .option) 16) (leb 256 (x .option)) (x .not-allowed) in
-      let from : 16 ≤ x .option = ltb-false (x .option) 16 small in
-      let below : x .option < 256 = leb-false 256 (x .option) large in
-      let byte : x .option ≡ bound b i j = sym (simp (lt-ltb (x .option) 256 below)) ∙ x .meant in
+      let (small, large) = not-either (ltb (x .option) (suc maxUnits)) (leb infBound (x .option)) (x .not-allowed) in
+      let from : suc maxUnits ≤ x .option = ltb-false (x .option) (suc maxUnits) small in
+      let below : x .option < numbers = leb-false infBound (x .option) large in
+      let byte : x .option ≡ bound b i j = sym (simp (lt-ltb (x .option) numbers below)) ∙ x .meant in
       let k = strategic-case (kind b i) s in
       ⊎-elim
       (λ h. inl (bound-at hi k hj (omega arith, λ e. omega arith)))
-      (λ h. let full : x .option ≡ 255 = omega arith in inr (written hi k hj (sym byte ∙ full) (rw (full, bound-small 255 (lit< tt)) at (x .begins))))
-      (lt-or-ge (x .option) 255)
+      (λ h. let full : x .option ≡ unlimited = omega arith in inr (written hi k hj (sym byte ∙ full) (rw (full, bound-small unlimited (lit< tt)) at (x .begins))))
+      (lt-or-ge (x .option) unlimited)
 
   left-told : (i : ℕ) → i < rows b → Told (leftSpelling (sizesOf b) i (kind b i)) (Field i 1)
   left-told i hi l x =
@@ -127,15 +129,15 @@ module _ (b : Block) (t : List ℕ) where
 
   told : Everywhere Told b
   told = record {
-    agents-field = λ _ x. inl (agents-at (out-of-range 1 4 (x .meant) (x .not-allowed)));
-    resources-field = λ _ x. inl (resources-at (out-of-range 1 3 (x .meant) (x .not-allowed)));
-    states-field = λ _ x. inl (states-at (out-of-range 1 25 (x .meant) (x .not-allowed)));
-    propositions-field = λ _ x. inl (propositions-at (out-of-range 1 9 (x .meant) (x .not-allowed)));
-    rows-field = λ _ x. inl (rows-at (out-of-range 1 33 (x .meant) (x .not-allowed)));
+    agents-field = λ _ x. inl (agents-at (out-of-range 1 (suc maxAgents) (x .meant) (x .not-allowed)));
+    resources-field = λ _ x. inl (resources-at (out-of-range 1 (suc maxResources) (x .meant) (x .not-allowed)));
+    states-field = λ _ x. inl (states-at (out-of-range 1 (suc maxStates) (x .meant) (x .not-allowed)));
+    propositions-field = λ _ x. inl (propositions-at (out-of-range 1 (suc maxPropositions) (x .meant) (x .not-allowed)));
+    rows-field = λ _ x. inl (rows-at (out-of-range 1 (suc maxRows) (x .meant) (x .not-allowed)));
     state-fields = λ s _ hs. (
       λ _ x. inl (mask-at hs (bit-from (propositions b) (mask b s) (from-limit (2 ^ propositions b) (x .meant) (x .not-allowed)))),
       λ a _ ha. (
-        λ _ x. inl (count-at hs ha (out-of-range 1 5 (x .meant) (x .not-allowed))),
+        λ _ x. inl (count-at hs ha (out-of-range 1 (suc maxActions) (x .meant) (x .not-allowed))),
         λ k _ hk j _ hj _ x. inl (cost-at hs ha hk hj (cost-bad k (cost b s a k j) (from-limit (costLimit k) (x .meant) (x .not-allowed)))),
       ),
       λ joint _ hj can _ x. inl (next-at hs ((hj, possible-acts b s joint .0 can), from-limit (states b) (x .meant) (x .not-allowed))),

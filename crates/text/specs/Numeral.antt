@@ -2,7 +2,7 @@
 use mathlib.Core.Bool.{cond}
 use mathlib.Core.List.{List, [], _∷_, _++_}
 use mathlib.Core.Path.{_≡_}
-use Prim.Native.Nat.{ℕ, zero, suc, _+_, _/_, _%_, _<_}
+use Prim.Native.Nat.{ℕ, zero, suc, _+_, _/_, _%_}
 use Prim.Native.Char.{code}
 use Prim.Native.String.{String}
 use lib.Dec.{ltb, eqb}
@@ -37,10 +37,6 @@ decimal n = decimalTo n n
 -- a number and the byte after it
 abbrev pub field : ℕ → ℕ → List ℕ
 field n sep = decimal n ++ sep ∷ []
-
--- a byte that can end a number: it is below the digits
-abbrev pub Ends : ℕ → Type 0
-Ends sep = (0 < sep) × (sep < numeral 0)
 
 -- the text t begins with the word w
 abbrev pub Starts : List ℕ → List ℕ → Type 0

@@ -1,7 +1,7 @@
 // The bytes after fields.
 ghost use mathlib.Core.Path.{_≡_};
 ghost use Rattle.text.specs.Job as J;
-ghost use Rattle.text.specs.Numeral.{Ends};
+ghost use Rattle.text.specs.Inner.Fields.{Ends};
 
 // The byte after a cost: the line ends where none is left.
 pub fn cost_end(left: usize) -> u8

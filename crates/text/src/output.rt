@@ -4,7 +4,7 @@ ghost use mathlib.Core.List.{_∷_, []};
 ghost use mathlib.Core.Path.{_≡_};
 ghost use Prim.Native.Nat.{ℕ, _+_, _^_, _≤_, _<_};
 ghost use lib.ListN.{length};
-ghost use Rattle.text.specs.Adding.{Adds, Untouched};
+ghost use Rattle.text.specs.Inner.Adding.{Adds, Untouched};
 ghost use Rattle.text.specs.Numeral.{numeral, decimal, field};
 
 // Puts a byte at a place of the text.

@@ -14,7 +14,7 @@ use Rattle.text.specs.declared.sizes.Sizes.{Sizes}
 use Rattle.text.specs.Numeral.{comma, decimal}
 use Rattle.text.specs.Format.{Format, write}
 use Rattle.text.specs.Job.{bound, boundField, actsLine, agentLines, noCounts}
-use Rattle.writer.specs.Writing.{Past, PastWith, countsTo}
+use Rattle.writer.specs.Inner.Writing.{Past, PastWith, countsTo}
 use Rattle.text.proofs.Loops.{Loop, left-more, turn, finish}
 
 -- the writer's loop has written j turns

@@ -1,4 +1,3 @@
--- What the steps of the writer do, and what the write call promises.
-pub mod Lengths
-pub mod Writing
+-- To believe: Call, what the write call promises. Inner serves contracts of inner functions and proofs only.
 pub mod Call
+pub mod Inner

@@ -9,8 +9,9 @@ ghost use Rattle.block.specs.Layout as L;
 ghost use Rattle.block.specs.Layout.{maxStates, maxAgents, maxActions};
 ghost use Rattle.block.specs.Valid.{Valid};
 ghost use Rattle.text.specs.Job as J;
-ghost use Rattle.writer.specs.Lengths.{costsBytes, actionsBytes, actsLineBytes, agentLinesBytes};
-ghost use Rattle.writer.specs.Writing.{Past, PastWith, Room, sizesOf, countsTo};
+ghost use Rattle.writer.specs.Inner.Lengths.{costsBytes, actionsBytes, actsLineBytes, agentLinesBytes};
+ghost use Rattle.text.specs.Inner.Fields.{sizesOf};
+ghost use Rattle.writer.specs.Inner.Writing.{Past, PastWith, Room, countsTo};
 
 // The costs of action k, which n further actions follow.
 fn costs(block: &[u8], text: &mut [u8], at: usize, s: usize, a: usize, n: usize, k: usize) -> usize

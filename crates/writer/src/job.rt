@@ -10,8 +10,9 @@ ghost use lib.ListN.{length, take};
 ghost use Rattle.block.specs.Valid.{Valid};
 ghost use Rattle.text.specs.Job as J;
 ghost use Rattle.text.specs.Text.{textBytes, textOf};
-ghost use Rattle.writer.specs.Lengths.{headerLineBytes};
-ghost use Rattle.writer.specs.Writing.{PastWith, Room, sizesOf};
+ghost use Rattle.writer.specs.Inner.Lengths.{headerLineBytes};
+ghost use Rattle.text.specs.Inner.Fields.{sizesOf};
+ghost use Rattle.writer.specs.Inner.Writing.{PastWith, Room};
 
 // job,N,R,M,P,F
 fn header_line(block: &[u8], text: &mut [u8], at: usize) -> usize

@@ -3,14 +3,13 @@ use block::layout;
 use text::output::field;
 use text::output::word;
 ghost use mathlib.Core.List.{_∷_, [], _++_};
-ghost use mathlib.Core.Path.{_≡_};
 ghost use Prim.Native.Nat.{_+_, _≤_, _<_};
 ghost use lib.ListN.{length};
 ghost use Rattle.block.specs.Layout.{kinds};
 ghost use Rattle.text.specs.Job as J;
 ghost use Rattle.text.specs.Numeral.{numbers, decimal};
-ghost use Rattle.text.specs.Adding.{Adds};
-ghost use Rattle.writer.specs.Lengths.{fieldBytes, wordBytes};
+ghost use Rattle.text.specs.Inner.Adding.{Adds};
+ghost use Rattle.writer.specs.Inner.Lengths.{fieldBytes, wordBytes};
 
 // A number and the comma or line end after it.
 pub fn number(text: &mut [u8], at: usize, n: usize, sep: u8) -> usize

@@ -4,14 +4,14 @@ use crate::output::number;
 use block::kinds::binary;
 use block::kinds::strategic;
 use block::layout;
-ghost use mathlib.Core.Path.{_≡_};
 ghost use Prim.Native.Nat.{_+_, _≤_, _<_};
 ghost use Rattle.block.specs.Layout as L;
 ghost use Rattle.block.specs.Layout.{maxRows};
 ghost use Rattle.block.specs.Valid.{Valid};
 ghost use Rattle.text.specs.Job as J;
-ghost use Rattle.writer.specs.Lengths.{boundsBytes, teamBytes, operandsBytes, rowLineBytes, rowLinesBytes};
-ghost use Rattle.writer.specs.Writing.{Past, Room, sizesOf};
+ghost use Rattle.writer.specs.Inner.Lengths.{boundsBytes, teamBytes, operandsBytes, rowLineBytes, rowLinesBytes};
+ghost use Rattle.text.specs.Inner.Fields.{sizesOf};
+ghost use Rattle.writer.specs.Inner.Writing.{Past, Room};
 
 // The bounds of row i.
 fn bounds(block: &[u8], text: &mut [u8], at: usize, i: usize) -> usize

@@ -12,8 +12,9 @@ ghost use Rattle.block.specs.Layout as L;
 ghost use Rattle.block.specs.Layout.{maxStates, maxJoint};
 ghost use Rattle.block.specs.Valid.{Valid};
 ghost use Rattle.text.specs.Job as J;
-ghost use Rattle.writer.specs.Lengths.{jointBytes, goLineBytes, goLinesBytes, stateLineBytes, stateLinesBytes, statesBytes};
-ghost use Rattle.writer.specs.Writing.{Past, Room, sizesOf};
+ghost use Rattle.writer.specs.Inner.Lengths.{jointBytes, goLineBytes, goLinesBytes, stateLineBytes, stateLinesBytes, statesBytes};
+ghost use Rattle.text.specs.Inner.Fields.{sizesOf};
+ghost use Rattle.writer.specs.Inner.Writing.{Past, Room};
 
 // state,s,mask
 fn state_line(block: &[u8], text: &mut [u8], at: usize, s: usize) -> usize

@@ -3,7 +3,7 @@ use Prim.Native.Nat.{_≤_, _-_}
 use native.Mathlib.Omega.{arith}
 use Rattle.block.specs.Layout.{Block}
 use Rattle.text.specs.Job as J
-use Rattle.scan.specs.Step.{Inside}
+use Rattle.scan.specs.Inner.Step.{Inside}
 use Rattle.reader.proofs.Progress.{Reached, reached-none, reached-more, reached-all}
 use Rattle.text.proofs.JobLoops.{joint-loop}
 use borrow.Author.Needs.{needs}

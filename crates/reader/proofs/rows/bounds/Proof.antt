@@ -5,7 +5,7 @@ use native.Mathlib.Omega.{arith}
 use lib.ListN.{length}
 use Rattle.block.specs.Layout.{blockBytes}
 use Rattle.text.specs.Job as J
-use Rattle.scan.specs.Step.{Inside}
+use Rattle.scan.specs.Inner.Step.{Inside}
 use Rattle.reader.proofs.Progress.{Reached, reached-none, reached-more, reached-all}
 use Rattle.text.proofs.JobLoops.{bounds-loop}
 use borrow.Author.Needs.{needs}

@@ -6,7 +6,7 @@ use borrow.Author.Needs.{needs}
 use lib.ListN.{length, length-set}
 use Rattle.block.specs.Layout.{blockBytes, maxJoint}
 use Rattle.text.specs.Job as J
-use Rattle.scan.specs.Step.{Inside}
+use Rattle.scan.specs.Inner.Step.{Inside}
 use Rattle.reader.proofs.Progress.{Acted, acted-none, acted-more, acted-all}
 use borrow.Author.Needs.{needs}
 use Rattle.reader.proofs.states.moves.Statement.{statement}

@@ -3,8 +3,8 @@ use mathlib.Core.Path.{_≡_, refl, sym, _∙_}
 use Prim.Native.Nat.{_+_, _-_, _*_, _≤_}
 use native.Mathlib.Omega.{arith}
 use lib.ListN.{length}
-use Rattle.writer.specs.Lengths.{actsLineBytes}
-use Rattle.writer.specs.Writing.{sizesOf}
+use Rattle.writer.specs.Inner.Lengths.{actsLineBytes}
+use Rattle.text.specs.Inner.Fields.{sizesOf}
 use Rattle.writer.proofs.Writing.{Acted, acted-none, acted-more, acted-all}
 use Rattle.writer.proofs.agents.agent_lines.Statement.{statement}
 use Rattle.writer.proofs.agents.agent_lines.Tie as tie

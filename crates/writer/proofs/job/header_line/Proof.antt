@@ -3,7 +3,7 @@ use mathlib.Core.Path.{_∙_}
 use native.Mathlib.Omega.{arith}
 use Rattle.text.specs.Format.{write}
 use Rattle.text.specs.Job.{headerLine, size}
-use Rattle.writer.specs.Writing.{sizesOf}
+use Rattle.text.specs.Inner.Fields.{sizesOf}
 use borrow.Author.Needs.{needs}
 use Rattle.writer.proofs.job.header_line.Statement.{statement}
 use Rattle.writer.proofs.job.header_line.Tie as tie

@@ -5,7 +5,7 @@ use native.Mathlib.Omega.{arith}
 use Rattle.block.specs.Layout as L
 use Rattle.text.specs.Format.{end}
 use Rattle.text.specs.Job.{job, states, rowLines}
-use Rattle.writer.specs.Writing.{sizesOf}
+use Rattle.text.specs.Inner.Fields.{sizesOf}
 use borrow.Author.Needs.{needs}
 use Rattle.writer.proofs.job.job.Statement.{statement}
 use Rattle.writer.proofs.job.job.Tie as tie

@@ -8,7 +8,7 @@ use Rattle.block.specs.declared.layout.Place.the-variants.{Field}
 use Rattle.text.specs.Format.{write}
 use Rattle.text.specs.Job as J
 use Rattle.text.proofs.JobLoops.{bounds-loop}
-use Rattle.writer.specs.Lengths.{fieldBytes}
+use Rattle.writer.specs.Inner.Lengths.{fieldBytes}
 use Rattle.writer.proofs.Writing.{Looped, looped-none, looped-more, looped-all}
 use Rattle.writer.proofs.rows.bounds.Statement.{statement}
 use Rattle.writer.proofs.rows.bounds.Tie as tie

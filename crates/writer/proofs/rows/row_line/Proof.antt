@@ -2,7 +2,7 @@
 use mathlib.Core.Path.{_∙_}
 use native.Mathlib.Omega.{arith}
 use Rattle.text.specs.Job.{operandFields, rowLine}
-use Rattle.writer.specs.Writing.{sizesOf}
+use Rattle.text.specs.Inner.Fields.{sizesOf}
 use borrow.Author.Needs.{needs}
 use Rattle.writer.proofs.rows.row_line.Statement.{statement}
 use Rattle.writer.proofs.rows.row_line.Tie as tie

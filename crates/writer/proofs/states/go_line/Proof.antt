@@ -6,7 +6,7 @@ use Rattle.block.specs.declared.layout.Place.the-variants.{Next}
 use Rattle.text.specs.Format.{value, write}
 use Rattle.text.specs.Job.{nextSpelling, goLine, index}
 use borrow.Author.Needs.{needs}
-use Rattle.writer.specs.Writing.{sizesOf}
+use Rattle.text.specs.Inner.Fields.{sizesOf}
 use Rattle.writer.proofs.states.go_line.Statement.{statement}
 use Rattle.writer.proofs.states.go_line.Tie as tie
 

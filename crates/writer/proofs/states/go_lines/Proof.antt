@@ -5,8 +5,8 @@ use native.Mathlib.Omega.{arith}
 use lib.ListN.{length}
 use Rattle.text.specs.Job as J
 use Rattle.block.specs.Layout.{maxJoint}
-use Rattle.writer.specs.Lengths.{goLineBytes}
-use Rattle.writer.specs.Writing.{sizesOf}
+use Rattle.writer.specs.Inner.Lengths.{goLineBytes}
+use Rattle.text.specs.Inner.Fields.{sizesOf}
 use Rattle.text.proofs.JobLoops.{go-loop}
 use Rattle.writer.proofs.Writing.{Looped, looped-none, looped-more, looped-all}
 use Rattle.writer.proofs.states.go_lines.Statement.{statement}

@@ -7,7 +7,7 @@ use Rattle.text.specs.Format.{write}
 use Rattle.text.specs.Job as J
 use Rattle.text.specs.Job.{index}
 use Rattle.text.proofs.JobLoops.{joint-loop}
-use Rattle.writer.specs.Lengths.{actionBytes}
+use Rattle.writer.specs.Inner.Lengths.{actionBytes}
 use Rattle.writer.proofs.Writing.{Looped, looped-none, looped-more, looped-all}
 use Rattle.writer.proofs.states.joint_fields.Statement.{statement}
 use Rattle.writer.proofs.states.joint_fields.Tie as tie

@@ -4,7 +4,7 @@ use native.Mathlib.Omega.{arith}
 use Rattle.block.specs.Layout as L
 use Rattle.block.specs.Layout.{maxJoint}
 use Rattle.text.specs.Job.{noCounts, stateLines, agentLines, goLines}
-use Rattle.writer.specs.Writing.{sizesOf}
+use Rattle.text.specs.Inner.Fields.{sizesOf}
 use borrow.Author.Needs.{needs}
 use Rattle.writer.proofs.states.state_lines.Statement.{statement}
 use Rattle.writer.proofs.states.state_lines.Tie as tie

@@ -4,8 +4,8 @@ use Prim.Native.Nat.{_+_, _-_, _*_, _≤_}
 use native.Mathlib.Omega.{arith}
 use lib.ListN.{length}
 use Rattle.text.specs.Job as J
-use Rattle.writer.specs.Lengths.{stateLinesBytes}
-use Rattle.writer.specs.Writing.{sizesOf}
+use Rattle.writer.specs.Inner.Lengths.{stateLinesBytes}
+use Rattle.text.specs.Inner.Fields.{sizesOf}
 use Rattle.text.proofs.JobLoops.{states-loop}
 use Rattle.writer.proofs.Writing.{Looped, looped-none, looped-more, looped-all}
 use Rattle.writer.proofs.states.states.Statement.{statement}

@@ -5,7 +5,6 @@ use Prim.Native.Nat.{ℕ, zero, suc, _<_}
 use lib.ListN.{length, take, set}
 use Rattle.block.specs.Layout as L
 use Rattle.block.specs.Layout.{Block}
-use Rattle.text.specs.declared.sizes.Sizes.{Sizes}
 use Rattle.text.specs.Format.{Format, write}
 use Rattle.text.specs.Job.{noCounts}
 use Rattle.text.specs.Text.{textBytes}
@@ -21,9 +20,6 @@ PastWith {A} b part v t place u next = (f : A → Format) → take next u ++ wri
 -- the writer's buffer has room up to a place, and a byte to spare, since a number is always given four
 abbrev pub Room : List ℕ → ℕ → Type 0
 Room t n = (length t ≡ textBytes) × (n < textBytes)
-
-abbrev pub sizesOf : Block → Sizes
-sizesOf b = record { agents = L.agents b; resources = L.resources b; states = L.states b; propositions = L.propositions b; rows = L.rows b }
 
 -- how many actions each agent has in state s, as far as the first a agents tell
 abbrev pub countsTo : Block → ℕ → ℕ → List ℕ
