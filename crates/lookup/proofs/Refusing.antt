@@ -20,7 +20,7 @@ use Rattle.game.specs.Demand.{RowMove, RowReply}
 use Rattle.game.proofs.Numbers.Decide.{lt?}
 use Rattle.solver.specs.Calls.{rowRules}
 use Rattle.solver.proofs.Calls.{row-admitted}
-use Rattle.lookup.specs.Aims.{NoPosition}
+use Rattle.lookup.specs.Aims.{NoPosition, no-state, no-stock}
 use Rattle.lookup.specs.Calls.{placeRules, sideRules, answerRules, CoalitionAnswer, OpponentsAnswer}
 
 -- a position that is not refused is one of the row
@@ -29,11 +29,11 @@ placed b valid i s stocks fits = (state (lt? s (L.states b)), λ r l. stock r l 
   where
     state : Dec (s < L.states b) → s < L.states b
     state (yes h) = h
-    state (no h) = absurd (fits (inl (omega arith)))
+    state (no h) = absurd (fits (no-state (omega arith)))
 
     stock : (r : ℕ) → r < L.resources b → Dec (getD stocks r 0 < places (boundsOf b i r)) → getD stocks r 0 < places (boundsOf b i r)
     stock r l (yes h) = h
-    stock r l (no h) = absurd (fits (inr (r, omega (arith, valid .sized .resources-fit), omega arith)))
+    stock r l (no h) = absurd (fits (no-stock (r, omega (arith, valid .sized .resources-fit), omega arith)))
 
 -- a position that is admitted is one of a strategic row
 pub place-admitted : (b : Block) (i s : ℕ) (stocks : List ℕ) → Fails (placeRules b i s stocks) → Valid b × (((i < L.rows b) × L.Strategic (L.kind b i)) × IsPosition (arenaOf b i) (position s stocks))

@@ -17,8 +17,9 @@ use Rattle.game.specs.Model.{boundsOf, arenaOf, objectiveOf}
 use Rattle.solver.specs.Labels.{Prepared}
 
 -- a state at or above M, a stock above its bound, or one that is not 0 where it must be
-abbrev pub NoPosition : Block → ℕ → ℕ → List ℕ → Type 0
-NoPosition b i s stocks = (L.states b ≤ s) ⊎ Some L.maxResources (λ j. places (boundsOf b i j) ≤ getD stocks j 0)
+pub data NoPosition (b : Block) (i s : ℕ) (stocks : List ℕ) : Type 0 where
+  no-state : L.states b ≤ s → NoPosition b i s stocks
+  no-stock : Some L.maxResources (λ j. places (boundsOf b i j) ≤ getD stocks j 0) → NoPosition b i s stocks
 
 -- row i made ready with its ranks, the rank own of the position p, and whether the team wins there
 pub record Stands (b : Block) (i : ℕ) (p : Position) (left right own : ℕ) (wins : Bool) (ranks : List ℕ) : Type 0 where

@@ -30,7 +30,7 @@ slice-aggregate-coalition-at c = search needs
 coalition-at-requires : tie.Need-coalition-at-requires
 coalition-at-requires c κs =
     let args = c .before .before .before .before .before .before .before .before .before .args in
-    let (valid, (row, fits)) = place-admitted (args .block .now) (args .i) (args .s) (args .stock0 ∷ args .stock1 ∷ []) (none-holds (rw (c .before .before .enum-told .given .1) at (c .before .before .before .before .position .ensures))) in
+    let (valid, (row, fits)) = place-admitted (args .block .now) (args .i) (args .s) _ (none-holds (rw (c .before .before .enum-told .given .1) at (c .before .before .before .before .position .ensures))) in
     (valid, ((row .0, row .1, omega (arith, valid .sized .resources-fit), omega (arith, c .before .before .before .before .before .before .if1 .left)), fits))
 
 zeros-requires : tie.Need-zeros-requires

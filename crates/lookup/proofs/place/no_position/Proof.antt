@@ -1,5 +1,4 @@
 -- `no_position` looks at the state, and then for a stock that does not fit. Assumes nothing.
-use mathlib.Core.Logic.{inl, inr, ⊎-elim}
 use mathlib.Core.Path.{subst}
 use Prim.Native.Nat.{ℕ, _-_, _≤_, _<_}
 use native.Mathlib.Omega.{arith}
@@ -8,6 +7,7 @@ use Rattle.block.specs.Decide.{Decides, holds, fails}
 use Rattle.block.proofs.Decide as D
 use Rattle.game.specs.Position.{places}
 use Rattle.game.specs.Model.{boundsOf}
+use Rattle.lookup.specs.Aims.{NoPosition, no-state, no-stock}
 use Rattle.lookup.proofs.Searching.{none-more}
 use Rattle.lookup.proofs.place.no_position.Statement.{statement}
 use Rattle.lookup.proofs.place.no_position.Tie as tie
@@ -22,7 +22,7 @@ states-requires : tie.Need-states-requires Inv-loop μ-loop
 states-requires c κs = omega (arith, c .before .before .pre .0 .sized .bytes)
 
 returns : tie.Need-returns Inv-loop μ-loop
-returns c = holds (inl (omega (arith, c .before .states .ensures, c .if1 .taken)))
+returns c = holds (no-state (omega (arith, c .before .states .ensures, c .if1 .taken)))
 
 loop-holds : tie.Need-loop-holds Inv-loop μ-loop
 loop-holds c = (omega arith, λ k l. absurd (omega arith))
@@ -41,7 +41,7 @@ told : (c : tie.After-above Inv-loop μ-loop) → Decides (places (boundsOf (c .
 told c = subst (λ (x : ℕ). Decides (places (boundsOf (c .before .before .before .before .before .before .before .before .before .args .block .now) (c .before .before .before .before .before .before .before .before .before .args .i) (c .before .before .before .before .loop .j)) ≤ x) (c .above .result)) (c .before .wide .ensures .0) (c .above .ensures)
 
 returns-2 : tie.Need-returns-2 Inv-loop μ-loop
-returns-2 c = holds (inr (c .before .before .before .before .before .loop .j, omega (arith, c .before .before .before .before .loop-test .taken), D.truth (told (c .before)) (c .if2 .taken)))
+returns-2 c = holds (no-stock (c .before .before .before .before .before .loop .j, omega (arith, c .before .before .before .before .loop-test .taken), D.truth (told (c .before)) (c .if2 .taken)))
 
 add-j : tie.Need-add-j Inv-loop μ-loop
 add-j c = omega arith
@@ -55,7 +55,11 @@ loop-again c =
     (omega (arith, c .before .before .before .before .loop-test .taken), none-more (λ k. places (boundsOf (args .block .now) (args .i) k) ≤ getD (args .stocks .now) k 0) (c .before .before .before .before .before .loop .j) (c .before .before .before .before .before .loop .inv .1) (D.falsity (told (c .before)) (c .if2 .left)))
 
 returns-3 : tie.Need-returns-3 Inv-loop μ-loop
-returns-3 c = fails (λ w. ⊎-elim (λ l. absurd (omega (arith, c .before .before .before .states .ensures, c .before .before .if1 .left, l))) (λ (k, l, h). c .before .loop .inv .1 k (omega (arith, l, c .loop-test .left)) h) w)
+returns-3 c = fails none
+  where
+    none : NoPosition (c .before .before .before .before .before .before .args .block .now) (c .before .before .before .before .before .before .args .i) (c .before .before .before .before .before .before .args .s) (c .before .before .before .before .before .before .args .stocks .now) → ⊥
+    none (no-state l) = omega (arith, c .before .before .before .states .ensures, c .before .before .if1 .left)
+    none (no-stock (k, l, h)) = c .before .loop .inv .1 k (omega (arith, l, c .loop-test .left)) h
 
 pub no-position-spec : {M : Type 1} → statement M
 no-position-spec = tie.close (tie.spec Inv-loop μ-loop states-requires returns loop-holds shared-slice-read-wide wide-requires above-requires returns-2 add-j loop-less loop-again returns-3)
