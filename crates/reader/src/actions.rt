@@ -2,6 +2,7 @@
 use block::layout;
 use block::layout::Place;
 use block::refusal::Refusal;
+use scan::step::Range;
 use scan::step::Step;
 use scan::steps::past_field;
 use text::ends::cost_end;
@@ -26,20 +27,17 @@ fn cost_limit(k: usize) -> usize
     COST_LIMIT
 }
 
+// An agent in a state.
+struct Actor {
+    state: usize,
+    agent: usize,
+}
+
 // The cost of action k in resource j, before left further costs of the line.
-fn cost(
-    text: &[u8],
-    at: Step,
-    job: &mut [u8],
-    s: usize,
-    a: usize,
-    k: usize,
-    j: usize,
-    left: usize,
-) -> Step
+fn cost(text: &[u8], at: Step, job: &mut [u8], who: Actor, k: usize, j: usize, left: usize) -> Step
     requires { ⌜ Inside (now text) at × (length (now job) ≡ blockBytes) ⌝ }
-    requires { ⌜ (s < maxStates) × (a < maxAgents) × (k < maxActions) × (j < maxResources) ⌝ }
-    ensures { λ r. ⌜ ((f : Format) → resume (now (text .entry)) at (read (value (J.number (J.costEnd left) 0 (J.costLimit k) Refusal.State) (Place.Cost s a k j) (λ v. f)) (now (job .entry))) ≡ resume (now (text .entry)) r (read f (now (job .exit)))) ⌝ }
+    requires { ⌜ (who .state < maxStates) × (who .agent < maxAgents) × (k < maxActions) × (j < maxResources) ⌝ }
+    ensures { λ r. ⌜ ((f : Format) → resume (now (text .entry)) at (read (value (J.number (J.costEnd left) 0 (J.costLimit k) Refusal.State) (Place.Cost (who .state) (who .agent) k j) (λ v. f)) (now (job .entry))) ≡ resume (now (text .entry)) r (read f (now (job .exit)))) ⌝ }
     ensures { λ r. ⌜ Inside (now (text .entry)) r ⌝ }
 {
     let sep = cost_end(left) as usize;
@@ -48,11 +46,13 @@ fn cost(
         text,
         at,
         job,
-        Place::Cost(s, a, k, j),
-        sep,
-        0,
-        limit,
-        Refusal::State,
+        Place::Cost(who.state, who.agent, k, j),
+        Range {
+            sep: sep,
+            low: 0,
+            limit: limit,
+            refusal: Refusal::State,
+        },
     )
 }
 
@@ -62,20 +62,19 @@ fn costs(
     at: Step,
     job: &mut [u8],
     count: usize,
-    s: usize,
-    a: usize,
+    who: Actor,
     k: usize,
     n: usize,
 ) -> Step
     requires { ⌜ Inside (now text) at × (length (now job) ≡ blockBytes) ⌝ }
-    requires { ⌜ (s < maxStates) × (a < maxAgents) × (k + n < maxActions) × (count ≤ maxResources) ⌝ }
-    ensures { λ r. ⌜ ((f : Format) → resume (now (text .entry)) at (read (J.costs s a n k count 0 f) (now (job .entry))) ≡ resume (now (text .entry)) r (read f (now (job .exit)))) ⌝ }
+    requires { ⌜ (who .state < maxStates) × (who .agent < maxAgents) × (k + n < maxActions) × (count ≤ maxResources) ⌝ }
+    ensures { λ r. ⌜ ((f : Format) → resume (now (text .entry)) at (read (J.costs (who .state) (who .agent) n k count 0 f) (now (job .entry))) ≡ resume (now (text .entry)) r (read f (now (job .exit)))) ⌝ }
     ensures { λ r. ⌜ Inside (now (text .entry)) r ⌝ }
 {
     let mut next = at;
     let mut j = 0;
     while j < count {
-        next = cost(text, next, job, s, a, k, j, n + (count - (j + 1)));
+        next = cost(text, next, job, who, k, j, n + (count - (j + 1)));
         j += 1;
     }
     next
@@ -96,10 +95,11 @@ pub fn actions(
     ensures { λ r. ⌜ ((f : Format) → resume (now (text .entry)) at (read (J.actions z s a count 0 f) (now (job .entry))) ≡ resume (now (text .entry)) r (read f (now (job .exit)))) ⌝ }
     ensures { λ r. ⌜ Inside (now (text .entry)) r ⌝ }
 {
+    let who = Actor { state: s, agent: a };
     let mut next = at;
     let mut k = 0;
     while k < count {
-        next = costs(text, next, job, z.resources, s, a, k, count - (k + 1));
+        next = costs(text, next, job, z.resources, who, k, count - (k + 1));
         k += 1;
     }
     next

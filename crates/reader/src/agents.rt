@@ -3,6 +3,7 @@ use crate::actions::actions;
 use block::layout;
 use block::layout::Place;
 use block::refusal::Refusal;
+use scan::step::Range;
 use scan::step::Step;
 use scan::step::Valued;
 use scan::steps::past_index;
@@ -38,10 +39,12 @@ pub fn acts(text: &[u8], at: Step, job: &mut [u8], z: Sizes, s: usize, a: usize)
         agent,
         job,
         Place::Count(s, a),
-        COMMA,
-        1,
-        COUNT_LIMIT,
-        Refusal::State,
+        Range {
+            sep: COMMA,
+            low: 1,
+            limit: COUNT_LIMIT,
+            refusal: Refusal::State,
+        },
     );
     let value = value_or(1, v);
     let next = actions(text, past_value(v), job, z, s, a, value);

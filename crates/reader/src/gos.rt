@@ -3,6 +3,7 @@ use block::joint::digit;
 use block::layout;
 use block::layout::Place;
 use block::refusal::Refusal;
+use scan::step::Range;
 use scan::step::Step;
 use scan::steps::past_field;
 use scan::steps::past_index;
@@ -48,10 +49,12 @@ fn go_line(text: &[u8], at: Step, job: &mut [u8], z: Sizes, s: usize, joint: usi
         acted,
         job,
         Place::Next(s, joint),
-        LINE_END,
-        0,
-        z.states,
-        Refusal::Next,
+        Range {
+            sep: LINE_END,
+            low: 0,
+            limit: z.states,
+            refusal: Refusal::Next,
+        },
     )
 }
 

@@ -2,6 +2,7 @@
 use block::layout;
 use block::layout::Place;
 use block::refusal::Refusal;
+use scan::step::Range;
 use scan::step::Step;
 use scan::step::Valued;
 use scan::steps::past_value;
@@ -34,15 +35,18 @@ fn size(text: &[u8], at: Step, job: &mut [u8], f: usize, sep: usize, high: usize
     ensures { λ r. ⌜ ((k : ℕ → Format) → resume (now (text .entry)) at (read (J.size sep f high k) (now (job .entry))) ≡ resume (now (text .entry)) (r .next) (read (k (r .value)) (now (job .exit)))) ⌝ }
     ensures { λ r. ⌜ Inside (now (text .entry)) (r .next) × ((1 ≤ r .value) × (r .value ≤ high)) ⌝ }
 {
+    let limit = high + 1;
     let v = value_at(
         text,
         at,
         job,
         Place::Header(f),
-        sep,
-        1,
-        high + 1,
-        Refusal::Sizes,
+        Range {
+            sep: sep,
+            low: 1,
+            limit: limit,
+            refusal: Refusal::Sizes,
+        },
     );
     let value = value_or(1, v);
     let next = past_value(v);

@@ -4,6 +4,7 @@ use block::kinds::strategic;
 use block::layout;
 use block::layout::Place;
 use block::refusal::Refusal;
+use scan::step::Range;
 use scan::step::Step;
 use scan::steps::kind_at;
 use scan::steps::past_bound;
@@ -57,10 +58,12 @@ fn team(text: &[u8], at: Step, job: &mut [u8], z: Sizes, i: usize, k: usize) -> 
         at,
         job,
         Place::Field(i, layout::TEAM_BYTE),
-        COMMA,
-        1,
-        limit,
-        Refusal::Row,
+        Range {
+            sep: COMMA,
+            low: 1,
+            limit: limit,
+            refusal: Refusal::Row,
+        },
     );
     bounds(text, next, job, i, z.resources)
 }
@@ -94,7 +97,18 @@ fn right(text: &[u8], at: Step, job: &mut [u8], i: usize, k: usize) -> Step
 {
     if binary(k) {
         let x = Place::Field(i, layout::RIGHT_BYTE);
-        return past_field(text, at, job, x, LINE_END, 0, i, Refusal::Row);
+        return past_field(
+            text,
+            at,
+            job,
+            x,
+            Range {
+                sep: LINE_END,
+                low: 0,
+                limit: i,
+                refusal: Refusal::Row,
+            },
+        );
     }
     at
 }
@@ -112,10 +126,12 @@ fn operands(text: &[u8], at: Step, job: &mut [u8], z: Sizes, i: usize, k: usize)
         at,
         job,
         Place::Field(i, layout::LEFT_BYTE),
-        sep,
-        0,
-        limit,
-        Refusal::Row,
+        Range {
+            sep: sep,
+            low: 0,
+            limit: limit,
+            refusal: Refusal::Row,
+        },
     );
     right(text, next, job, i, k)
 }

@@ -4,6 +4,7 @@ use crate::gos::gos;
 use block::layout;
 use block::layout::Place;
 use block::refusal::Refusal;
+use scan::step::Range;
 use scan::step::Step;
 use scan::steps::past_field;
 use scan::steps::past_index;
@@ -33,10 +34,12 @@ fn state_line(text: &[u8], at: Step, job: &mut [u8], z: Sizes, s: usize) -> Step
         state,
         job,
         Place::Mask(s),
-        LINE_END,
-        0,
-        limit,
-        Refusal::State,
+        Range {
+            sep: LINE_END,
+            low: 0,
+            limit: limit,
+            refusal: Refusal::State,
+        },
     )
 }
 

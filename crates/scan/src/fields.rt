@@ -1,6 +1,7 @@
 // The fields of a line: numbers that are known, bytes of the block, bounds, and the words of the rows.
 use crate::numeral::number;
 use crate::step::Numeral;
+use crate::step::Range;
 use crate::step::Step;
 use crate::step::Value;
 use crate::words::word_or;
@@ -52,29 +53,21 @@ fn put(job: &mut [u8], x: Place, v: usize)
     job[p] = (v % NUMBERS) as u8;
 }
 
-// A number from low to below limit, stored at a place of the block.
-pub fn field(
-    text: &[u8],
-    at: usize,
-    job: &mut [u8],
-    x: Place,
-    sep: usize,
-    low: usize,
-    limit: usize,
-    refusal: Refusal,
-) -> Value
-    requires { ⌜ (at ≤ length (now text)) × Ends sep ⌝ }
+// A number of a range, stored at a place of the block.
+pub fn field(text: &[u8], at: usize, job: &mut [u8], x: Place, range: Range) -> Value
+    requires { ⌜ (at ≤ length (now text)) × Ends (range .sep) ⌝ }
     requires { ⌜ (length (now job) ≡ blockBytes) × InLayout x ⌝ }
-    ensures { λ r. ⌜ ((k : ℕ → Format) → read (value (J.number sep low limit refusal) x k) (now (job .entry)) (drop at (now (text .entry))) ≡ resumeWith (now (text .entry)) r (λ v rest. read (k v) (now (job .exit)) rest)) ⌝ }
+    ensures { λ r. ⌜ ((k : ℕ → Format) → read (value (J.number (range .sep) (range .low) (range .limit) (range .refusal)) x k) (now (job .entry)) (drop at (now (text .entry))) ≡ resumeWith (now (text .entry)) r (λ v rest. read (k v) (now (job .exit)) rest)) ⌝ }
     ensures { λ r. ⌜ InsideWith (now (text .entry)) r ⌝ }
-    ensures { λ r. ⌜ Ranged low limit r ⌝ }
+    ensures { λ r. ⌜ Ranged (range .low) (range .limit) r ⌝ }
 {
-    match number(text, at, sep) {
+    let refusal = range.refusal;
+    match number(text, at, range.sep) {
         Numeral::Found(n, next) => {
-            if n < low {
+            if n < range.low {
                 return Value::Refused(refusal);
             }
-            if limit <= n {
+            if range.limit <= n {
                 return Value::Refused(refusal);
             }
             put(job, x, n);

@@ -19,6 +19,14 @@ pub struct Valued {
     pub next: Step,
 }
 
+// What a number may be: the byte after it, the least, the first past the last, and the refusal of any other.
+pub struct Range {
+    pub sep: usize,
+    pub low: usize,
+    pub limit: usize,
+    pub refusal: Refusal,
+}
+
 // A number and the place after it and its comma or line end.
 pub enum Numeral {
     Found(usize, usize),

@@ -3,11 +3,11 @@ use crate::fields::bound;
 use crate::fields::field;
 use crate::fields::index;
 use crate::fields::kind;
+use crate::step::Range;
 use crate::step::Step;
 use crate::step::Value;
 use crate::words::word;
 use block::layout::Place;
-use block::refusal::Refusal;
 ghost use mathlib.Core.Path.{_≡_};
 ghost use Prim.Native.Nat.{ℕ, _<_};
 ghost use lib.ListN.{length};
@@ -42,45 +42,27 @@ pub fn past_index(text: &[u8], at: Step, n: usize) -> Step
     }
 }
 
-// A number from low to below limit, stored at a place of the block.
-pub fn value_at(
-    text: &[u8],
-    at: Step,
-    job: &mut [u8],
-    x: Place,
-    sep: usize,
-    low: usize,
-    limit: usize,
-    refusal: Refusal,
-) -> Value
-    requires { ⌜ Inside (now text) at × Ends sep ⌝ }
+// A number of a range, stored at a place of the block.
+pub fn value_at(text: &[u8], at: Step, job: &mut [u8], x: Place, range: Range) -> Value
+    requires { ⌜ Inside (now text) at × Ends (range .sep) ⌝ }
     requires { ⌜ (length (now job) ≡ blockBytes) × InLayout x ⌝ }
-    ensures { λ r. ⌜ ((d : ℕ) (k : ℕ → Format) → resume (now (text .entry)) at (read (value (J.number sep low limit refusal) x k) (now (job .entry))) ≡ resume (now (text .entry)) (pastValue r) (read (k (valueOr d r)) (now (job .exit)))) ⌝ }
-    ensures { λ r. ⌜ Inside (now (text .entry)) (pastValue r) × Ranged low limit r ⌝ }
+    ensures { λ r. ⌜ ((d : ℕ) (k : ℕ → Format) → resume (now (text .entry)) at (read (value (J.number (range .sep) (range .low) (range .limit) (range .refusal)) x k) (now (job .entry))) ≡ resume (now (text .entry)) (pastValue r) (read (k (valueOr d r)) (now (job .exit)))) ⌝ }
+    ensures { λ r. ⌜ Inside (now (text .entry)) (pastValue r) × Ranged (range .low) (range .limit) r ⌝ }
 {
     match at {
-        Step::Next(next) => field(text, next, job, x, sep, low, limit, refusal),
+        Step::Next(next) => field(text, next, job, x, range),
         Step::Refused(r) => Value::Refused(r),
     }
 }
 
 // Past such a number.
-pub fn past_field(
-    text: &[u8],
-    at: Step,
-    job: &mut [u8],
-    x: Place,
-    sep: usize,
-    low: usize,
-    limit: usize,
-    refusal: Refusal,
-) -> Step
-    requires { ⌜ Inside (now text) at × Ends sep ⌝ }
+pub fn past_field(text: &[u8], at: Step, job: &mut [u8], x: Place, range: Range) -> Step
+    requires { ⌜ Inside (now text) at × Ends (range .sep) ⌝ }
     requires { ⌜ (length (now job) ≡ blockBytes) × InLayout x ⌝ }
-    ensures { λ r. ⌜ ((f : Format) → resume (now (text .entry)) at (read (value (J.number sep low limit refusal) x (λ v. f)) (now (job .entry))) ≡ resume (now (text .entry)) r (read f (now (job .exit)))) ⌝ }
+    ensures { λ r. ⌜ ((f : Format) → resume (now (text .entry)) at (read (value (J.number (range .sep) (range .low) (range .limit) (range .refusal)) x (λ v. f)) (now (job .entry))) ≡ resume (now (text .entry)) r (read f (now (job .exit)))) ⌝ }
     ensures { λ r. ⌜ Inside (now (text .entry)) r ⌝ }
 {
-    past_value(value_at(text, at, job, x, sep, low, limit, refusal))
+    past_value(value_at(text, at, job, x, range))
 }
 
 // A bound, and the kind of a row by its word.

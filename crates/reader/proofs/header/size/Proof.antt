@@ -8,8 +8,8 @@ use borrow.Author.Needs.{needs}
 use Rattle.reader.proofs.header.size.Statement.{statement}
 use Rattle.reader.proofs.header.size.Tie as tie
 
-add-value-at : tie.Need-add-value-at
-add-value-at c = search needs
+add-limit : tie.Need-add-limit
+add-limit c = search needs
 
 value-at-requires : tie.Need-value-at-requires
 value-at-requires c κs = search needs
@@ -35,7 +35,7 @@ pub size-spec : {M : Type 1} → statement M
 size-spec =
     tie.close
     (tie.spec
-    add-value-at
+    add-limit
     value-at-requires
     value-or-requires
     past-value-requires

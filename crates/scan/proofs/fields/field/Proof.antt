@@ -18,30 +18,30 @@ enum-known-n c = search needs
 
 returns : tie.Need-returns
 returns c =
-    let told = c .before .before .n .given .1 in
-    let call = c .before .before .before .before .number .ensures in
-    let g = c .before .before .before .before .before .before .before .args in
-    let t = drop (g .at) (g .text .now) in
-    let there = rw told at (call .0) in
-    (λ k. value-refused (number (g .sep) (g .low) (g .limit) (g .refusal)) (g .x) k (g .job .now) t _ _ there (below-range (g .limit) (c .if1 .taken)), (tt, tt))
-
-returns-2 : tie.Need-returns-2
-returns-2 c =
     let told = c .before .before .before .n .given .1 in
     let call = c .before .before .before .before .before .number .ensures in
     let g = c .before .before .before .before .before .before .before .before .args in
     let t = drop (g .at) (g .text .now) in
     let there = rw told at (call .0) in
-    (λ k. value-refused (number (g .sep) (g .low) (g .limit) (g .refusal)) (g .x) k (g .job .now) t _ _ there (above-range (c .before .if1 .left) (c .if2 .taken)), (tt, tt))
+    (λ k. value-refused (number (g .range .sep) (g .range .low) (g .range .limit) (g .range .refusal)) (g .x) k (g .job .now) t _ _ there (below-range (g .range .limit) (c .if1 .taken)), (tt, tt))
+
+returns-2 : tie.Need-returns-2
+returns-2 c =
+    let told = c .before .before .before .before .before .n .given .1 in
+    let call = c .before .before .before .before .before .before .before .number .ensures in
+    let g = c .before .before .before .before .before .before .before .before .before .before .args in
+    let t = drop (g .at) (g .text .now) in
+    let there = rw told at (call .0) in
+    (λ k. value-refused (number (g .range .sep) (g .range .low) (g .range .limit) (g .range .refusal)) (g .x) k (g .job .now) t _ _ there (above-range (c .before .before .if1 .left) (c .if2 .taken)), (tt, tt))
 
 put-requires : tie.Need-put-requires
 put-requires c κs =
-    let told = c .before .before .before .before .n .given .1 in
-    let call = c .before .before .before .before .before .before .number .ensures in
-    let g = c .before .before .before .before .before .before .before .before .before .args in
+    let told = c .before .before .before .before .before .before .n .given .1 in
+    let call = c .before .before .before .before .before .before .before .before .number .ensures in
+    let g = c .before .before .before .before .before .before .before .before .before .before .before .args in
     let t = drop (g .at) (g .text .now) in
     let there = rw told at (call .0) in
-    let is = search-inv (λ n. decimal n ++ g .sep ∷ []) t 256 _ _ there in
+    let is = search-inv (λ n. decimal n ++ g .range .sep ∷ []) t 256 _ _ there in
     (search needs, (search needs, is .0))
 
 enum-told : tie.Need-enum-told
@@ -52,13 +52,13 @@ same-length c = search needs
 
 returns-3 : tie.Need-returns-3
 returns-3 c =
-    let told = c .before .before .before .before .before .before .before .n .given .1 in
-    let call = c .before .before .before .before .before .before .before .before .before .number .ensures in
-    let g = c .before .before .before .before .before .before .before .before .before .before .before .before .args in
+    let told = c .before .before .before .before .before .before .before .before .before .n .given .1 in
+    let call = c .before .before .before .before .before .before .before .before .before .before .before .number .ensures in
+    let g = c .before .before .before .before .before .before .before .before .before .before .before .before .before .before .args in
     let t = drop (g .at) (g .text .now) in
     let there = rw told at (call .0) in
-    let is = search-inv (λ n. decimal n ++ g .sep ∷ []) t 256 _ _ there in
-    (λ k. value-next (number (g .sep) (g .low) (g .limit) (g .refusal)) (g .x) k (g .job .now) t _ _ _ _ there (in-range (c .before .before .before .before .before .if1 .left) (c .before .before .before .before .if2 .left)) refl (c .before .before .put .ensures), ((is .0, (rw told at (call .1)) .1), (c .before .before .before .before .before .if1 .left, c .before .before .before .before .if2 .left)))
+    let is = search-inv (λ n. decimal n ++ g .range .sep ∷ []) t 256 _ _ there in
+    (λ k. value-next (number (g .range .sep) (g .range .low) (g .range .limit) (g .range .refusal)) (g .x) k (g .job .now) t _ _ _ _ there (in-range (c .before .before .before .before .before .before .if1 .left) (c .before .before .before .before .if2 .left)) refl (c .before .before .put .ensures), ((is .0, (rw told at (call .1)) .1), (c .before .before .before .before .before .before .if1 .left, c .before .before .before .before .if2 .left)))
 
 returns-4 : tie.Need-returns-4
 returns-4 c =
@@ -67,7 +67,7 @@ returns-4 c =
     let g = c .before .before .before .before .before .args in
     let t = drop (g .at) (g .text .now) in
     let there = rw told at (call .0) in
-    (λ k. value-missing (number (g .sep) (g .low) (g .limit) (g .refusal)) (g .x) k (g .job .now) t there, (tt, tt))
+    (λ k. value-missing (number (g .range .sep) (g .range .low) (g .range .limit) (g .range .refusal)) (g .x) k (g .job .now) t there, (tt, tt))
 
 pub field-spec : {M : Type 1} → statement M
 field-spec =
