@@ -1,6 +1,6 @@
 -- The coalition's move at a position: from the worst of its outcomes to a good move, and from the first good one that is listed to the table's.
 -- Assumes nothing.
-use mathlib.Core.Bool.{Bool, true, false}
+use mathlib.Core.Bool.{true, false}
 use mathlib.Core.List.{List}
 use mathlib.Core.Logic.{⊎-elim}
 use mathlib.Core.Path.{_≡_, refl, sym, _∙_, ap, subst, transport}
@@ -14,7 +14,7 @@ use Rattle.block.specs.Layout as L
 use Rattle.block.specs.Layout.{Block}
 use Rattle.block.specs.Valid.{Valid}
 use Rattle.block.proofs.Decide as D
-use Rattle.game.specs.Position.{Arena, Position, IsPosition, MoveOf, number, Reply, Allowed, outcome}
+use Rattle.game.specs.Position.{Arena, Position, IsPosition, MoveOf, number, Reply, outcome}
 use Rattle.game.specs.Play.{Objective}
 use Rattle.game.specs.Table.{Table, never, Aim, Good, Met, Smallest}
 use Rattle.game.specs.Facts.{Claims}
@@ -25,11 +25,12 @@ use Rattle.game.proofs.Local.Exist.{good-exists}
 use Rattle.turns.specs.Buffers.{rankIn}
 use Rattle.turns.specs.Rules.{ReplyTo}
 use Rattle.ways.specs.Extremes.{Further, Worst}
-use Rattle.ways.specs.Lines.{countIn, numberIn}
-use Rattle.ways.specs.Listing.{LeadsInto, Useful, Listed}
+use Rattle.ways.specs.Listing.{LeadsInto, Useful}
 use Rattle.ways.specs.Places.{PlacedAt}
 use Rattle.ways.specs.declared.rows.Row.{Row}
+use Rattle.ways.specs.Rows.{Playable}
 use Rattle.ways.proofs.Leading.{ever-allowed}
+use Rattle.ways.proofs.Placing.{number-placed}
 use Rattle.choice.specs.Choices.{Sought, GoodBy}
 use Rattle.choice.specs.Kinds.{ClaimsBy, MetBy, AimBy}
 use Rattle.choice.specs.Tables.{tableWith, RanksOf, MoveFor}
@@ -50,6 +51,11 @@ module _ (G : Arena) (ranks : List ℕ) (p : Position) (m w v : ℕ) where
       let n = number G (outcome G p m r) in
       ⊎-elim (λ (e′ : v ≡ w). omega (arith, worst .each r reply, bytes (2 * n), bytes (2 * n + 1))) (λ (e′ : v ≡ 65534). absurd (omega arith)) (cut .taken))
       (λ all. let (r, reply, e) = worst .some in ⊎-elim (λ (e′ : v ≡ w). omega (arith, all r reply, e)) (λ (e′ : v ≡ 65534). absurd (omega (arith, all r reply, e, cut .first))) (cut .taken))
+
+-- a position with the number of a place of a state stands there
+pub spot-placed : (b : Block) (row : Row) → Playable b row → (s x : ℕ) → s < L.states b → x < row .places → (p : Position) → IsPosition (arenaOf b (row .index)) p → number (arenaOf b (row .index)) p ≡ s * row .places + x → PlacedAt (arenaOf b (row .index)) s x p
+spot-placed b row playable s x state place p fits is =
+    number-placed (arenaOf b (row .index)) s x state (omega (arith, playable .places-are)) p fits (is ∙ ap (λ (n : ℕ). s * n + x) (playable .places-are))
 
 module _ (b : Block) (valid : Valid b) (row : Row) where
   abbrev G : Arena

@@ -1,7 +1,8 @@
 -- The opponents' reply: where the listed replies lead, and from the first that counters to the reply of the table. Assumes nothing.
+use mathlib.Core.Bool.{false}
 use mathlib.Core.List.{List}
 use mathlib.Core.Path.{_≡_, refl, sym, _∙_, ap, subst, transport}
-use Prim.Native.Nat.{ℕ, _+_, _*_, _<_}
+use Prim.Native.Nat.{ℕ, _+_, _*_}
 use native.Mathlib.Omega.{arith}
 use Rattle.block.specs.Layout as L
 use Rattle.block.specs.Layout.{Block}
@@ -14,15 +15,28 @@ use Rattle.game.specs.Model.{structureOf, coalitionOf, arenaOf, objectiveBy}
 use Rattle.game.proofs.Local.Exist.{counter-exists}
 use Rattle.turns.specs.Buffers.{rankIn}
 use Rattle.turns.specs.Rules.{ReplyTo}
-use Rattle.ways.specs.Landing.{Leaves, Made}
+use Rattle.ways.specs.Landing.{Leaves, Lands, Made}
+use Rattle.ways.specs.Listing.{Useful}
+use Rattle.ways.specs.Places.{PlacedAt}
 use Rattle.ways.specs.Rows.{Playable}
 use Rattle.ways.specs.declared.rows.Row.{Row}
-use Rattle.ways.proofs.Leading.{reply-leads}
-use Rattle.choice.specs.Choices.{CountersBy}
+use Rattle.ways.specs.declared.landing.Landing.{Landing}
+use Rattle.ways.specs.declared.landing.Landing.the-variants.{At, Unpaid}
+use Rattle.ways.proofs.Leading.{ever-allowed, reply-leads}
+use Rattle.choice.specs.Choices.{CountersBy, Makes}
 use Rattle.choice.specs.Kinds.{ClaimsBy, CounterBy, FailedBy}
 use Rattle.choice.specs.Tables.{tableWith, RanksOf, ReplyFor}
 use Rattle.choice.proofs.ByKind.{claims-by, failed-by, counter-by, words-decided}
 use Rattle.choice.proofs.Moving.{outcome-next}
+
+-- a listed move where it lands; and where all moves are listed, each that is allowed is among them
+pub way-makes : (b : Block) (row : Row) (s x m : ℕ) (r : Landing) → MoveOf (structureOf b) (coalitionOf b (row .index)) s m → Lands (arenaOf b (row .index)) s x m r → Makes b row s x m r
+way-makes b row s x m (At y) move lands = (move, lands)
+way-makes b row s x m Unpaid move lands = λ p placed allowed. lands p placed (allowed .1)
+
+pub allowed-useful : (b : Block) → Valid b → (row : Row) → Playable b row → row .into ≡ false → (s x : ℕ) (p : Position) → PlacedAt (arenaOf b (row .index)) s x p → (m : ℕ) → Allowed (arenaOf b (row .index)) p m → Useful b row s m
+allowed-useful b valid row playable all s x p placed m allowed =
+    (ever-allowed b valid row playable s x m p placed allowed, λ into. let z : _≡_ {A = ℕ} 0 1 = cc in absurd (omega arith))
 
 module _ (b : Block) (valid : Valid b) (row : Row) (playable : Playable b row) (ranks : List ℕ) (kind own s m y : ℕ) (made : Made b row s m y)
     (p : Position) (is-state : p .state ≡ s) (leaves : Leaves (arenaOf b (row .index)) p m y) where

@@ -1,5 +1,5 @@
 -- The first number of a line that has a property is the smallest of all, where the line leaves none out. Assumes nothing.
-use mathlib.Core.Path.{_≡_, _∙_, sym, subst}
+use mathlib.Core.Path.{_≡_, sym, subst}
 use Prim.Native.Nat.{ℕ, _+_, _<_}
 use native.Mathlib.Omega.{arith}
 use Rattle.game.specs.Table.{Smallest}

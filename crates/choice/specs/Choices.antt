@@ -1,5 +1,5 @@
 -- A move or a reply at one position, by the ranks where it leads; the row's set is that of its left row.
-use mathlib.Core.Bool.{Bool, true}
+use mathlib.Core.Bool.{Bool}
 use mathlib.Core.List.{List}
 use mathlib.Core.Path.{_≡_}
 use Prim.Native.Nat.{ℕ}

@@ -1,5 +1,5 @@
 -- `counters` goes by the kind of the row. Assumes nothing.
-use mathlib.Core.Path.{_≡_, ap}
+use mathlib.Core.Path.{ap}
 use Prim.Native.Nat.{ℕ, _<_}
 use borrow.Author.Needs.{needs}
 use Rattle.block.specs.Decide.{Bit}

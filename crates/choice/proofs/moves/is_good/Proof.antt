@@ -1,6 +1,6 @@
 -- `is_good` makes the move where it lands, and looks at its outcomes. Assumes nothing.
 use mathlib.Core.Bool.{true}
-use mathlib.Core.Path.{sym, _∙_, ap, subst}
+use mathlib.Core.Path.{sym, _∙_, subst}
 use Prim.Native.Nat.{ℕ}
 use native.Mathlib.Omega.{arith}
 use borrow.Author.Needs.{needs}

@@ -3,22 +3,19 @@ use mathlib.Core.Bool.{true}
 use mathlib.Core.Path.{_≡_, sym, _∙_, ap, subst}
 use Prim.Native.Nat.{ℕ, _+_, _*_, _-_, _≤_, _<_}
 use native.Mathlib.Omega.{arith}
-use borrow.Author.Needs.{needs}
 use borrow.Author.Tests.{not-true, not-false}
 use Rattle.block.specs.Layout as L
 use Rattle.block.proofs.Decide as D
-use Rattle.game.specs.Position.{Position, IsPosition, number, stockPlaces}
+use Rattle.game.specs.Position.{Position, IsPosition, number}
 use Rattle.game.specs.Model.{arenaOf}
 use Rattle.turns.specs.Buffers.{rankIn}
 use Rattle.ways.specs.Lines.{countIn, numberIn}
 use Rattle.ways.specs.Listing.{Useful}
 use Rattle.ways.specs.Places.{PlacedAt}
 use Rattle.ways.proofs.Leading.{number-inside, listable-small}
-use Rattle.ways.proofs.Placing.{number-placed}
 use Rattle.choice.specs.Choices.{GoodBy}
-use Rattle.choice.specs.Kinds.{ClaimsBy}
-use Rattle.choice.specs.Tables.{RanksOf, MoveFor}
-use Rattle.choice.proofs.Moving.{good-useful, move-lost, move-met, move-found, move-exists}
+use Rattle.choice.specs.Tables.{MoveFor}
+use Rattle.choice.proofs.Moving.{spot-placed, good-useful, move-lost, move-met, move-found, move-exists}
 use Rattle.choice.proofs.Searching.{none-more, line-first, line-none}
 use Rattle.choice.proofs.moves.move_at.Statement.{statement}
 use Rattle.choice.proofs.moves.move_at.Tie as tie
@@ -47,10 +44,7 @@ rank-at-requires c κs = omega (arith, inside (c .before .before .before .before
 module _ (c : tie.After-rank-at Inv-loop μ-loop) (p : Position) (fits : IsPosition (arenaOf (c .before .before .before .before .before .before .before .args .block .now) (c .before .before .before .before .before .before .before .args .row .index)) p)
     (is : number (arenaOf (c .before .before .before .before .before .before .before .args .block .now) (c .before .before .before .before .before .before .before .args .row .index)) p ≡ c .before .before .before .before .before .before .before .args .spot .state * c .before .before .before .before .before .before .before .args .row .places + c .before .before .before .before .before .before .before .args .spot .place) where
   placed : PlacedAt (arenaOf (c .before .before .before .before .before .before .before .args .block .now) (c .before .before .before .before .before .before .before .args .row .index)) (c .before .before .before .before .before .before .before .args .spot .state) (c .before .before .before .before .before .before .before .args .spot .place) p
-  placed =
-      let playable = c .before .before .before .before .before .before .before .pre .1 .0 .0 .playable in
-      number-placed (arenaOf (c .before .before .before .before .before .before .before .args .block .now) (c .before .before .before .before .before .before .before .args .row .index)) (c .before .before .before .before .before .before .before .args .spot .state) (c .before .before .before .before .before .before .before .args .spot .place) (c .before .before .before .before .before .before .before .pre .1 .1 .0) (omega (arith, c .before .before .before .before .before .before .before .pre .1 .1 .1, playable .places-are)) p fits
-      (is ∙ ap (λ (n : ℕ). c .before .before .before .before .before .before .before .args .spot .state * n + c .before .before .before .before .before .before .before .args .spot .place) (playable .places-are))
+  placed = spot-placed (c .before .before .before .before .before .before .before .args .block .now) (c .before .before .before .before .before .before .before .args .row) (c .before .before .before .before .before .before .before .pre .1 .0 .0 .playable) (c .before .before .before .before .before .before .before .args .spot .state) (c .before .before .before .before .before .before .before .args .spot .place) (c .before .before .before .before .before .before .before .pre .1 .1 .0) (c .before .before .before .before .before .before .before .pre .1 .1 .1) p fits is
 
   own : rankIn (c .before .before .before .before .before .before .before .args .ranks .now) (number (arenaOf (c .before .before .before .before .before .before .before .args .block .now) (c .before .before .before .before .before .before .before .args .row .index)) p) ≡ c .rank-at .result
   own = ap (rankIn (c .before .before .before .before .before .before .before .args .ranks .now)) is ∙ sym (c .rank-at .ensures .0)

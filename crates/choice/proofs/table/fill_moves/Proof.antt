@@ -1,0 +1,75 @@
+-- `fill_moves` lists the row, and fills the moves from zeros on. Assumes nothing.
+use mathlib.Core.Path.{sym, _∙_, ap, subst₂}
+use Prim.Native.Nat.{ℕ}
+use borrow.Author.Needs.{needs}
+use Rattle.block.specs.Layout as L
+use Rattle.choice.specs.Filling.{MoveRight}
+use Rattle.choice.specs.Tables.{RanksOf, MovesOf}
+use Rattle.choice.proofs.Filling.{bytes-none, moves-all}
+use Rattle.choice.proofs.table.fill_moves.Statement.{statement}
+use Rattle.choice.proofs.table.fill_moves.Tie as tie
+
+kind-requires : tie.Need-kind-requires
+kind-requires c κs = search needs
+
+row-of-requires : tie.Need-row-of-requires
+row-of-requires c κs = search needs
+
+slice-aggregate-list-row : tie.Need-slice-aggregate-list-row
+slice-aggregate-list-row c = search needs
+
+list-row-requires : tie.Need-list-row-requires
+list-row-requires c κs = search needs
+
+zeros-requires : tie.Need-zeros-requires
+zeros-requires c κs = search needs
+
+slice-aggregate-fill-states : tie.Need-slice-aggregate-fill-states
+slice-aggregate-fill-states c = search needs
+
+fill-states-requires : tie.Need-fill-states-requires
+fill-states-requires c κs =
+    let row = c .before .before .before .before .before .before .before .before .before .row-of in
+    let zeros = c .before .before .before .before .zeros in (
+      c .before .before .before .before .before .before .before .before .before .before .before .before .before .before .pre .0,
+      (
+        (
+          record {
+            playable = row .ensures .0;
+            kind-is = c .before .before .before .before .before .before .before .before .before .before .kind .ensures ∙ ap (L.kind (c .before .before .before .before .before .before .before .before .before .before .before .before .before .before .args .block .now)) (sym (row .ensures .1));
+            into-is = row .ensures .2;
+          },
+          c .before .before .before .before .before .before .before .list-row .ensures,
+          c .before .before .before .before .before .before .before .before .before .before .before .before .before .before .pre .1 .1 .0,
+          zeros .kept .0 ∙ c .before .before .before .before .before .before .before .before .before .before .before .before .before .before .pre .1 .1 .1,
+        ),
+        bytes-none (c .before .before .before .before .before .before .before .before .before .before .before .before .before .before .args .moves .now) (zeros .last .0) (zeros .ensures) (MoveRight (c .before .before .before .before .before .before .before .before .before .before .before .before .before .before .args .block .now) (row .result .index) (row .result .set) (c .before .before .before .before .before .before .before .before .before .before .before .before .before .before .args .ranks .now)),
+      ),
+    )
+
+same-length : tie.Need-same-length
+same-length c = search needs
+
+returns : tie.Need-returns
+returns c =
+    let args = c .before .before .before .before .before .before .before .before .before .before .before .before .before .before .before .before .before .args in
+    let row = c .before .before .before .before .before .before .before .before .before .before .before .before .row-of in
+    let filled = c .before .before .fill-states in (
+      λ right. subst₂ (λ (i left : ℕ). RanksOf (args .block .now) i left right (args .ranks .now) → MovesOf (args .block .now) i left right (args .ranks .now) (filled .last .1 .1 .1 .1 .1 .0)) (row .ensures .1) (row .ensures .3)
+          (moves-all (args .block .now) (c .before .before .before .before .before .before .before .before .before .before .before .before .before .before .before .before .before .pre .0) (row .result) (row .ensures .0) (filled .last .1 .1 .1 .1 .1 .0) (args .ranks .now) (filled .ensures .0) right),
+      filled .ensures .1 ∙ c .before .before .before .before .before .before .before .zeros .kept .0,
+    )
+
+pub fill-moves-spec : {M : Type 1} → statement M
+fill-moves-spec =
+    tie.close
+    (tie.spec
+    kind-requires
+    row-of-requires
+    slice-aggregate-list-row
+    list-row-requires
+    zeros-requires
+    slice-aggregate-fill-states
+    fill-states-requires
+    same-length
+    returns)
