@@ -6,7 +6,7 @@ use mathlib.Core.Path.{_≡_}
 use Prim.Native.Nat.{ℕ, _≤_, _<_}
 use lib.ListN.{length}
 use Rattle.block.specs.Decide.{Some, Outside, BitFrom}
-use Rattle.block.specs.Layout.{Block, blockBytes, maxAgents, maxResources, maxStates, maxPropositions, maxRows, maxActions, maxJoint, byteAt, agents, resources, states, propositions, rows, mask, count, cost, next, kind, left, right, team, bound, unlimited, propKind, untilKind, Strategic, Binary, Available, Used}
+use Rattle.block.specs.Layout.{Block, blockBytes, maxAgents, maxResources, maxStates, maxPropositions, maxRows, maxActions, maxUnits, maxJoint, byteAt, agents, resources, states, propositions, rows, mask, count, cost, next, kind, left, right, team, bound, unlimited, propKind, untilKind, Strategic, Binary, Available, Used}
 use Rattle.block.specs.Refusal.{First}
 use Rattle.block.specs.declared.refusal.Refusal.{Refusal}
 use Rattle.block.specs.declared.refusal.Refusal.the-variants.{Length, Sizes, State, Next, Row, Unused, Form, RowChoice, Position, WrongSide, Move}
@@ -19,9 +19,9 @@ pub data BadSizes (b : Block) : Type 0 where
   propositions-range : Outside 1 maxPropositions (propositions b) → BadSizes b
   rows-range : Outside 1 maxRows (rows b) → BadSizes b
 
--- a cost above 15, or idle with a cost
+-- a cost above 15 units, or idle with a cost
 abbrev pub BadCost : Block → ℕ → ℕ → ℕ → ℕ → Type 0
-BadCost b s a k j = (15 < cost b s a k j) ⊎ ((k ≡ 0) × (0 < cost b s a k j))
+BadCost b s a k j = (maxUnits < cost b s a k j) ⊎ ((k ≡ 0) × (0 < cost b s a k j))
 
 -- a count that is not 1 to 4, or a bad cost of an action that the agent has
 abbrev pub BadActions : Block → ℕ → ℕ → Type 0
@@ -37,7 +37,7 @@ BadNext b s joint = Available b s joint × (states b ≤ next b s joint)
 
 -- a bound 16 to 254: neither at most 15 nor unlimited
 abbrev pub BadBound : Block → ℕ → ℕ → Type 0
-BadBound b i j = (15 < bound b i j) × (bound b i j ≡ unlimited → ⊥)
+BadBound b i j = (maxUnits < bound b i j) × (bound b i j ≡ unlimited → ⊥)
 
 -- what the row names: a proposition at or above P, or a left or right row that is not lower
 pub data BadOperands (b : Block) (i : ℕ) : Type 0 where

@@ -10,10 +10,7 @@ use Rattle.block.specs.declared.layout.Place.the-variants.{Header, Mask,
 abbrev pub Block : Type 0
 Block = List ℕ
 
-abbrev pub blockBytes : ℕ
-blockBytes = 2469
-
--- the largest sizes: agents, resources, states, propositions, rows; actions of an agent, joint actions, fields of a row
+-- the largest sizes: agents, resources, states, propositions, rows; actions of an agent
 abbrev pub maxAgents : ℕ
 maxAgents = 3
 
@@ -32,23 +29,92 @@ maxRows = 32
 abbrev pub maxActions : ℕ
 maxActions = 4
 
+-- the most units of a resource that an action takes or a limited bound grants
+abbrev pub maxUnits : ℕ
+maxUnits = 15
+
+-- how many joint actions have a number
 abbrev pub maxJoint : ℕ
-maxJoint = 64
+maxJoint = maxActions ^ maxAgents
+
+-- the header's bytes: N, R, M, P and F
+abbrev pub agentsByte : ℕ
+agentsByte = 0
+
+abbrev pub resourcesByte : ℕ
+resourcesByte = 1
+
+abbrev pub statesByte : ℕ
+statesByte = 2
+
+abbrev pub propositionsByte : ℕ
+propositionsByte = 3
+
+abbrev pub rowsByte : ℕ
+rowsByte = 4
+
+abbrev pub headerBytes : ℕ
+headerBytes = 5
+
+-- the bytes of a row; its bounds begin at boundByte, one for each resource
+abbrev pub kindByte : ℕ
+kindByte = 0
+
+abbrev pub leftByte : ℕ
+leftByte = 1
+
+abbrev pub rightByte : ℕ
+rightByte = 2
+
+abbrev pub teamByte : ℕ
+teamByte = 3
+
+abbrev pub boundByte : ℕ
+boundByte = 4
 
 abbrev pub rowBytes : ℕ
 rowBytes = 8
 
+-- the costs of an action, of an agent and of a state stand together
+abbrev pub actionCosts : ℕ
+actionCosts = maxResources
+
+abbrev pub agentCosts : ℕ
+agentCosts = maxActions * actionCosts
+
+abbrev pub stateCosts : ℕ
+stateCosts = maxAgents * agentCosts
+
+-- where the masks, counts, costs, next states and rows begin
+abbrev pub maskBase : ℕ
+maskBase = headerBytes
+
+abbrev pub countBase : ℕ
+countBase = maskBase + maxStates
+
+abbrev pub costBase : ℕ
+costBase = countBase + maxStates * maxAgents
+
+abbrev pub nextBase : ℕ
+nextBase = costBase + maxStates * stateCosts
+
+abbrev pub rowBase : ℕ
+rowBase = nextBase + maxStates * maxJoint
+
+abbrev pub blockBytes : ℕ
+blockBytes = rowBase + maxRows * rowBytes
+
 abbrev pub placeOf : Place → ℕ
 placeOf (Header f) = f
-placeOf (Mask s) = 5 + s
-placeOf (Count s a) = 29 + 3 * s + a
-placeOf (Cost s a k j) = 101 + 24 * s + 8 * a + 2 * k + j
-placeOf (Next s joint) = 677 + 64 * s + joint
-placeOf (Field i f) = 2213 + 8 * i + f
+placeOf (Mask s) = maskBase + s
+placeOf (Count s a) = countBase + maxAgents * s + a
+placeOf (Cost s a k j) = costBase + stateCosts * s + agentCosts * a + actionCosts * k + j
+placeOf (Next s joint) = nextBase + maxJoint * s + joint
+placeOf (Field i f) = rowBase + rowBytes * i + f
 
 -- the places of the layout: each number below blockBytes is one of these, and of one only
 abbrev pub InLayout : Place → Type 0
-InLayout (Header f) = f < 5
+InLayout (Header f) = f < headerBytes
 InLayout (Mask s) = s < maxStates
 InLayout (Count s a) = (s < maxStates) × (a < maxAgents)
 InLayout (Cost s a k j) = (s < maxStates) × (a < maxAgents) × (k < maxActions) × (j < maxResources)
@@ -63,19 +129,19 @@ at b x = byteAt b (placeOf x)
 
 -- N, R, M, P and F
 abbrev pub agents : Block → ℕ
-agents b = at b (Header 0)
+agents b = at b (Header agentsByte)
 
 abbrev pub resources : Block → ℕ
-resources b = at b (Header 1)
+resources b = at b (Header resourcesByte)
 
 abbrev pub states : Block → ℕ
-states b = at b (Header 2)
+states b = at b (Header statesByte)
 
 abbrev pub propositions : Block → ℕ
-propositions b = at b (Header 3)
+propositions b = at b (Header propositionsByte)
 
 abbrev pub rows : Block → ℕ
-rows b = at b (Header 4)
+rows b = at b (Header rowsByte)
 
 -- the mask of propositions true in state s
 abbrev pub mask : Block → ℕ → ℕ
@@ -95,19 +161,19 @@ next b s joint = at b (Next s joint)
 
 -- the fields of row i; bound j is that of resource j
 abbrev pub kind : Block → ℕ → ℕ
-kind b i = at b (Field i 0)
+kind b i = at b (Field i kindByte)
 
 abbrev pub left : Block → ℕ → ℕ
-left b i = at b (Field i 1)
+left b i = at b (Field i leftByte)
 
 abbrev pub right : Block → ℕ → ℕ
-right b i = at b (Field i 2)
+right b i = at b (Field i rightByte)
 
 abbrev pub team : Block → ℕ → ℕ
-team b i = at b (Field i 3)
+team b i = at b (Field i teamByte)
 
 abbrev pub bound : Block → ℕ → ℕ → ℕ
-bound b i j = at b (Field i (4 + j))
+bound b i j = at b (Field i (boundByte + j))
 
 -- the byte of an unlimited bound
 abbrev pub unlimited : ℕ
@@ -132,6 +198,10 @@ alwaysKind = 4
 abbrev pub untilKind : ℕ
 untilKind = 5
 
+-- how many kinds there are
+abbrev pub kinds : ℕ
+kinds = 6
+
 -- next, always and until: the kinds with a team and bounds
 abbrev pub Strategic : ℕ → Type 0
 Strategic k = (nextKind ≤ k) × (k ≤ untilKind)
@@ -140,9 +210,9 @@ Strategic k = (nextKind ≤ k) × (k ≤ untilKind)
 abbrev pub Binary : ℕ → Type 0
 Binary k = (k ≡ orKind) ⊎ (k ≡ untilKind)
 
--- agent a's action in a joint action a0 + 4·a1 + 16·a2
+-- agent a's action in a joint action a0 + 4·a1 + 16·a2: its digit in base maxActions
 abbrev pub digit : ℕ → ℕ → ℕ
-digit joint a = joint / 4 ^ a % 4
+digit joint a = joint / maxActions ^ a % maxActions
 
 -- k is an action of agent a in state s, or 0 where there is no such agent
 abbrev pub Acts : Block → ℕ → ℕ → ℕ → Type 0
@@ -154,10 +224,10 @@ Available b s joint = (joint < maxJoint) × ((a : ℕ) → a < maxAgents → Act
 
 -- a row of kind k uses field f
 abbrev pub UsesField : Block → ℕ → ℕ → Type 0
-UsesField b k f = (f ≤ 1) ⊎ (((f ≡ 2) × Binary k) ⊎ (Strategic k × ((3 ≤ f) × (f < 4 + resources b))))
+UsesField b k f = (f ≤ leftByte) ⊎ (((f ≡ rightByte) × Binary k) ⊎ (Strategic k × ((teamByte ≤ f) × (f < boundByte + resources b))))
 
 abbrev pub InUse : Block → Place → Type 0
-InUse b (Header f) = f < 5
+InUse b (Header f) = f < headerBytes
 InUse b (Mask s) = s < states b
 InUse b (Count s a) = (s < states b) × (a < agents b)
 InUse b (Cost s a k j) = (s < states b) × (a < agents b) × (k < count b s a) × (j < resources b)

@@ -6,12 +6,70 @@ ghost use lib.ListN.{length};
 ghost use Rattle.block.specs.Layout as L;
 ghost use Rattle.block.specs.Layout.{blockBytes, maxStates, maxAgents, maxActions, maxResources, maxJoint, maxRows, rowBytes, placeOf, InLayout, byteAt, at};
 
-pub const BLOCK_BYTES: usize = 2469;
+// The largest sizes: agents, resources, states, propositions, rows; actions of an agent.
+pub const MAX_AGENTS: usize = 3;
 
-// How many joint actions have a number, and how many rows there can be.
-pub const JOINT_ACTIONS: usize = 64;
+pub const MAX_RESOURCES: usize = 2;
+
+pub const MAX_STATES: usize = 24;
+
+pub const MAX_PROPOSITIONS: usize = 8;
 
 pub const MAX_ROWS: usize = 32;
+
+pub const MAX_ACTIONS: usize = 4;
+
+// The most units of a resource that an action takes or a limited bound grants.
+pub const MAX_UNITS: usize = 15;
+
+// How many joint actions have a number: an action of each agent.
+pub const JOINT_ACTIONS: usize = MAX_ACTIONS * MAX_ACTIONS * MAX_ACTIONS;
+
+// The header's bytes.
+pub const AGENTS_BYTE: usize = 0;
+
+pub const RESOURCES_BYTE: usize = 1;
+
+pub const STATES_BYTE: usize = 2;
+
+pub const PROPOSITIONS_BYTE: usize = 3;
+
+pub const ROWS_BYTE: usize = 4;
+
+const HEADER_BYTES: usize = 5;
+
+// The bytes of a row; its bounds begin at BOUND_BYTE, one for each resource.
+pub const KIND_BYTE: usize = 0;
+
+pub const LEFT_BYTE: usize = 1;
+
+pub const RIGHT_BYTE: usize = 2;
+
+pub const TEAM_BYTE: usize = 3;
+
+pub const BOUND_BYTE: usize = 4;
+
+const ROW_BYTES: usize = 8;
+
+// The costs of an action, of an agent and of a state stand together.
+const ACTION_COSTS: usize = MAX_RESOURCES;
+
+const AGENT_COSTS: usize = MAX_ACTIONS * ACTION_COSTS;
+
+const STATE_COSTS: usize = MAX_AGENTS * AGENT_COSTS;
+
+// Where the masks, counts, costs, next states and rows begin.
+const MASK_BASE: usize = HEADER_BYTES;
+
+const COUNT_BASE: usize = MASK_BASE + MAX_STATES;
+
+const COST_BASE: usize = COUNT_BASE + MAX_STATES * MAX_AGENTS;
+
+const NEXT_BASE: usize = COST_BASE + MAX_STATES * STATE_COSTS;
+
+const ROW_BASE: usize = NEXT_BASE + MAX_STATES * JOINT_ACTIONS;
+
+pub const BLOCK_BYTES: usize = ROW_BASE + MAX_ROWS * ROW_BYTES;
 
 // The kinds of rows.
 pub const PROP_KIND: usize = 0;
@@ -25,6 +83,8 @@ pub const NEXT_KIND: usize = 3;
 pub const ALWAYS_KIND: usize = 4;
 
 pub const UNTIL_KIND: usize = 5;
+
+pub const KINDS: usize = 6;
 
 // The byte of an unlimited bound.
 pub const UNLIMITED: usize = 255;
@@ -46,26 +106,31 @@ pub fn place_at(p: usize) -> Place
     requires { ⌜ p < blockBytes ⌝ }
     ensures { λ r. ⌜ (placeOf r ≡ p) × InLayout r ⌝ }
 {
-    if p < 5 {
+    if p < MASK_BASE {
         return Place::Header(p);
     }
-    if p < 29 {
-        return Place::Mask(p - 5);
+    if p < COUNT_BASE {
+        return Place::Mask(p - MASK_BASE);
     }
-    if p < 101 {
-        let q = p - 29;
-        return Place::Count(q / 3, q % 3);
+    if p < COST_BASE {
+        let q = p - COUNT_BASE;
+        return Place::Count(q / MAX_AGENTS, q % MAX_AGENTS);
     }
-    if p < 677 {
-        let q = p - 101;
-        return Place::Cost(q / 24, q % 24 / 8, q % 8 / 2, q % 2);
+    if p < NEXT_BASE {
+        let q = p - COST_BASE;
+        return Place::Cost(
+            q / STATE_COSTS,
+            q % STATE_COSTS / AGENT_COSTS,
+            q % AGENT_COSTS / ACTION_COSTS,
+            q % ACTION_COSTS,
+        );
     }
-    if p < 2213 {
-        let q = p - 677;
-        return Place::Next(q / 64, q % 64);
+    if p < ROW_BASE {
+        let q = p - NEXT_BASE;
+        return Place::Next(q / JOINT_ACTIONS, q % JOINT_ACTIONS);
     }
-    let q = p - 2213;
-    Place::Field(q / 8, q % 8)
+    let q = p - ROW_BASE;
+    Place::Field(q / ROW_BYTES, q % ROW_BYTES)
 }
 
 // The numbers of the places, kind by kind.
@@ -73,35 +138,35 @@ fn mask_place(s: usize) -> usize
     requires { ⌜ s < maxStates ⌝ }
     ensures { λ r. ⌜ (r ≡ placeOf (Place.Mask s)) × (r < blockBytes) ⌝ }
 {
-    5 + s
+    MASK_BASE + s
 }
 
 fn count_place(s: usize, a: usize) -> usize
     requires { ⌜ (s < maxStates) × (a < maxAgents) ⌝ }
     ensures { λ r. ⌜ (r ≡ placeOf (Place.Count s a)) × (r < blockBytes) ⌝ }
 {
-    29 + 3 * s + a
+    COUNT_BASE + MAX_AGENTS * s + a
 }
 
 fn cost_place(s: usize, a: usize, k: usize, j: usize) -> usize
     requires { ⌜ (s < maxStates) × (a < maxAgents) × (k < maxActions) × (j < maxResources) ⌝ }
     ensures { λ r. ⌜ (r ≡ placeOf (Place.Cost s a k j)) × (r < blockBytes) ⌝ }
 {
-    101 + 24 * s + 8 * a + 2 * k + j
+    COST_BASE + STATE_COSTS * s + AGENT_COSTS * a + ACTION_COSTS * k + j
 }
 
 fn next_place(s: usize, joint: usize) -> usize
     requires { ⌜ (s < maxStates) × (joint < maxJoint) ⌝ }
     ensures { λ r. ⌜ (r ≡ placeOf (Place.Next s joint)) × (r < blockBytes) ⌝ }
 {
-    677 + 64 * s + joint
+    NEXT_BASE + JOINT_ACTIONS * s + joint
 }
 
 fn field_place(i: usize, f: usize) -> usize
     requires { ⌜ (i < maxRows) × (f < rowBytes) ⌝ }
     ensures { λ r. ⌜ (r ≡ placeOf (Place.Field i f)) × (r < blockBytes) ⌝ }
 {
-    2213 + 8 * i + f
+    ROW_BASE + ROW_BYTES * i + f
 }
 
 // The number of a place.
@@ -131,7 +196,7 @@ pub fn agents(block: &[u8]) -> usize
     requires { ⌜ length (now block) ≡ blockBytes ⌝ }
     ensures { λ r. ⌜ r ≡ L.agents (now (block .entry)) ⌝ }
 {
-    byte_at(block, 0)
+    byte_at(block, AGENTS_BYTE)
 }
 
 // R: how many resources there are.
@@ -139,7 +204,7 @@ pub fn resources(block: &[u8]) -> usize
     requires { ⌜ length (now block) ≡ blockBytes ⌝ }
     ensures { λ r. ⌜ r ≡ L.resources (now (block .entry)) ⌝ }
 {
-    byte_at(block, 1)
+    byte_at(block, RESOURCES_BYTE)
 }
 
 // M: how many states there are.
@@ -147,7 +212,7 @@ pub fn states(block: &[u8]) -> usize
     requires { ⌜ length (now block) ≡ blockBytes ⌝ }
     ensures { λ r. ⌜ r ≡ L.states (now (block .entry)) ⌝ }
 {
-    byte_at(block, 2)
+    byte_at(block, STATES_BYTE)
 }
 
 // P: how many propositions there are.
@@ -155,7 +220,7 @@ pub fn propositions(block: &[u8]) -> usize
     requires { ⌜ length (now block) ≡ blockBytes ⌝ }
     ensures { λ r. ⌜ r ≡ L.propositions (now (block .entry)) ⌝ }
 {
-    byte_at(block, 3)
+    byte_at(block, PROPOSITIONS_BYTE)
 }
 
 // F: how many formula rows there are.
@@ -163,7 +228,7 @@ pub fn rows(block: &[u8]) -> usize
     requires { ⌜ length (now block) ≡ blockBytes ⌝ }
     ensures { λ r. ⌜ r ≡ L.rows (now (block .entry)) ⌝ }
 {
-    byte_at(block, 4)
+    byte_at(block, ROWS_BYTE)
 }
 
 // The mask of the propositions true in state s.
@@ -217,7 +282,7 @@ pub fn kind(block: &[u8], i: usize) -> usize
     requires { ⌜ i < maxRows ⌝ }
     ensures { λ r. ⌜ r ≡ L.kind (now (block .entry)) i ⌝ }
 {
-    field(block, i, 0)
+    field(block, i, KIND_BYTE)
 }
 
 // The left field of row i.
@@ -226,7 +291,7 @@ pub fn left(block: &[u8], i: usize) -> usize
     requires { ⌜ i < maxRows ⌝ }
     ensures { λ r. ⌜ r ≡ L.left (now (block .entry)) i ⌝ }
 {
-    field(block, i, 1)
+    field(block, i, LEFT_BYTE)
 }
 
 // The right field of row i.
@@ -235,7 +300,7 @@ pub fn right(block: &[u8], i: usize) -> usize
     requires { ⌜ i < maxRows ⌝ }
     ensures { λ r. ⌜ r ≡ L.right (now (block .entry)) i ⌝ }
 {
-    field(block, i, 2)
+    field(block, i, RIGHT_BYTE)
 }
 
 // The team of row i, bit a for agent a.
@@ -244,7 +309,7 @@ pub fn team(block: &[u8], i: usize) -> usize
     requires { ⌜ i < maxRows ⌝ }
     ensures { λ r. ⌜ r ≡ L.team (now (block .entry)) i ⌝ }
 {
-    field(block, i, 3)
+    field(block, i, TEAM_BYTE)
 }
 
 // The bound of row i on resource j.
@@ -253,5 +318,5 @@ pub fn bound(block: &[u8], i: usize, j: usize) -> usize
     requires { ⌜ (i < maxRows) × (j < maxResources) ⌝ }
     ensures { λ r. ⌜ r ≡ L.bound (now (block .entry)) i j ⌝ }
 {
-    field(block, i, 4 + j)
+    field(block, i, BOUND_BYTE + j)
 }

@@ -1,7 +1,7 @@
 // The block of a job: what each of its bytes means, and the check of document 01's numbers 1 to 6.
 mod bits;
 pub mod fill;
-mod joint;
+pub mod joint;
 pub mod layout;
 mod nexts;
 pub mod refusal;

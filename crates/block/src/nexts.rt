@@ -24,7 +24,7 @@ fn joints_bad(block: &[u8], s: usize) -> bool
     ensures { λ r. ⌜ Decides (Some maxJoint (BadNext (now (block .entry)) s)) r ⌝ }
 {
     let mut joint = 0;
-    while joint < 64 {
+    while joint < layout::JOINT_ACTIONS {
         if next_bad(block, s, joint) {
             return true;
         }

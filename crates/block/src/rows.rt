@@ -10,19 +10,19 @@ ghost use Rattle.block.specs.Valid.{Sized};
 pub fn binary(k: usize) -> bool
     ensures { λ r. ⌜ Decides (Binary k) r ⌝ }
 {
-    if k == 2 {
+    if k == layout::OR_KIND {
         return true;
     }
-    k == 5
+    k == layout::UNTIL_KIND
 }
 
 pub fn strategic(k: usize) -> bool
     ensures { λ r. ⌜ Decides (Strategic k) r ⌝ }
 {
-    if k < 3 {
+    if k < layout::NEXT_KIND {
         return false;
     }
-    k <= 5
+    k <= layout::UNTIL_KIND
 }
 
 fn bound_bad(block: &[u8], i: usize, j: usize) -> bool
@@ -31,10 +31,10 @@ fn bound_bad(block: &[u8], i: usize, j: usize) -> bool
     ensures { λ r. ⌜ Decides (BadBound (now (block .entry)) i j) r ⌝ }
 {
     let n = layout::bound(block, i, j);
-    if n <= 15 {
+    if n <= layout::MAX_UNITS {
         return false;
     }
-    n != 255
+    n != layout::UNLIMITED
 }
 
 fn bounds_bad(block: &[u8], i: usize) -> bool
@@ -77,7 +77,7 @@ fn operands_bad(block: &[u8], i: usize) -> bool
 {
     let k = layout::kind(block, i);
     let l = layout::left(block, i);
-    if k == 0 {
+    if k == layout::PROP_KIND {
         return layout::propositions(block) <= l;
     }
     if i <= l {
@@ -94,7 +94,7 @@ fn row_bad(block: &[u8], i: usize) -> bool
     requires { ⌜ i < maxRows ⌝ }
     ensures { λ r. ⌜ Decides (BadRow (now (block .entry)) i) r ⌝ }
 {
-    if 5 < layout::kind(block, i) {
+    if layout::UNTIL_KIND < layout::kind(block, i) {
         return true;
     }
     if operands_bad(block, i) {

@@ -23,17 +23,17 @@ pub fn sizes_bad(block: &[u8]) -> bool
     requires { ⌜ length (now block) ≡ blockBytes ⌝ }
     ensures { λ r. ⌜ Decides (BadSizes (now (block .entry))) r ⌝ }
 {
-    if outside(layout::agents(block), 3) {
+    if outside(layout::agents(block), layout::MAX_AGENTS) {
         return true;
     }
-    if outside(layout::resources(block), 2) {
+    if outside(layout::resources(block), layout::MAX_RESOURCES) {
         return true;
     }
-    if outside(layout::states(block), 24) {
+    if outside(layout::states(block), layout::MAX_STATES) {
         return true;
     }
-    if outside(layout::propositions(block), 8) {
+    if outside(layout::propositions(block), layout::MAX_PROPOSITIONS) {
         return true;
     }
-    outside(layout::rows(block), 32)
+    outside(layout::rows(block), layout::MAX_ROWS)
 }

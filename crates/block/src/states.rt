@@ -15,7 +15,7 @@ fn cost_bad(block: &[u8], s: usize, a: usize, k: usize, j: usize) -> bool
     ensures { λ r. ⌜ Decides (BadCost (now (block .entry)) s a k j) r ⌝ }
 {
     let c = layout::cost(block, s, a, k, j);
-    if 15 < c {
+    if layout::MAX_UNITS < c {
         return true;
     }
     if k == 0 {
@@ -46,7 +46,7 @@ fn actions_bad(block: &[u8], s: usize, a: usize) -> bool
     ensures { λ r. ⌜ Decides (BadActions (now (block .entry)) s a) r ⌝ }
 {
     let n = layout::count(block, s, a);
-    if outside(n, 4) {
+    if outside(n, layout::MAX_ACTIONS) {
         return true;
     }
     let mut k = 0;

@@ -16,14 +16,14 @@ fn uses_field(block: &[u8], k: usize, f: usize) -> bool
     requires { ⌜ Sized (now block) ⌝ }
     ensures { λ r. ⌜ Decides (UsesField (now (block .entry)) k f) r ⌝ }
 {
-    if f <= 1 {
+    if f <= layout::LEFT_BYTE {
         return true;
     }
-    if f == 2 {
+    if f == layout::RIGHT_BYTE {
         return binary(k);
     }
     if strategic(k) {
-        return f < 4 + layout::resources(block);
+        return f < layout::BOUND_BYTE + layout::resources(block);
     }
     false
 }
@@ -103,7 +103,7 @@ pub fn places_bad(block: &[u8]) -> bool
     ensures { λ r. ⌜ Decides (Some blockBytes (BadPlace (now (block .entry)))) r ⌝ }
 {
     let mut p = 0;
-    while p < 2469 {
+    while p < layout::BLOCK_BYTES {
         if place_bad(block, p) {
             return true;
         }

@@ -1,4 +1,5 @@
 // The actions of an agent in a state and their costs.
+use block::layout;
 use block::layout::Place;
 use block::refusal::Refusal;
 use scan::step::Step;
@@ -13,13 +14,16 @@ ghost use Rattle.text.specs.Format.{Format, value, read};
 ghost use Rattle.text.specs.Job as J;
 ghost use Rattle.scan.specs.Step.{resume, Inside, Fitting};
 
+// Costs are below this.
+const COST_LIMIT: usize = layout::MAX_UNITS + 1;
+
 fn cost_limit(k: usize) -> usize
     ensures { λ r. ⌜ r ≡ J.costLimit k ⌝ }
 {
     if k == 0 {
         return 1;
     }
-    16
+    COST_LIMIT
 }
 
 // The cost of action k in resource j, before left further costs of the line.

@@ -1,5 +1,6 @@
 // The acts lines of a state.
 use crate::actions::actions;
+use block::layout;
 use block::layout::Place;
 use block::refusal::Refusal;
 use scan::step::Step;
@@ -9,6 +10,7 @@ use scan::steps::past_value;
 use scan::steps::past_word;
 use scan::steps::value_at;
 use scan::steps::value_or;
+use text::COMMA;
 use text::sizes::Sizes;
 ghost use mathlib.Core.List.{List};
 ghost use mathlib.Core.Path.{_≡_};
@@ -18,6 +20,9 @@ ghost use Rattle.block.specs.Layout.{blockBytes, maxStates, maxAgents, maxActio
 ghost use Rattle.text.specs.Format.{Format, read};
 ghost use Rattle.text.specs.Job as J;
 ghost use Rattle.scan.specs.Step.{resume, Inside, Fitting};
+
+// Counts are below this.
+const COUNT_LIMIT: usize = layout::MAX_ACTIONS + 1;
 
 // How many actions an agent has, and the step past its line.
 pub fn acts(text: &[u8], at: Step, job: &mut [u8], z: Sizes, s: usize, a: usize) -> Valued
@@ -34,9 +39,9 @@ pub fn acts(text: &[u8], at: Step, job: &mut [u8], z: Sizes, s: usize, a: usize)
         agent,
         job,
         Place::Count(s, a),
-        44,
+        COMMA,
         1,
-        5,
+        COUNT_LIMIT,
         Refusal::State,
     );
     let value = value_or(1, v);

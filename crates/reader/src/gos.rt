@@ -1,10 +1,12 @@
 // The go lines of a state.
+use block::layout;
 use block::layout::Place;
 use block::refusal::Refusal;
 use scan::step::Step;
 use scan::steps::past_field;
 use scan::steps::past_index;
 use scan::steps::past_word;
+use text::LINE_END;
 use text::joint::digit;
 use text::joint::possible;
 use text::sizes::Sizes;
@@ -46,7 +48,7 @@ fn go_line(text: &[u8], at: Step, job: &mut [u8], z: Sizes, s: usize, joint: usi
         acted,
         job,
         Place::Next(s, joint),
-        10,
+        LINE_END,
         0,
         z.states,
         Refusal::Next,
@@ -60,7 +62,7 @@ fn go(
     job: &mut [u8],
     z: Sizes,
     s: usize,
-    counts: [usize; 3],
+    counts: [usize; layout::MAX_AGENTS],
     joint: usize,
 ) -> Step
     requires { ⌜ Inside (now text) at × (length (now job) ≡ blockBytes) ⌝ }
@@ -74,7 +76,14 @@ fn go(
     at
 }
 
-pub fn gos(text: &[u8], at: Step, job: &mut [u8], z: Sizes, s: usize, counts: [usize; 3]) -> Step
+pub fn gos(
+    text: &[u8],
+    at: Step,
+    job: &mut [u8],
+    z: Sizes,
+    s: usize,
+    counts: [usize; layout::MAX_AGENTS],
+) -> Step
     requires { ⌜ Inside (now text) at × (length (now job) ≡ blockBytes) ⌝ }
     requires { ⌜ Fitting z × (s < maxStates) ⌝ }
     ensures { λ r. ⌜ ((f : Format) → resume (now (text .entry)) at (read (J.goLines z s counts maxJoint 0 f) (now (job .entry))) ≡ resume (now (text .entry)) r (read f (now (job .exit)))) ⌝ }
@@ -82,7 +91,7 @@ pub fn gos(text: &[u8], at: Step, job: &mut [u8], z: Sizes, s: usize, counts: [u
 {
     let mut next = at;
     let mut joint = 0;
-    while joint < 64 {
+    while joint < layout::JOINT_ACTIONS {
         next = go(text, next, job, z, s, counts, joint);
         joint += 1;
     }

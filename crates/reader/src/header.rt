@@ -1,4 +1,5 @@
 // The first line.
+use block::layout;
 use block::layout::Place;
 use block::refusal::Refusal;
 use scan::step::Step;
@@ -7,13 +8,16 @@ use scan::steps::past_value;
 use scan::steps::past_word;
 use scan::steps::value_at;
 use scan::steps::value_or;
+use text::COMMA;
+use text::LINE_END;
 use text::sizes::Sizes;
 ghost use mathlib.Core.Path.{_≡_};
 ghost use Prim.Native.Nat.{ℕ, suc, _≤_, _<_};
 ghost use lib.ListN.{length};
-ghost use Rattle.block.specs.Layout.{blockBytes};
+ghost use Rattle.block.specs.Layout.{blockBytes, headerBytes};
 ghost use Rattle.text.specs.Format.{Format, read};
 ghost use Rattle.text.specs.Job as J;
+ghost use Rattle.text.specs.Numeral.{numbers, Ends};
 ghost use Rattle.scan.specs.Step.{resume, Inside, Fitting};
 
 // The sizes of the job, or what stands in for them after a refusal, and the step past the line.
@@ -25,7 +29,7 @@ pub struct Opened {
 // A size, 1 to high, field f of the header.
 fn size(text: &[u8], at: Step, job: &mut [u8], f: usize, sep: usize, high: usize) -> Valued
     requires { ⌜ Inside (now text) at × (length (now job) ≡ blockBytes) ⌝ }
-    requires { ⌜ (f < 5) × (0 < sep) × (sep < 48) × (1 ≤ high) × (high < 256) ⌝ }
+    requires { ⌜ (f < headerBytes) × Ends sep × (1 ≤ high) × (high < numbers) ⌝ }
     ensures { λ r. ⌜ ((k : ℕ → Format) → resume (now (text .entry)) at (read (J.size sep f high k) (now (job .entry))) ≡ resume (now (text .entry)) (r .next) (read (k (r .value)) (now (job .exit)))) ⌝ }
     ensures { λ r. ⌜ Inside (now (text .entry)) (r .next) × ((1 ≤ r .value) × (r .value ≤ high)) ⌝ }
 {
@@ -50,15 +54,50 @@ pub fn header(text: &[u8], job: &mut [u8]) -> Opened
     ensures { λ r. ⌜ Inside (now (text .entry)) (r .next) × Fitting (r .z) ⌝ }
 {
     let named = past_word(text, Step::Next(0), b"job,");
-    let n = size(text, named, job, 0, 44, 3);
+    let n = size(
+        text,
+        named,
+        job,
+        layout::AGENTS_BYTE,
+        COMMA,
+        layout::MAX_AGENTS,
+    );
     let after_n = n.next;
-    let r = size(text, after_n, job, 1, 44, 2);
+    let r = size(
+        text,
+        after_n,
+        job,
+        layout::RESOURCES_BYTE,
+        COMMA,
+        layout::MAX_RESOURCES,
+    );
     let after_r = r.next;
-    let m = size(text, after_r, job, 2, 44, 24);
+    let m = size(
+        text,
+        after_r,
+        job,
+        layout::STATES_BYTE,
+        COMMA,
+        layout::MAX_STATES,
+    );
     let after_m = m.next;
-    let p = size(text, after_m, job, 3, 44, 8);
+    let p = size(
+        text,
+        after_m,
+        job,
+        layout::PROPOSITIONS_BYTE,
+        COMMA,
+        layout::MAX_PROPOSITIONS,
+    );
     let after_p = p.next;
-    let w = size(text, after_p, job, 4, 10, 32);
+    let w = size(
+        text,
+        after_p,
+        job,
+        layout::ROWS_BYTE,
+        LINE_END,
+        layout::MAX_ROWS,
+    );
     let next = w.next;
     let z = Sizes {
         agents: n.value,

@@ -1,4 +1,5 @@
 // The lines of the rows.
+use block::layout;
 use block::layout::Place;
 use block::refusal::Refusal;
 use scan::step::Step;
@@ -7,6 +8,8 @@ use scan::steps::past_bound;
 use scan::steps::past_field;
 use scan::steps::past_value;
 use scan::steps::value_or;
+use text::COMMA;
+use text::LINE_END;
 use text::kinds::binary;
 use text::sizes::Sizes;
 use text::sizes::masks;
@@ -15,8 +18,8 @@ ghost use mathlib.Core.Path.{_≡_};
 ghost use Prim.Native.Nat.{ℕ, _≤_, _<_};
 ghost use lib.ListN.{length};
 ghost use lib.Dec.{eqb};
-ghost use Rattle.block.specs.Layout.{blockBytes, maxRows, maxResources, propKind};
-ghost use Rattle.text.specs.Numeral.{comma, lineEnd};
+ghost use Rattle.block.specs.Layout.{blockBytes, maxRows, maxResources, rightByte, propKind};
+ghost use Rattle.text.specs.Numeral.{comma, lineEnd, Ends};
 ghost use Rattle.text.specs.Format.{Format, value, read};
 ghost use Rattle.text.specs.Job as J;
 ghost use Rattle.scan.specs.Step.{resume, Inside, Fitting};
@@ -30,7 +33,7 @@ fn bounds(text: &[u8], at: Step, job: &mut [u8], i: usize, count: usize) -> Step
     let mut next = at;
     let mut j = 0;
     while j < count {
-        next = past_bound(text, next, job, Place::Field(i, 4 + j));
+        next = past_bound(text, next, job, Place::Field(i, layout::BOUND_BYTE + j));
         j += 1;
     }
     next
@@ -43,7 +46,7 @@ fn team(text: &[u8], at: Step, job: &mut [u8], z: Sizes, i: usize, k: usize) -> 
     ensures { λ r. ⌜ ((f : Format) → resume (now (text .entry)) at (read (J.teamFields z i k f) (now (job .entry))) ≡ resume (now (text .entry)) r (read f (now (job .exit)))) ⌝ }
     ensures { λ r. ⌜ Inside (now (text .entry)) r ⌝ }
 {
-    if k < 3 {
+    if k < layout::NEXT_KIND {
         return at;
     }
     let limit = masks(z.agents);
@@ -51,8 +54,8 @@ fn team(text: &[u8], at: Step, job: &mut [u8], z: Sizes, i: usize, k: usize) -> 
         text,
         at,
         job,
-        Place::Field(i, 3),
-        44,
+        Place::Field(i, layout::TEAM_BYTE),
+        COMMA,
         1,
         limit,
         Refusal::Row,
@@ -62,19 +65,19 @@ fn team(text: &[u8], at: Step, job: &mut [u8], z: Sizes, i: usize, k: usize) -> 
 
 // The byte after the left field.
 fn left_end(k: usize) -> usize
-    ensures { λ r. ⌜ (r ≡ cond (J.binary k) comma lineEnd) × ((0 < r) × (r < 48)) ⌝ }
+    ensures { λ r. ⌜ (r ≡ cond (J.binary k) comma lineEnd) × Ends r ⌝ }
 {
     if binary(k) {
-        return 44;
+        return COMMA;
     }
-    10
+    LINE_END
 }
 
 // What the left field must be below: the propositions or the row itself.
 fn left_limit(propositions: usize, i: usize, k: usize) -> usize
     ensures { λ r. ⌜ r ≡ cond (eqb k propKind) propositions i ⌝ }
 {
-    if k == 0 {
+    if k == layout::PROP_KIND {
         return propositions;
     }
     i
@@ -84,11 +87,12 @@ fn left_limit(propositions: usize, i: usize, k: usize) -> usize
 fn right(text: &[u8], at: Step, job: &mut [u8], i: usize, k: usize) -> Step
     requires { ⌜ Inside (now text) at × (length (now job) ≡ blockBytes) ⌝ }
     requires { ⌜ i < maxRows ⌝ }
-    ensures { λ r. ⌜ ((f : Format) → resume (now (text .entry)) at (read (cond (J.binary k) (value (J.number lineEnd 0 i Refusal.Row) (Place.Field i 2) (λ v. f)) f) (now (job .entry))) ≡ resume (now (text .entry)) r (read f (now (job .exit)))) ⌝ }
+    ensures { λ r. ⌜ ((f : Format) → resume (now (text .entry)) at (read (cond (J.binary k) (value (J.number lineEnd 0 i Refusal.Row) (Place.Field i rightByte) (λ v. f)) f) (now (job .entry))) ≡ resume (now (text .entry)) r (read f (now (job .exit)))) ⌝ }
     ensures { λ r. ⌜ Inside (now (text .entry)) r ⌝ }
 {
     if binary(k) {
-        return past_field(text, at, job, Place::Field(i, 2), 10, 0, i, Refusal::Row);
+        let x = Place::Field(i, layout::RIGHT_BYTE);
+        return past_field(text, at, job, x, LINE_END, 0, i, Refusal::Row);
     }
     at
 }
@@ -105,7 +109,7 @@ fn operands(text: &[u8], at: Step, job: &mut [u8], z: Sizes, i: usize, k: usize)
         text,
         at,
         job,
-        Place::Field(i, 1),
+        Place::Field(i, layout::LEFT_BYTE),
         sep,
         0,
         limit,
@@ -120,7 +124,7 @@ fn row(text: &[u8], at: Step, job: &mut [u8], z: Sizes, i: usize) -> Step
     ensures { λ r. ⌜ ((f : Format) → resume (now (text .entry)) at (read (J.rowLine z i f) (now (job .entry))) ≡ resume (now (text .entry)) r (read f (now (job .exit)))) ⌝ }
     ensures { λ r. ⌜ Inside (now (text .entry)) r ⌝ }
 {
-    let v = kind_at(text, at, job, Place::Field(i, 0));
+    let v = kind_at(text, at, job, Place::Field(i, layout::KIND_BYTE));
     let k = value_or(0, v);
     let next = team(text, past_value(v), job, z, i, k);
     operands(text, next, job, z, i, k)

@@ -1,12 +1,14 @@
 // The lines of the states.
 use crate::agents::acts;
 use crate::gos::gos;
+use block::layout;
 use block::layout::Place;
 use block::refusal::Refusal;
 use scan::step::Step;
 use scan::steps::past_field;
 use scan::steps::past_index;
 use scan::steps::past_word;
+use text::LINE_END;
 use text::sizes::Sizes;
 use text::sizes::masks;
 ghost use mathlib.Core.Path.{_≡_};
@@ -31,7 +33,7 @@ fn state_line(text: &[u8], at: Step, job: &mut [u8], z: Sizes, s: usize) -> Step
         state,
         job,
         Place::Mask(s),
-        10,
+        LINE_END,
         0,
         limit,
         Refusal::State,
@@ -45,7 +47,7 @@ fn moves(text: &[u8], at: Step, job: &mut [u8], z: Sizes, s: usize) -> Step
     ensures { λ r. ⌜ ((f : Format) → resume (now (text .entry)) at (read (J.agentLines z s (z .agents) 0 J.noCounts (λ counts. J.goLines z s counts maxJoint 0 f)) (now (job .entry))) ≡ resume (now (text .entry)) r (read f (now (job .exit)))) ⌝ }
     ensures { λ r. ⌜ Inside (now (text .entry)) r ⌝ }
 {
-    let mut counts = [1usize; 3];
+    let mut counts = [1usize; layout::MAX_AGENTS];
     let mut next = at;
     let mut a = 0;
     while a < z.agents {

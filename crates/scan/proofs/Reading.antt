@@ -3,16 +3,16 @@
 use mathlib.Core.Bool.{Bool, true, false, cond}
 use mathlib.Core.List.{List, [], _∷_, _++_}
 use mathlib.Core.Path.{_≡_, refl, sym, ap, _∙_}
-use Prim.Native.Nat.{ℕ, _≤_, _<_}
+use Prim.Native.Nat.{ℕ, suc, _≤_, _<_}
 use native.Mathlib.Omega.{arith}
 use lib.Dec.{leb, ltb}
 use borrow.Author.Tests.{le-leb, lt-leb, lt-ltb, le-ltb}
-use Rattle.block.specs.Layout.{Block, unlimited}
+use Rattle.block.specs.Layout.{Block, maxUnits, unlimited, propKind, notKind, orKind, nextKind, alwaysKind, untilKind, kinds}
 use Rattle.block.specs.declared.layout.Place.{Place}
 use Rattle.block.specs.declared.refusal.Refusal.the-variants.{Form}
-use Rattle.text.specs.Numeral.{ascii, comma, decimal, Starts, Found, found, missing, after, search}
+use Rattle.text.specs.Numeral.{ascii, comma, numbers, decimal, Starts, Found, found, missing, after, search}
 use Rattle.text.specs.Format.{Spelling, Format, value, Outcome, refused, store, onFound, read}
-use Rattle.text.specs.Job.{both, either, bound, boundField, kindWord, index}
+use Rattle.text.specs.Job.{both, either, infBound, emptyBound, boundSpellings, bound, boundField, kindWord, index}
 use Rattle.scan.specs.Step.{resume, resumeWith, pastValue, valueOr, Ranged, Inside, InsideWith}
 use Rattle.scan.specs.declared.step.Value.{Value}
 use Rattle.scan.specs.declared.step.Value.the-variants as value-at
@@ -60,35 +60,35 @@ pub above-range : {low limit n : ℕ} → low ≤ n → limit ≤ n → both (le
 above-range l h = simp (le-leb _ _ l, le-ltb _ _ h)
 
 -- the spellings of a bound: the numbers, then inf, then nothing
-pub bound-search : (t : List ℕ) → search (bound .spell) 258 t ≡ after 257 (ascii ",") t (after 256 (ascii "inf,") t (search (λ n. decimal n ++ comma ∷ []) 256 t))
+pub bound-search : (t : List ℕ) → search (bound .spell) boundSpellings t ≡ after emptyBound (ascii ",") t (after infBound (ascii "inf,") t (search (λ n. decimal n ++ comma ∷ []) numbers t))
 unfolding boundField
 bound-search t =
-    search-step (bound .spell) 257 t
-    ∙ ap (after 257 (ascii ",") t)
-    (search-step (bound .spell) 256 t ∙ ap (after 256 (ascii "inf,") t) (search-same (bound .spell) (λ n. decimal n ++ comma ∷ []) t 256 numbers))
+    search-step (bound .spell) emptyBound t
+    ∙ ap (after emptyBound (ascii ",") t)
+    (search-step (bound .spell) infBound t ∙ ap (after infBound (ascii "inf,") t) (search-same (bound .spell) (λ n. decimal n ++ comma ∷ []) t numbers number))
   where
-    numbers : (m : ℕ) → m < 256 → bound .spell m ≡ decimal m ++ comma ∷ []
-    numbers m h = simp (lt-ltb m 256 h)
+    number : (m : ℕ) → m < numbers → bound .spell m ≡ decimal m ++ comma ∷ []
+    number m h = simp (lt-ltb m numbers h)
 
-pub kind-search : (t : List ℕ) → search kindWord 6 t ≡ after 5 (ascii "until,") t (after 4 (ascii "always,") t (after 3 (ascii "next,") t (after 2 (ascii "or,") t (after 1 (ascii "not,") t (after 0 (ascii "prop,") t missing)))))
+pub kind-search : (t : List ℕ) → search kindWord kinds t ≡ after untilKind (ascii "until,") t (after alwaysKind (ascii "always,") t (after nextKind (ascii "next,") t (after orKind (ascii "or,") t (after notKind (ascii "not,") t (after propKind (ascii "prop,") t missing)))))
 unfolding search kindWord
 kind-search t = refl
 
 -- numbers to 15, and unlimited
-pub bound-small : {o : ℕ} → o < 16 → either (ltb o 16) (leb 256 o) ≡ true
-bound-small h = simp (lt-ltb _ _ h)
+pub bound-small : {o : ℕ} → o ≤ maxUnits → bound .allowed o ≡ true
+bound-small {o} h = simp (lt-ltb o (suc maxUnits) (omega arith))
 
-pub bound-none : {o : ℕ} → 256 ≤ o → either (ltb o 16) (leb 256 o) ≡ true
-bound-none {o} h = simp (le-ltb o 16 (omega arith), le-leb 256 o h)
+pub bound-none : {o : ℕ} → infBound ≤ o → bound .allowed o ≡ true
+bound-none {o} h = simp (le-ltb o (suc maxUnits) (omega arith), le-leb infBound o h)
 
-pub byte-number : {o : ℕ} → o < 256 → bound .byte o ≡ o
+pub byte-number : {o : ℕ} → o < numbers → bound .byte o ≡ o
 byte-number h = simp (lt-ltb _ _ h)
 
-pub byte-none : {o : ℕ} → 256 ≤ o → bound .byte o ≡ unlimited
+pub byte-none : {o : ℕ} → infBound ≤ o → bound .byte o ≡ unlimited
 byte-none h = simp (le-ltb _ _ h)
 
-pub bound-large : {o : ℕ} → 16 ≤ o → o < 256 → either (ltb o 16) (leb 256 o) ≡ false
-bound-large l h = simp (le-ltb _ _ l, lt-leb _ _ h)
+pub bound-large : {o : ℕ} → maxUnits < o → o < infBound → bound .allowed o ≡ false
+bound-large {o} l h = simp (le-ltb o (suc maxUnits) (omega arith), lt-leb _ _ h)
 
 -- past a value, reading goes on from the step past it
 pub past-inside : (t : List ℕ) (v : Value) → InsideWith t v → Inside t (pastValue v)

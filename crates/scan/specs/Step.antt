@@ -2,8 +2,9 @@
 use mathlib.Core.List.{List}
 use Prim.Native.Nat.{ℕ, _≤_, _<_}
 use lib.ListN.{length, drop}
-use Rattle.text.specs.Numeral.{Found, found, missing}
+use Rattle.text.specs.Numeral.{numbers, Found, found, missing}
 use Rattle.text.specs.Format.{Outcome, refused}
+use Rattle.text.specs.Job.{boundSpellings}
 use Rattle.block.specs.Layout.{maxAgents, maxResources, maxStates, maxPropositions, maxRows}
 use Rattle.text.specs.declared.sizes.Sizes.{Sizes}
 use Rattle.scan.specs.declared.step.Step.{Step}
@@ -48,11 +49,11 @@ Inside t (step.Next next) = next ≤ length t
 Inside t (step.Refused r) = Unit {0}
 
 abbrev pub InsideWith : List ℕ → Value → Type 0
-InsideWith t (value.At v next) = (v < 256) × (next ≤ length t)
+InsideWith t (value.At v next) = (v < numbers) × (next ≤ length t)
 InsideWith t (value.Refused r) = Unit {0}
 
 abbrev pub InsideNumeral : List ℕ → Numeral → Type 0
-InsideNumeral t (numeral.Found n next) = (n < 258) × (next ≤ length t)
+InsideNumeral t (numeral.Found n next) = (n < boundSpellings) × (next ≤ length t)
 InsideNumeral t numeral.Missing = Unit {0}
 
 -- the sizes are in range

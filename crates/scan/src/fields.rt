@@ -7,22 +7,29 @@ use crate::words::word_or;
 use block::layout;
 use block::layout::Place;
 use block::refusal::Refusal;
+use text::COMMA;
+use text::NUMBERS;
 ghost use mathlib.Core.Path.{_≡_};
 ghost use Prim.Native.Nat.{ℕ, _≤_, _<_};
 ghost use lib.ListN.{length, drop, set};
-ghost use Rattle.block.specs.Layout.{Block, blockBytes, placeOf, InLayout};
+ghost use Rattle.block.specs.Layout.{Block, blockBytes, kinds, placeOf, InLayout};
 ghost use Rattle.text.specs.Format.{Format, value, read};
 ghost use Rattle.text.specs.Job as J;
 ghost use Rattle.scan.specs.Step.{resume, resumeWith, Inside, InsideWith, InsideNumeral, Ranged, foundAt};
-ghost use Rattle.text.specs.Numeral.{search};
+ghost use Rattle.text.specs.Numeral.{numbers, Ends, search};
+
+// The spellings of an unlimited bound, past those of the numbers.
+const INF_BOUND: usize = NUMBERS;
+
+const EMPTY_BOUND: usize = INF_BOUND + 1;
 
 // Past the number n and a comma, which must stand there.
 pub fn index(text: &[u8], at: usize, n: usize) -> Step
-    requires { ⌜ (at ≤ length (now text)) × (n < 256) ⌝ }
+    requires { ⌜ (at ≤ length (now text)) × (n < numbers) ⌝ }
     ensures { λ r. ⌜ ((f : Format) (b : Block) → read (J.index n f) b (drop at (now (text .entry))) ≡ resume (now (text .entry)) r (read f b)) ⌝ }
     ensures { λ r. ⌜ Inside (now (text .entry)) r ⌝ }
 {
-    match number(text, at, 44) {
+    match number(text, at, COMMA) {
         Numeral::Found(m, next) => {
             if m == n {
                 Step::Next(next)
@@ -37,11 +44,11 @@ pub fn index(text: &[u8], at: usize, n: usize) -> Step
 // Stores a byte of the block.
 fn put(job: &mut [u8], x: Place, v: usize)
     requires { ⌜ length (now job) ≡ blockBytes ⌝ }
-    requires { ⌜ InLayout x × (v < 256) ⌝ }
+    requires { ⌜ InLayout x × (v < numbers) ⌝ }
     ensures { λ _. ⌜ now (job .exit) ≡ set (now (job .entry)) (placeOf x) v ⌝ }
 {
     let p = layout::offset(x);
-    job[p] = (v % 256) as u8;
+    job[p] = (v % NUMBERS) as u8;
 }
 
 // A number from low to below limit, stored at a place of the block.
@@ -55,7 +62,7 @@ pub fn field(
     limit: usize,
     refusal: Refusal,
 ) -> Value
-    requires { ⌜ (at ≤ length (now text)) × ((0 < sep) × (sep < 48)) ⌝ }
+    requires { ⌜ (at ≤ length (now text)) × Ends sep ⌝ }
     requires { ⌜ (length (now job) ≡ blockBytes) × InLayout x ⌝ }
     ensures { λ r. ⌜ ((k : ℕ → Format) → read (value (J.number sep low limit refusal) x k) (now (job .entry)) (drop at (now (text .entry))) ≡ resumeWith (now (text .entry)) r (λ v rest. read (k v) (now (job .exit)) rest)) ⌝ }
     ensures { λ r. ⌜ InsideWith (now (text .entry)) r ⌝ }
@@ -85,11 +92,11 @@ pub fn bound(text: &[u8], at: usize, job: &mut [u8], x: Place) -> Value
 {
     match bound_at(text, at) {
         Numeral::Found(o, next) => {
-            if 256 <= o {
-                put(job, x, 255);
-                return Value::At(255, next);
+            if INF_BOUND <= o {
+                put(job, x, layout::UNLIMITED);
+                return Value::At(layout::UNLIMITED, next);
             }
-            if 16 <= o {
+            if layout::MAX_UNITS < o {
                 return Value::Refused(Refusal::Row);
             }
             put(job, x, o);
@@ -102,12 +109,12 @@ pub fn bound(text: &[u8], at: usize, job: &mut [u8], x: Place) -> Value
 // The spelling of a bound that stands at a place of the text.
 fn bound_at(text: &[u8], at: usize) -> Numeral
     requires { ⌜ at ≤ length (now text) ⌝ }
-    ensures { λ r. ⌜ search (J.bound .spell) 258 (drop at (now (text .entry))) ≡ foundAt (now (text .entry)) r ⌝ }
+    ensures { λ r. ⌜ search (J.bound .spell) J.boundSpellings (drop at (now (text .entry))) ≡ foundAt (now (text .entry)) r ⌝ }
     ensures { λ r. ⌜ InsideNumeral (now (text .entry)) r ⌝ }
 {
-    let n = number(text, at, 44);
-    let inf = word_or(text, at, b"inf,", 256, n);
-    word_or(text, at, b",", 257, inf)
+    let n = number(text, at, COMMA);
+    let inf = word_or(text, at, b"inf,", INF_BOUND, n);
+    word_or(text, at, b",", EMPTY_BOUND, inf)
 }
 
 // The word of a row, stored as the row's kind.
@@ -116,7 +123,7 @@ pub fn kind(text: &[u8], at: usize, job: &mut [u8], x: Place) -> Value
     requires { ⌜ (length (now job) ≡ blockBytes) × InLayout x ⌝ }
     ensures { λ r. ⌜ ((k : ℕ → Format) → read (value J.kindSpelling x k) (now (job .entry)) (drop at (now (text .entry))) ≡ resumeWith (now (text .entry)) r (λ v rest. read (k v) (now (job .exit)) rest)) ⌝ }
     ensures { λ r. ⌜ InsideWith (now (text .entry)) r ⌝ }
-    ensures { λ r. ⌜ Ranged 0 6 r ⌝ }
+    ensures { λ r. ⌜ Ranged 0 kinds r ⌝ }
 {
     match kind_at(text, at) {
         Numeral::Found(k, next) => {
@@ -129,13 +136,13 @@ pub fn kind(text: &[u8], at: usize, job: &mut [u8], x: Place) -> Value
 
 fn kind_at(text: &[u8], at: usize) -> Numeral
     requires { ⌜ at ≤ length (now text) ⌝ }
-    ensures { λ r. ⌜ search J.kindWord 6 (drop at (now (text .entry))) ≡ foundAt (now (text .entry)) r ⌝ }
+    ensures { λ r. ⌜ search J.kindWord kinds (drop at (now (text .entry))) ≡ foundAt (now (text .entry)) r ⌝ }
     ensures { λ r. ⌜ InsideNumeral (now (text .entry)) r ⌝ }
 {
-    let a = word_or(text, at, b"prop,", 0, Numeral::Missing);
-    let b = word_or(text, at, b"not,", 1, a);
-    let c = word_or(text, at, b"or,", 2, b);
-    let d = word_or(text, at, b"next,", 3, c);
-    let e = word_or(text, at, b"always,", 4, d);
-    word_or(text, at, b"until,", 5, e)
+    let a = word_or(text, at, b"prop,", layout::PROP_KIND, Numeral::Missing);
+    let b = word_or(text, at, b"not,", layout::NOT_KIND, a);
+    let c = word_or(text, at, b"or,", layout::OR_KIND, b);
+    let d = word_or(text, at, b"next,", layout::NEXT_KIND, c);
+    let e = word_or(text, at, b"always,", layout::ALWAYS_KIND, d);
+    word_or(text, at, b"until,", layout::UNTIL_KIND, e)
 }

@@ -1,13 +1,16 @@
 // Numbers in the text.
 use crate::step::Numeral;
 use block::widths::wide;
+use text::NINE;
+use text::NUMBERS;
+use text::ZERO;
 ghost use mathlib.Core.Bool.{Bool};
 ghost use mathlib.Core.List.{_∷_, [], _++_};
 ghost use mathlib.Core.Path.{_≡_};
 ghost use Prim.Native.Nat.{_+_, _/_, _%_, _≤_, _<_};
 ghost use lib.ListN.{length, getD, drop};
 ghost use Rattle.block.specs.Decide.{Decides};
-ghost use Rattle.text.specs.Numeral.{decimal, search};
+ghost use Rattle.text.specs.Numeral.{numeral, numbers, decimal, Ends, search};
 ghost use Rattle.scan.specs.Step.{foundAt, InsideNumeral};
 
 // The byte at a place of the text, 0 past its end.
@@ -21,18 +24,18 @@ pub fn byte(text: &[u8], at: usize) -> usize
 }
 
 fn is_digit(x: usize) -> bool
-    ensures { λ r. ⌜ Decides ((48 ≤ x) × (x ≤ 57)) r ⌝ }
+    ensures { λ r. ⌜ Decides ((numeral 0 ≤ x) × (x ≤ numeral 9)) r ⌝ }
 {
-    if x < 48 {
+    if x < ZERO {
         return false;
     }
-    x <= 57
+    x <= NINE
 }
 
 // The number at a place of the text, with sep after it.
 pub fn number(text: &[u8], at: usize, sep: usize) -> Numeral
-    requires { ⌜ (at ≤ length (now text)) × ((0 < sep) × (sep < 48)) ⌝ }
-    ensures { λ r. ⌜ search (λ n. decimal n ++ sep ∷ []) 256 (drop at (now (text .entry))) ≡ foundAt (now (text .entry)) r ⌝ }
+    requires { ⌜ (at ≤ length (now text)) × Ends sep ⌝ }
+    ensures { λ r. ⌜ search (λ n. decimal n ++ sep ∷ []) numbers (drop at (now (text .entry))) ≡ foundAt (now (text .entry)) r ⌝ }
     ensures { λ r. ⌜ InsideNumeral (now (text .entry)) r ⌝ }
 {
     let a = byte(text, at);
@@ -41,23 +44,23 @@ pub fn number(text: &[u8], at: usize, sep: usize) -> Numeral
         return Numeral::Missing;
     }
     if b == sep {
-        return Numeral::Found(a - 48, at + 2);
+        return Numeral::Found(a - ZERO, at + 2);
     }
-    if a == 48 {
+    if a == ZERO {
         return Numeral::Missing;
     }
     if !is_digit(b) {
         return Numeral::Missing;
     }
-    let tens = 10 * (a - 48) + (b - 48);
+    let tens = 10 * (a - ZERO) + (b - ZERO);
     more(text, at, sep, tens)
 }
 
 // The number that begins with two digits, 10 or more.
 fn more(text: &[u8], at: usize, sep: usize, tens: usize) -> Numeral
-    requires { ⌜ (at ≤ length (now text)) × ((0 < sep) × (sep < 48)) ⌝ }
-    requires { ⌜ (10 ≤ tens) × ((tens < 100) × ((getD (now text) at 0 ≡ 48 + tens / 10) × (getD (now text) (at + 1) 0 ≡ 48 + tens % 10))) ⌝ }
-    ensures { λ r. ⌜ search (λ n. decimal n ++ sep ∷ []) 256 (drop at (now (text .entry))) ≡ foundAt (now (text .entry)) r ⌝ }
+    requires { ⌜ (at ≤ length (now text)) × Ends sep ⌝ }
+    requires { ⌜ (10 ≤ tens) × ((tens < 100) × ((getD (now text) at 0 ≡ numeral (tens / 10)) × (getD (now text) (at + 1) 0 ≡ numeral (tens % 10)))) ⌝ }
+    ensures { λ r. ⌜ search (λ n. decimal n ++ sep ∷ []) numbers (drop at (now (text .entry))) ≡ foundAt (now (text .entry)) r ⌝ }
     ensures { λ r. ⌜ InsideNumeral (now (text .entry)) r ⌝ }
 {
     let c = byte(text, at + 2);
@@ -67,8 +70,8 @@ fn more(text: &[u8], at: usize, sep: usize, tens: usize) -> Numeral
     if !is_digit(c) {
         return Numeral::Missing;
     }
-    let n = 10 * tens + (c - 48);
-    if 256 <= n {
+    let n = 10 * tens + (c - ZERO);
+    if NUMBERS <= n {
         return Numeral::Missing;
     }
     if byte(text, at + 3) == sep {

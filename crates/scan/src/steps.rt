@@ -15,6 +15,7 @@ ghost use lib.ListN.{length};
 ghost use Rattle.block.specs.Layout.{Block, blockBytes, InLayout};
 ghost use Rattle.text.specs.Format.{Format, exactly, value, read};
 ghost use Rattle.text.specs.Job as J;
+ghost use Rattle.text.specs.Numeral.{numbers, Ends};
 ghost use Rattle.scan.specs.Step.{resume, pastValue, valueOr, Ranged, Inside};
 
 // Past the word.
@@ -31,7 +32,7 @@ pub fn past_word(text: &[u8], at: Step, w: &[u8]) -> Step
 
 // Past the number n and a comma.
 pub fn past_index(text: &[u8], at: Step, n: usize) -> Step
-    requires { ⌜ Inside (now text) at × (n < 256) ⌝ }
+    requires { ⌜ Inside (now text) at × (n < numbers) ⌝ }
     ensures { λ r. ⌜ ((f : Format) (b : Block) → resume (now (text .entry)) at (read (J.index n f) b) ≡ resume (now (text .entry)) r (read f b)) ⌝ }
     ensures { λ r. ⌜ Inside (now (text .entry)) r ⌝ }
 {
@@ -52,7 +53,7 @@ pub fn value_at(
     limit: usize,
     refusal: Refusal,
 ) -> Value
-    requires { ⌜ Inside (now text) at × ((0 < sep) × (sep < 48)) ⌝ }
+    requires { ⌜ Inside (now text) at × Ends sep ⌝ }
     requires { ⌜ (length (now job) ≡ blockBytes) × InLayout x ⌝ }
     ensures { λ r. ⌜ ((d : ℕ) (k : ℕ → Format) → resume (now (text .entry)) at (read (value (J.number sep low limit refusal) x k) (now (job .entry))) ≡ resume (now (text .entry)) (pastValue r) (read (k (valueOr d r)) (now (job .exit)))) ⌝ }
     ensures { λ r. ⌜ Inside (now (text .entry)) (pastValue r) × Ranged low limit r ⌝ }
@@ -74,7 +75,7 @@ pub fn past_field(
     limit: usize,
     refusal: Refusal,
 ) -> Step
-    requires { ⌜ Inside (now text) at × ((0 < sep) × (sep < 48)) ⌝ }
+    requires { ⌜ Inside (now text) at × Ends sep ⌝ }
     requires { ⌜ (length (now job) ≡ blockBytes) × InLayout x ⌝ }
     ensures { λ r. ⌜ ((f : Format) → resume (now (text .entry)) at (read (value (J.number sep low limit refusal) x (λ v. f)) (now (job .entry))) ≡ resume (now (text .entry)) r (read f (now (job .exit)))) ⌝ }
     ensures { λ r. ⌜ Inside (now (text .entry)) r ⌝ }

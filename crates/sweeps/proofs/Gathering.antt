@@ -4,9 +4,9 @@ use mathlib.Core.Logic.{_⊎_, inl, inr, ⊎-elim}
 use mathlib.Core.Path.{_≡_, refl, sym, _∙_, subst}
 use Prim.Native.Nat.{ℕ, _+_, _<_}
 use native.Mathlib.Omega.{arith}
-use Rattle.turns.specs.Extremes.{Beyond, Further, Extreme}
+use Rattle.ways.specs.Extremes.{Beyond, Further, Extreme}
 use Rattle.game.proofs.Numbers.Decide.{eq?}
-use Rattle.turns.proofs.Largest.{beyond-equal, beyond-trans}
+use Rattle.ways.proofs.Largest.{beyond-equal, beyond-trans}
 use Rattle.sweeps.specs.Values.{Gathered, OneOf}
 
 pub extreme-one : (most : Bool) (n : ℕ) (f : ℕ → ℕ) (v w : ℕ) → Extreme most n f v → Extreme most n f w → v ≡ w

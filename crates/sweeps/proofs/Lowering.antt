@@ -18,10 +18,10 @@ use Rattle.game.proofs.Local.Same.{number-below, same-number}
 use Rattle.game.proofs.Local.ByNumber.{Transfers, force-transfers, answer-transfers}
 use Rattle.game.proofs.Solving.Sweeping.{Weakens, force-weakens, answer-weakens, same-by-number, lower-sound}
 use Rattle.game.proofs.Whole.Choices.{idle-allowed, idle-reply}
-use Rattle.sweeps.specs.Places.{PlacedAt}
+use Rattle.ways.specs.Places.{PlacedAt}
 use Rattle.sweeps.specs.Values.{Attacks, Defends, Valued}
 use Rattle.sweeps.specs.Sweeps.{KeptFor, RestsAt, ChangedAt, Swept}
-use Rattle.sweeps.proofs.Placing.{place-position, placed-number}
+use Rattle.ways.proofs.Placing.{place-position, placed-number}
 
 module _ (G : Arena) (proper : Proper (G .structure)) where
   pub attacks-weaken : (most : Bool) → Weakens G (Attacks G most)

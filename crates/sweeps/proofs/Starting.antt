@@ -11,12 +11,12 @@ use Rattle.game.specs.Table.{never}
 use Rattle.turns.specs.Buffers.{rankIn}
 use Rattle.game.proofs.Numbers.Decide.{eq?}
 use Rattle.game.proofs.Local.Same.{number-below}
-use Rattle.turns.proofs.Offsets.{state-and-stocks}
+use Rattle.ways.proofs.Offsets.{state-and-stocks}
 use Rattle.game.proofs.Solving.Sweeping.{first-sound}
 use Rattle.sweeps.specs.Values.{Attacks}
 use Rattle.sweeps.specs.Sweeps.{KeptFor}
 use Rattle.sweeps.specs.Solving.{FirstRank}
-use Rattle.sweeps.proofs.Placing.{stocks-below}
+use Rattle.ways.proofs.Placing.{stocks-below}
 
 -- a position's state is the quotient of its number
 pub number-state : (G : Arena) (p : Position) → IsPosition G p → number G p / stockPlaces G ≡ p .state

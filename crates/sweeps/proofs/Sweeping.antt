@@ -13,11 +13,11 @@ use Rattle.game.specs.Sweep.{total}
 use Rattle.game.proofs.Numbers.Decide.{eq?}
 use Rattle.game.proofs.Bridge.Proper.{Proper}
 use Rattle.game.proofs.Bridge.Plays.{outcome-fits}
-use Rattle.turns.proofs.Offsets.{remains-number}
+use Rattle.ways.proofs.Offsets.{remains-number}
 use Rattle.game.proofs.Solving.Sweeping.{at-rest}
 use Rattle.sweeps.specs.Values.{Attacks, Defends}
 use Rattle.sweeps.specs.Sweeps.{KeptFor, RestsAt, RestsBelow, visit, ChangedAt, Swept, PlaceSettled, Settled}
-use Rattle.sweeps.proofs.Placing.{stocks-below}
+use Rattle.ways.proofs.Placing.{stocks-below}
 use Rattle.sweeps.proofs.Lowering.{unchanged, defends-weaken}
 
 -- both orders of the states are their own inverses

@@ -8,10 +8,10 @@ use native.Mathlib.Nat.{pow-le-pow-right}
 use native.Mathlib.Omega.{arith}
 use Rattle.game.specs.Position.{Arena, Position, IsPosition, number, Reply, Allowed, outcome}
 use Rattle.game.specs.Facts.{CanForce}
-use Rattle.turns.specs.Extremes.{Beyond, Further}
-use Rattle.turns.specs.Extremes.{Worst}
+use Rattle.ways.specs.Extremes.{Beyond, Further}
+use Rattle.ways.specs.Extremes.{Worst}
 use Rattle.game.proofs.Numbers.Decide.{eq?}
-use Rattle.turns.proofs.Largest.{beyond-equal, beyond-trans, further-some}
+use Rattle.ways.proofs.Largest.{beyond-equal, beyond-trans, further-some}
 use Rattle.game.proofs.Bridge.Proper.{Proper}
 use Rattle.game.proofs.Bridge.Plays.{outcome-fits}
 use Rattle.game.proofs.Local.Decidable.{reply?}
@@ -19,9 +19,9 @@ use Rattle.game.proofs.Local.ByNumber.{force-transfers}
 use Rattle.game.proofs.Local.Same.{Same}
 use Rattle.game.proofs.Solving.Sweeping.{same-by-number}
 use Rattle.game.proofs.Whole.Choices.{idle-allowed, idle-reply}
-use Rattle.sweeps.specs.Places.{PlacedAt}
+use Rattle.ways.specs.Places.{PlacedAt}
 use Rattle.sweeps.specs.Values.{MoveOffers, OneOf, Final, Valued}
-use Rattle.sweeps.proofs.Placing.{placed-number}
+use Rattle.ways.proofs.Placing.{placed-number}
 
 -- a move has a worst rank
 module _ (G : Arena) (proper : Proper (G .structure)) (most : Bool) (rank : ℕ → ℕ) (p : Position) (fits : IsPosition G p) (m : ℕ) where

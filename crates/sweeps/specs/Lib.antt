@@ -1,7 +1,4 @@
 -- What the ranks of an until or an always row have to be, and what a sweep over them keeps.
-pub mod Places
-pub mod Wides
-pub mod Ways
 pub mod Values
 pub mod Sweeps
 pub mod Solving

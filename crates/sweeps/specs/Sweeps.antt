@@ -10,7 +10,7 @@ use Rattle.game.specs.Position.{Arena, Position, IsPosition, number, stocksOf, 
 use Rattle.game.specs.Facts.{Ranked}
 use Rattle.turns.specs.Buffers.{rankIn}
 use Rattle.game.specs.Sweep.{Kept, total}
-use Rattle.sweeps.specs.Places.{PlacedAt}
+use Rattle.ways.specs.Places.{PlacedAt}
 use Rattle.sweeps.specs.Values.{Attacks, Defends}
 
 -- finite ranks are sound and crowded, where the sets of safe states and of goals are words

@@ -6,9 +6,9 @@ use mathlib.Core.Path.{_≡_}
 use Prim.Native.Nat.{ℕ, _+_, _≤_, _<_}
 use Rattle.game.specs.Position.{Arena, Position, IsPosition, number, Allowed}
 use Rattle.game.specs.Facts.{CanForce, CanAnswer}
-use Rattle.turns.specs.Extremes.{Beyond}
-use Rattle.turns.specs.Extremes.{Worst}
-use Rattle.sweeps.specs.Places.{PlacedAt}
+use Rattle.ways.specs.Extremes.{Beyond}
+use Rattle.ways.specs.Extremes.{Worst}
+use Rattle.ways.specs.Places.{PlacedAt}
 
 -- v is the most extreme of what was first and what was offered
 pub record Gathered (most : Bool) (Offers : ℕ → Type 0) (first v : ℕ) : Type 0 where

@@ -1,16 +1,19 @@
 // The ranks of an until or an always row: first 0 at a goal and 65535 elsewhere, then sweeps.
 use crate::sweep;
+use crate::sweep::Side;
 use turns::buffers;
 use turns::positions;
 use turns::sizes;
+use ways::rows::Row;
+ghost use mathlib.Core.Bool.{false};
 ghost use mathlib.Core.Path.{_≡_};
 ghost use Prim.Native.Nat.{ℕ, _/_, _≤_, _<_};
 ghost use lib.ListN.{length};
-ghost use Rattle.block.specs.Layout as L;
 ghost use Rattle.block.specs.Valid.{Valid};
 ghost use Rattle.game.specs.Position as P;
 ghost use Rattle.turns.specs.Buffers.{rankIn};
 ghost use Rattle.game.specs.Model.{arenaOf};
+ghost use Rattle.ways.specs.Rows.{Playable};
 ghost use Rattle.sweeps.specs.Solving.{FirstRank, Solved};
 ghost use Rattle.turns.specs.Sizes.{roomBytes, maxPositions};
 
@@ -28,15 +31,15 @@ fn first_rank(goal: usize, c: usize, count: usize, n: usize, s: usize) -> usize
     sizes::NEVER
 }
 
-// Stores the first ranks of row i. Counts the places of each state, since a division for each would be slow.
-pub fn first_ranks(block: &[u8], i: usize, c: usize, goal: usize, ranks: &mut [u8])
+// Stores the first ranks of a row. Counts the places of each state, since a division for each would be slow.
+fn first_ranks(block: &[u8], row: Row, goal: usize, ranks: &mut [u8])
     requires { ⌜ Valid (now block) ⌝ }
-    requires { ⌜ (i < L.rows (now block)) × L.Strategic (L.kind (now block) i) ⌝ }
-    requires { ⌜ (c ≡ P.stockPlaces (arenaOf (now block) i)) × (length (now ranks) ≡ roomBytes) ⌝ }
-    ensures { λ _. ⌜ ((n : ℕ) → n < maxPositions → FirstRank goal c (P.positions (arenaOf (now (block .entry)) i)) n (rankIn (now (ranks .exit)) n)) ⌝ }
+    requires { ⌜ Playable (now block) row × (length (now ranks) ≡ roomBytes) ⌝ }
+    ensures { λ _. ⌜ ((n : ℕ) → n < maxPositions → FirstRank goal (row .places) (P.positions (arenaOf (now (block .entry)) (row .index))) n (rankIn (now (ranks .exit)) n)) ⌝ }
     ensures { λ _. ⌜ length (now (ranks .exit)) ≡ length (now (ranks .entry)) ⌝ }
 {
-    let count = positions::count(block, i);
+    let c = row.places;
+    let count = positions::count(block, row.index);
     let mut n = 0;
     let mut s = 0;
     let mut x = 0;
@@ -51,13 +54,13 @@ pub fn first_ranks(block: &[u8], i: usize, c: usize, goal: usize, ranks: &mut [u
     }
 }
 
-// The ranks of row i for an attack that starts from the safe states; `most` where the coalition attacks. Past the last position they are 0.
-pub fn solve(block: &[u8], i: usize, safe: usize, goal: usize, most: bool, ranks: &mut [u8])
+// The ranks of a row for an attack on the goal. Past the last position they are 0.
+pub fn solve(block: &[u8], row: Row, side: Side, goal: usize, ranks: &mut [u8])
     requires { ⌜ Valid (now block) ⌝ }
-    requires { ⌜ (i < L.rows (now block)) × L.Strategic (L.kind (now block) i) × (length (now ranks) ≡ roomBytes) ⌝ }
-    ensures { λ _. ⌜ Solved (arenaOf (now (block .entry)) i) most safe goal (now (ranks .exit)) × (length (now (ranks .exit)) ≡ length (now (ranks .entry))) ⌝ }
+    requires { ⌜ Playable (now block) row × (length (now ranks) ≡ roomBytes) ⌝ }
+    requires { ⌜ row .into ≡ false ⌝ }
+    ensures { λ _. ⌜ Solved (arenaOf (now (block .entry)) (row .index)) (side .most) (side .safe) goal (now (ranks .exit)) × (length (now (ranks .exit)) ≡ length (now (ranks .entry))) ⌝ }
 {
-    let c = positions::stock_places(block, i);
-    first_ranks(block, i, c, goal, ranks);
-    sweep::settle(block, i, c, safe, most, ranks);
+    first_ranks(block, row, goal, ranks);
+    sweep::settle(block, row, side, ranks);
 }

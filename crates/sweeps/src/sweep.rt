@@ -1,67 +1,47 @@
 // Sweeps over the positions of a row: ranks are lowered in place until nothing does better. Until and always go the same way, the
 // one with the coalition attacking, the other with its opponents. Stock is only spent, so one stock place comes to rest after another.
 use crate::value;
-use crate::ways;
 use block::layout;
 use turns::buffers;
+use ways::lines;
+use ways::listing;
+use ways::rows::Row;
+use ways::rows::Spot;
+ghost use mathlib.Core.Bool.{false};
 ghost use mathlib.Core.Path.{_≡_};
-ghost use Prim.Native.Nat.{ℕ, _+_, _*_, _≤_, _<_};
+ghost use Prim.Native.Nat.{ℕ, _≤_, _<_};
 ghost use lib.ListN.{length};
 ghost use Rattle.block.specs.Layout as L;
 ghost use Rattle.block.specs.Valid.{Valid};
-ghost use Rattle.game.specs.Position.{stockPlaces};
 ghost use Rattle.game.specs.Model.{arenaOf};
-ghost use Rattle.sweeps.specs.Ways.{Listed};
-ghost use Rattle.sweeps.specs.Sweeps.{RestsAt, RestsBelow, visit, Swept, PlaceSettled, Settled};
 ghost use Rattle.turns.specs.Sizes.{roomBytes};
+ghost use Rattle.ways.specs.Listing.{Listed};
+ghost use Rattle.ways.specs.Rows.{Playable};
+ghost use Rattle.sweeps.specs.Sweeps.{RestsAt, RestsBelow, visit, Swept, PlaceSettled, Settled};
 
-// Lowers the rank at place x of the safe state s to one more than its value, where that is less. Tells whether it fell.
-pub fn settle_at(
-    block: &[u8],
-    i: usize,
-    s: usize,
-    x: usize,
-    c: usize,
-    safe: usize,
-    most: bool,
-    counts: &[usize],
-    moves: &[u8],
-    takes: &[u8],
-    others: &[usize],
-    answers: &[u8],
-    wides: &[u16],
-    ranks: &mut [u8],
-) -> bool
+// Who attacks, the coalition where `most`, and the safe states from which an attack goes on.
+pub struct Side {
+    pub most: bool,
+    pub safe: usize,
+}
+
+// Lowers the rank of a position to one more than its value, where its state is safe and that is less. Tells whether it fell.
+fn settle_at(block: &[u8], row: Row, side: Side, ways: &[u8], spot: Spot, ranks: &mut [u8]) -> bool
     requires { ⌜ Valid (now block) ⌝ }
-    requires { ⌜ (i < L.rows (now block)) × L.Strategic (L.kind (now block) i) × (s < L.states (now block)) ⌝ }
-    requires { ⌜ Listed (now block) i (now counts) (now moves) (now takes) (now others) (now answers) (now wides) ⌝ }
-    requires { ⌜ (c ≡ stockPlaces (arenaOf (now block) i)) × (x < c) × (roomBytes ≤ length (now ranks)) ⌝ }
-    ensures { λ r. ⌜ Swept (arenaOf (now (block .entry)) i) most safe x (RestsAt (arenaOf (now (block .entry)) i) most safe x s) r (now (ranks .entry)) (now (ranks .exit)) ⌝ }
+    requires { ⌜ Playable (now block) row × Listed (now block) row (now ways) × (roomBytes ≤ length (now ranks)) ⌝ }
+    requires { ⌜ (row .into ≡ false) × (spot .state < L.states (now block)) × (spot .place < row .places) ⌝ }
+    ensures { λ r. ⌜ Swept (arenaOf (now (block .entry)) (row .index)) (side .most) (side .safe) (spot .place) (RestsAt (arenaOf (now (block .entry)) (row .index)) (side .most) (side .safe) (spot .place) (spot .state)) r (now (ranks .entry)) (now (ranks .exit)) ⌝ }
 {
-    if !buffers::has_bit(safe, s) {
+    if !buffers::has_bit(side.safe, spot.state) {
         return false;
     }
-    let rank = buffers::rank_at(ranks, s * c + x);
+    let p = spot.state * row.places + spot.place;
+    let rank = buffers::rank_at(ranks, p);
     if rank <= 1 {
         return false;
     }
-    let v = value::value_at(
-        block,
-        i,
-        s,
-        x,
-        c,
-        counts,
-        moves,
-        takes,
-        others,
-        answers,
-        wides,
-        ranks,
-        most,
-        rank,
-    );
-    buffers::lower(ranks, s * c + x, v + 1)
+    let v = value::value_at(block, row, ways, ranks, spot, side.most, rank);
+    buffers::lower(ranks, p, v + 1)
 }
 
 // The k-th of n states in a sweep, from the last state on where back.
@@ -76,179 +56,70 @@ fn visited(back: bool, n: usize, k: usize) -> usize
 }
 
 // One sweep over all states at place x. Tells whether any rank fell.
-pub fn sweep(
+fn sweep(
     block: &[u8],
-    i: usize,
+    row: Row,
+    side: Side,
+    ways: &[u8],
     x: usize,
-    c: usize,
-    safe: usize,
-    most: bool,
     back: bool,
-    counts: &[usize],
-    moves: &[u8],
-    takes: &[u8],
-    others: &[usize],
-    answers: &[u8],
-    wides: &[u16],
     ranks: &mut [u8],
 ) -> bool
     requires { ⌜ Valid (now block) ⌝ }
-    requires { ⌜ (i < L.rows (now block)) × L.Strategic (L.kind (now block) i) ⌝ }
-    requires { ⌜ Listed (now block) i (now counts) (now moves) (now takes) (now others) (now answers) (now wides) ⌝ }
-    requires { ⌜ (c ≡ stockPlaces (arenaOf (now block) i)) × (x < c) × (roomBytes ≤ length (now ranks)) ⌝ }
-    ensures { λ r. ⌜ Swept (arenaOf (now (block .entry)) i) most safe x (RestsBelow (arenaOf (now (block .entry)) i) most safe x (L.states (now (block .entry)))) r (now (ranks .entry)) (now (ranks .exit)) ⌝ }
+    requires { ⌜ Playable (now block) row × Listed (now block) row (now ways) × (roomBytes ≤ length (now ranks)) ⌝ }
+    requires { ⌜ (row .into ≡ false) × (x < row .places) ⌝ }
+    ensures { λ r. ⌜ Swept (arenaOf (now (block .entry)) (row .index)) (side .most) (side .safe) x (RestsBelow (arenaOf (now (block .entry)) (row .index)) (side .most) (side .safe) x (L.states (now (block .entry)))) r (now (ranks .entry)) (now (ranks .exit)) ⌝ }
 {
     let n = layout::states(block);
     let mut did = false;
-    let mut k = 0;
-    while k < n {
-        let s = visited(back, n, k);
-        if settle_at(
-            block,
-            i,
-            s,
-            x,
-            c,
-            safe,
-            most,
-            counts,
-            moves,
-            takes,
-            others,
-            answers,
-            wides,
-            ranks,
-        ) {
+    for k in 0..n {
+        let spot = Spot {
+            state: visited(back, n, k),
+            place: x,
+        };
+        if settle_at(block, row, side, ways, spot, ranks) {
             did = true;
         }
-        k += 1;
     }
     did
 }
 
 // Sweeps at place x until nothing does better, to and fro, since ranks travel along one of the two.
-pub fn settle_place(
-    block: &[u8],
-    i: usize,
-    x: usize,
-    c: usize,
-    safe: usize,
-    most: bool,
-    counts: &[usize],
-    moves: &[u8],
-    takes: &[u8],
-    others: &[usize],
-    answers: &[u8],
-    wides: &[u16],
-    ranks: &mut [u8],
-)
+fn settle_place(block: &[u8], row: Row, side: Side, ways: &[u8], x: usize, ranks: &mut [u8])
     requires { ⌜ Valid (now block) ⌝ }
-    requires { ⌜ (i < L.rows (now block)) × L.Strategic (L.kind (now block) i) ⌝ }
-    requires { ⌜ Listed (now block) i (now counts) (now moves) (now takes) (now others) (now answers) (now wides) ⌝ }
-    requires { ⌜ (c ≡ stockPlaces (arenaOf (now block) i)) × (x < c) × (roomBytes ≤ length (now ranks)) ⌝ }
-    ensures { λ _. ⌜ PlaceSettled (arenaOf (now (block .entry)) i) most safe x (now (ranks .entry)) (now (ranks .exit)) ⌝ }
+    requires { ⌜ Playable (now block) row × Listed (now block) row (now ways) × (roomBytes ≤ length (now ranks)) ⌝ }
+    requires { ⌜ (row .into ≡ false) × (x < row .places) ⌝ }
+    ensures { λ _. ⌜ PlaceSettled (arenaOf (now (block .entry)) (row .index)) (side .most) (side .safe) x (now (ranks .entry)) (now (ranks .exit)) ⌝ }
 {
     let mut back = false;
     let mut more = true;
     while more {
-        more = sweep(
-            block,
-            i,
-            x,
-            c,
-            safe,
-            most,
-            back,
-            counts,
-            moves,
-            takes,
-            others,
-            answers,
-            wides,
-            ranks,
-        );
+        more = sweep(block, row, side, ways, x, back, ranks);
         back = !back;
     }
 }
 
 // Settles one stock place after another, from those with the least stock on.
-fn settle_places(
-    block: &[u8],
-    i: usize,
-    c: usize,
-    safe: usize,
-    most: bool,
-    counts: &[usize],
-    moves: &[u8],
-    takes: &[u8],
-    others: &[usize],
-    answers: &[u8],
-    wides: &[u16],
-    ranks: &mut [u8],
-)
+fn settle_places(block: &[u8], row: Row, side: Side, ways: &[u8], ranks: &mut [u8])
     requires { ⌜ Valid (now block) ⌝ }
-    requires { ⌜ (i < L.rows (now block)) × L.Strategic (L.kind (now block) i) ⌝ }
-    requires { ⌜ Listed (now block) i (now counts) (now moves) (now takes) (now others) (now answers) (now wides) ⌝ }
-    requires { ⌜ (c ≡ stockPlaces (arenaOf (now block) i)) × (roomBytes ≤ length (now ranks)) ⌝ }
-    ensures { λ _. ⌜ Settled (arenaOf (now (block .entry)) i) most safe (now (ranks .entry)) (now (ranks .exit)) ⌝ }
+    requires { ⌜ Playable (now block) row × Listed (now block) row (now ways) × (roomBytes ≤ length (now ranks)) ⌝ }
+    requires { ⌜ row .into ≡ false ⌝ }
+    ensures { λ _. ⌜ Settled (arenaOf (now (block .entry)) (row .index)) (side .most) (side .safe) (now (ranks .entry)) (now (ranks .exit)) ⌝ }
 {
-    let mut x = 0;
-    while x < c {
-        settle_place(
-            block,
-            i,
-            x,
-            c,
-            safe,
-            most,
-            counts,
-            moves,
-            takes,
-            others,
-            answers,
-            wides,
-            ranks,
-        );
-        x += 1;
+    let c = row.places;
+    for x in 0..c {
+        settle_place(block, row, side, ways, x, ranks);
     }
 }
 
 // The same with the moves and replies of the row listed first.
-pub fn settle(block: &[u8], i: usize, c: usize, safe: usize, most: bool, ranks: &mut [u8])
+pub fn settle(block: &[u8], row: Row, side: Side, ranks: &mut [u8])
     requires { ⌜ Valid (now block) ⌝ }
-    requires { ⌜ (i < L.rows (now block)) × L.Strategic (L.kind (now block) i) ⌝ }
-    requires { ⌜ (c ≡ stockPlaces (arenaOf (now block) i)) × (roomBytes ≤ length (now ranks)) ⌝ }
-    ensures { λ _. ⌜ Settled (arenaOf (now (block .entry)) i) most safe (now (ranks .entry)) (now (ranks .exit)) ⌝ }
+    requires { ⌜ Playable (now block) row × (roomBytes ≤ length (now ranks)) ⌝ }
+    requires { ⌜ row .into ≡ false ⌝ }
+    ensures { λ _. ⌜ Settled (arenaOf (now (block .entry)) (row .index)) (side .most) (side .safe) (now (ranks .entry)) (now (ranks .exit)) ⌝ }
 {
-    let mut counts = [0; 24];
-    let mut others = [0; 24];
-    let mut moves = [0; 1536];
-    let mut takes = [0; 1536];
-    let mut answers = [0; 1536];
-    let mut wides = [0; 256];
-    ways::list_row(
-        block,
-        i,
-        c,
-        &mut counts,
-        &mut moves,
-        &mut takes,
-        &mut others,
-        &mut answers,
-        &mut wides,
-    );
-    settle_places(
-        block,
-        i,
-        c,
-        safe,
-        most,
-        &counts,
-        &moves,
-        &takes,
-        &others,
-        &answers,
-        &wides,
-        ranks,
-    );
+    let mut ways = [0u8; lines::WAYS_BYTES];
+    listing::list_row(block, row, &mut ways);
+    settle_places(block, row, side, &ways, ranks);
 }

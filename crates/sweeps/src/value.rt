@@ -1,56 +1,57 @@
 // The value of a position in one step: the best over the coalition's moves of the worst over the replies.
-use crate::wides;
-use block::layout;
-use block::widths::wide;
 use turns::buffers;
-use turns::replies;
-ghost use mathlib.Core.Bool.{true, false};
+use ways::landing;
+use ways::landing::Landing;
+use ways::lines;
+use ways::rows::Row;
+use ways::rows::Spot;
+use ways::worst;
+use ways::worst::Limit;
+use ways::worst::Step;
+ghost use mathlib.Core.Bool.{true, false, not};
 ghost use mathlib.Core.Path.{_≡_};
 ghost use Prim.Native.Nat.{ℕ, _+_, _*_, _≤_, _<_};
-ghost use lib.ListN.{length, getD};
+ghost use lib.ListN.{length};
 ghost use Rattle.block.specs.Decide.{Decides};
 ghost use Rattle.block.specs.Layout as L;
 ghost use Rattle.block.specs.Valid.{Valid};
-ghost use Rattle.game.specs.Position.{Position, stockPlaces};
-ghost use Rattle.turns.specs.Extremes.{BestOf};
-ghost use Rattle.turns.specs.Buffers.{rankIn};
+ghost use Rattle.game.specs.Position.{Position};
 ghost use Rattle.game.specs.Model.{arenaOf};
-ghost use Rattle.sweeps.specs.Ways.{entry, Listed};
-ghost use Rattle.sweeps.specs.Places.{PlacedAt};
-ghost use Rattle.sweeps.specs.Values.{Final, Valued};
+ghost use Rattle.turns.specs.Buffers.{rankIn};
 ghost use Rattle.turns.specs.Sizes.{roomBytes};
+ghost use Rattle.ways.specs.Lines.{countIn, numberIn};
+ghost use Rattle.ways.specs.Listing.{Listed};
+ghost use Rattle.ways.specs.Places.{PlacedAt};
+ghost use Rattle.ways.specs.Rows.{Playable};
+ghost use Rattle.sweeps.specs.Values.{Final, Gathered, MoveOffers, Valued};
 
-// The worst rank over the first n replies in state s to the move m, which leaves `at` of the stocks, or the limit.
-pub fn worst_at(
+// The worst rank over the replies to the k-th listed move, or the limit; the limit too where the position cannot pay the move.
+fn offered(
     block: &[u8],
-    s: usize,
-    m: usize,
-    answers: &[u8],
-    n: usize,
-    c: usize,
-    at: usize,
+    row: Row,
+    ways: &[u8],
     ranks: &[u8],
-    most: bool,
-    limit: usize,
+    spot: Spot,
+    k: usize,
+    limit: Limit,
 ) -> usize
-    requires { ⌜ Valid (now block) × (s < L.states (now block)) ⌝ }
-    requires { ⌜ (0 < n) × (n ≤ L.maxJoint) × (1536 ≤ length (now answers)) ⌝ }
-    requires { ⌜ ((k : ℕ) → k < n → (m + entry (now answers) s k < L.maxJoint) × (2 * (L.next (now block) s (m + entry (now answers) s k) * c + at) + 1 < length (now ranks))) ⌝ }
-    ensures { λ r. ⌜ BestOf most n (λ (k : ℕ). rankIn (now (ranks .entry)) (L.next (now (block .entry)) s (m + entry (now (answers .entry)) s k) * c + at)) limit r ⌝ }
-    ensures { λ r. ⌜ (limit < 65536 → r < 65536) ⌝ }
+    requires { ⌜ Valid (now block) ⌝ }
+    requires { ⌜ Playable (now block) row × Listed (now block) row (now ways) × (roomBytes ≤ length (now ranks)) ⌝ }
+    requires { ⌜ (spot .state < L.states (now block)) × (spot .place < row .places) × (k < countIn (now ways) (spot .state) true) ⌝ }
+    ensures { λ r. ⌜ Gathered (not (limit .most)) (MoveOffers (arenaOf (now (block .entry)) (row .index)) (limit .most) (rankIn (now (ranks .entry))) (spot .state) (spot .place) (numberIn (now (ways .entry)) (spot .state) true k)) (limit .rank) r ⌝ }
+    ensures { λ r. ⌜ (limit .rank < 65536 → r < 65536) ⌝ }
 {
-    let first = layout::next(block, s, m + wide(answers[layout::JOINT_ACTIONS * s]));
-    let mut best = buffers::rank_at(ranks, first * c + at);
-    let mut k = 1;
-    while k < n {
-        if replies::beyond(most, limit, best) {
-            return limit;
+    match landing::lands(block, row, ways, spot, k) {
+        Landing::At(y) => {
+            let step = Step {
+                state: spot.state,
+                number: lines::number(ways, spot.state, true, k),
+                place: y,
+            };
+            worst::worst_at(block, row, ways, ranks, step, limit)
         }
-        let next = layout::next(block, s, m + wide(answers[layout::JOINT_ACTIONS * s + k]));
-        best = replies::further(most, buffers::rank_at(ranks, next * c + at), best);
-        k += 1;
+        Landing::Unpaid => limit.rank,
     }
-    replies::further(!most, best, limit)
 }
 
 // What a value is at first: no move is to do worse than the rank that stands, or the defence has nothing yet.
@@ -75,44 +76,40 @@ fn is_final(most: bool, rank: usize, v: usize) -> bool
     rank <= v + 1
 }
 
-// The value of the position at place x of state s, whose rank is given, as far as it matters to that rank.
+// The value of a position, whose rank is given, as far as it matters to that rank.
 pub fn value_at(
     block: &[u8],
-    i: usize,
-    s: usize,
-    x: usize,
-    c: usize,
-    counts: &[usize],
-    moves: &[u8],
-    takes: &[u8],
-    others: &[usize],
-    answers: &[u8],
-    wides: &[u16],
+    row: Row,
+    ways: &[u8],
     ranks: &[u8],
+    spot: Spot,
     most: bool,
     rank: usize,
 ) -> usize
     requires { ⌜ Valid (now block) ⌝ }
-    requires { ⌜ (i < L.rows (now block)) × L.Strategic (L.kind (now block) i) × (s < L.states (now block)) ⌝ }
-    requires { ⌜ Listed (now block) i (now counts) (now moves) (now takes) (now others) (now answers) (now wides) ⌝ }
-    requires { ⌜ (c ≡ stockPlaces (arenaOf (now block) i)) × (x < c) × (roomBytes ≤ length (now ranks)) ⌝ }
-    requires { ⌜ (rank ≡ rankIn (now ranks) (s * c + x)) × (0 < rank) × (rank < 65536) ⌝ }
-    ensures { λ v. ⌜ ((p : Position) → PlacedAt (arenaOf (now (block .entry)) i) s x p → Valued (arenaOf (now (block .entry)) i) most (rankIn (now (ranks .entry))) p v) × (v < 65536) ⌝ }
+    requires { ⌜ Playable (now block) row × Listed (now block) row (now ways) × (roomBytes ≤ length (now ranks)) ⌝ }
+    requires { ⌜ (row .into ≡ false) × (spot .state < L.states (now block)) × (spot .place < row .places) ⌝ }
+    requires { ⌜ (rank ≡ rankIn (now ranks) (spot .state * row .places + spot .place)) × (0 < rank) × (rank < 65536) ⌝ }
+    ensures { λ v. ⌜ ((p : Position) → PlacedAt (arenaOf (now (block .entry)) (row .index)) (spot .state) (spot .place) p → Valued (arenaOf (now (block .entry)) (row .index)) most (rankIn (now (ranks .entry))) p v) × (v < 65536) ⌝ }
 {
-    let n = counts[s];
-    let replies = others[s];
+    let n = lines::count(ways, spot.state, true);
     let mut v = first_value(most, rank);
-    let mut k = 0;
-    while k < n {
-        let o = wide(takes[layout::JOINT_ACTIONS * s + k]);
-        if wides::covers(wides, x, o) {
-            let m = wide(moves[layout::JOINT_ACTIONS * s + k]);
-            v = worst_at(block, s, m, answers, replies, c, x - o, ranks, most, v);
-        }
+    for k in 0..n {
+        v = offered(
+            block,
+            row,
+            ways,
+            ranks,
+            spot,
+            k,
+            Limit {
+                most: most,
+                rank: v,
+            },
+        );
         if is_final(most, rank, v) {
             return v;
         }
-        k += 1;
     }
     v
 }

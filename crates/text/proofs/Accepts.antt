@@ -12,9 +12,9 @@ use Rattle.text.specs.Format.{Spells, accepted}
 use Rattle.text.specs.Job.{job}
 use Rattle.text.specs.Text.{textOf, blank, readText, Exact, RoundTrip}
 use Rattle.text.proofs.Formats.{spells-good, written, sound, complete}
-use Rattle.text.proofs.Turns.{job-proper}
-use Rattle.text.proofs.Everywhere.{job-every}
-use Rattle.text.proofs.Passes.{valid-passes}
+use Rattle.text.proofs.DistinctPlaces.{job-proper}
+use Rattle.text.proofs.FieldsByName.{job-every}
+use Rattle.text.proofs.ValidPasses.{valid-passes}
 use Rattle.text.proofs.Fitting.{fits-valid, valid-fits, used-avoided, unused-avoided}
 
 pub blank-length : length blank ≡ blockBytes

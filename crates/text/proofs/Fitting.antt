@@ -18,8 +18,8 @@ use Rattle.block.specs.declared.layout.Place.the-variants.{Header, Mask, Count,
 use Rattle.text.specs.Job.{costLimit, binary}
 use Rattle.text.proofs.Decimals.{lt-or-ge}
 use Rattle.text.proofs.Spellings.{Fits, either-case, number-range, number-fits, bound-range, bound-fits, kind-range, kind-fits}
-use Rattle.text.proofs.Everywhere.{Everywhere}
-use Rattle.text.proofs.Told.{possible-acts}
+use Rattle.text.proofs.FieldsByName.{Everywhere}
+use Rattle.text.proofs.Possible.{possible-acts}
 
 binary-true : (k : ℕ) → Binary k → T (binary k)
 binary-true k (inl e) = rw e tt

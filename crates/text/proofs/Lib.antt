@@ -5,12 +5,12 @@ pub mod Adding
 pub mod Spellings
 pub mod Formats
 pub mod Stops
-pub mod Turns
-pub mod Everywhere
-pub mod Passes
-pub mod Told
+pub mod DistinctPlaces
+pub mod FieldsByName
+pub mod ValidPasses
+pub mod Possible
 pub mod Fitting
 pub mod Accepts
 pub mod Numbered
 pub mod Loops
-pub mod Repeats
+pub mod JobLoops

@@ -27,9 +27,9 @@ use Rattle.text.specs.Text.{blank, readText, NumberedAt, Numbered}
 use Rattle.text.proofs.Decimals.{lt-or-ge}
 use Rattle.text.proofs.Spellings.{bound-small}
 use Rattle.text.proofs.Stops.{Spelled, Barred, along-every, From, as-it-was, was-read, halted, misread}
-use Rattle.text.proofs.Turns.{job-proper}
-use Rattle.text.proofs.Everywhere.{sizesOf, Everywhere, job-every}
-use Rattle.text.proofs.Told.{possible-acts}
+use Rattle.text.proofs.DistinctPlaces.{job-proper}
+use Rattle.text.proofs.FieldsByName.{sizesOf, Everywhere, job-every}
+use Rattle.text.proofs.Possible.{possible-acts}
 use Rattle.text.proofs.Fitting.{binary-case, on-zero, on-other}
 use Rattle.text.proofs.Accepts.{blank-length, blank-zero}
 

@@ -3,7 +3,7 @@ use mathlib.Core.List.{List}
 use mathlib.Core.Path.{_≡_}
 use Prim.Native.Nat.{ℕ, _+_, _≤_, _<_}
 use Rattle.block.specs.Decide.{Outside, BitFrom}
-use Rattle.block.specs.Layout.{Block, maxAgents, maxResources, maxStates, maxPropositions, maxRows, maxActions, agents, resources, states, propositions, rows, mask, count, kind, left, right, team, bound, unlimited, propKind, Strategic, Binary}
+use Rattle.block.specs.Layout.{Block, maxAgents, maxResources, maxStates, maxPropositions, maxRows, maxActions, agentsByte, resourcesByte, statesByte, propositionsByte, rowsByte, leftByte, rightByte, teamByte, boundByte, agents, resources, states, propositions, rows, mask, count, kind, left, right, team, bound, unlimited, propKind, Strategic, Binary}
 use Rattle.block.specs.Check.{BadCost, BadNext, BadBound}
 use Rattle.block.specs.declared.layout.Place.{Place}
 use Rattle.block.specs.declared.layout.Place.the-variants.{Header, Mask, Count, Cost, Next, Field}
@@ -14,11 +14,11 @@ use Rattle.text.specs.Numeral.{comma, field, Starts}
 -- the byte at this place, one that the job uses, meets the condition of this refusal
 pub data BrokenAt (b : Block) : Place → Refusal → Type 0 where
   -- 2: a size out of range
-  agents-at : Outside 1 maxAgents (agents b) → BrokenAt b (Header 0) refusal.Sizes
-  resources-at : Outside 1 maxResources (resources b) → BrokenAt b (Header 1) refusal.Sizes
-  states-at : Outside 1 maxStates (states b) → BrokenAt b (Header 2) refusal.Sizes
-  propositions-at : Outside 1 maxPropositions (propositions b) → BrokenAt b (Header 3) refusal.Sizes
-  rows-at : Outside 1 maxRows (rows b) → BrokenAt b (Header 4) refusal.Sizes
+  agents-at : Outside 1 maxAgents (agents b) → BrokenAt b (Header agentsByte) refusal.Sizes
+  resources-at : Outside 1 maxResources (resources b) → BrokenAt b (Header resourcesByte) refusal.Sizes
+  states-at : Outside 1 maxStates (states b) → BrokenAt b (Header statesByte) refusal.Sizes
+  propositions-at : Outside 1 maxPropositions (propositions b) → BrokenAt b (Header propositionsByte) refusal.Sizes
+  rows-at : Outside 1 maxRows (rows b) → BrokenAt b (Header rowsByte) refusal.Sizes
   -- 3: a mask with a bit at or above P, a count that is not 1 to 4, a cost above 15 or of idle
   mask-at : {s : ℕ} → s < states b → BitFrom (propositions b) (mask b s) → BrokenAt b (Mask s) refusal.State
   count-at : {s a : ℕ} → s < states b → a < agents b → Outside 1 maxActions (count b s a) → BrokenAt b (Count s a) refusal.State
@@ -26,15 +26,15 @@ pub data BrokenAt (b : Block) : Place → Refusal → Type 0 where
   -- 4: a next state at or above M, of a joint action that can be done
   next-at : {s joint : ℕ} → s < states b → BadNext b s joint → BrokenAt b (Next s joint) refusal.Next
   -- 5: a proposition at or above P, a row that is not lower, a team that is empty or has an absent agent, a bound 16 to 254
-  prop-at : {i : ℕ} → i < rows b → kind b i ≡ propKind → propositions b ≤ left b i → BrokenAt b (Field i 1) refusal.Row
-  left-at : {i : ℕ} → i < rows b → propKind < kind b i → i ≤ left b i → BrokenAt b (Field i 1) refusal.Row
-  right-at : {i : ℕ} → i < rows b → Binary (kind b i) → i ≤ right b i → BrokenAt b (Field i 2) refusal.Row
-  team-empty-at : {i : ℕ} → i < rows b → Strategic (kind b i) → team b i ≡ 0 → BrokenAt b (Field i 3) refusal.Row
-  team-absent-at : {i : ℕ} → i < rows b → Strategic (kind b i) → BitFrom (agents b) (team b i) → BrokenAt b (Field i 3) refusal.Row
-  bound-at : {i j : ℕ} → i < rows b → Strategic (kind b i) → j < resources b → BadBound b i j → BrokenAt b (Field i (4 + j)) refusal.Row
+  prop-at : {i : ℕ} → i < rows b → kind b i ≡ propKind → propositions b ≤ left b i → BrokenAt b (Field i leftByte) refusal.Row
+  left-at : {i : ℕ} → i < rows b → propKind < kind b i → i ≤ left b i → BrokenAt b (Field i leftByte) refusal.Row
+  right-at : {i : ℕ} → i < rows b → Binary (kind b i) → i ≤ right b i → BrokenAt b (Field i rightByte) refusal.Row
+  team-empty-at : {i : ℕ} → i < rows b → Strategic (kind b i) → team b i ≡ 0 → BrokenAt b (Field i teamByte) refusal.Row
+  team-absent-at : {i : ℕ} → i < rows b → Strategic (kind b i) → BitFrom (agents b) (team b i) → BrokenAt b (Field i teamByte) refusal.Row
+  bound-at : {i j : ℕ} → i < rows b → Strategic (kind b i) → j < resources b → BadBound b i j → BrokenAt b (Field i (boundByte + j)) refusal.Row
 
 -- the one value that is refused in a text and whose byte is none of these: a bound that the text t begins with as the number 255,
 -- the byte of an unlimited bound, which only inf or an empty field may spell
 pub data UnlimitedNumber (b : Block) (t : List ℕ) : Place → Refusal → Type 0 where
   written : {i j : ℕ} → i < rows b → Strategic (kind b i) → j < resources b → bound b i j ≡ unlimited → Starts (field unlimited comma) t →
-      UnlimitedNumber b t (Field i (4 + j)) refusal.Row
+      UnlimitedNumber b t (Field i (boundByte + j)) refusal.Row

@@ -4,12 +4,12 @@ use mathlib.Core.List.{List, [], _∷_, _++_}
 use Prim.Native.Nat.{ℕ, zero, suc, _+_, _^_}
 use lib.Dec.{ltb, leb, eqb}
 use lib.ListN.{getD, set}
-use Rattle.block.specs.Layout.{maxAgents, maxResources, maxStates, maxPropositions, maxRows, maxActions, maxJoint, unlimited, propKind, orKind, nextKind, untilKind, digit}
+use Rattle.block.specs.Layout.{maxAgents, maxResources, maxStates, maxPropositions, maxRows, maxActions, maxUnits, maxJoint, agentsByte, resourcesByte, statesByte, propositionsByte, rowsByte, kindByte, leftByte, rightByte, teamByte, boundByte, unlimited, propKind, orKind, nextKind, untilKind, kinds, digit}
 use Rattle.block.specs.declared.layout.Place.the-variants.{Header, Mask, Count, Cost, Next, Field}
 use Rattle.block.specs.declared.refusal.Refusal.{Refusal}
 use Rattle.block.specs.declared.refusal.Refusal.the-variants as refusal
 use Rattle.text.specs.declared.sizes.Sizes.{Sizes}
-use Rattle.text.specs.Numeral.{ascii, comma, lineEnd, decimal}
+use Rattle.text.specs.Numeral.{ascii, comma, lineEnd, numbers, decimal}
 use Rattle.text.specs.Format.{Spelling, Format, end, exactly, value}
 
 abbrev pub both : Bool → Bool → Bool
@@ -21,7 +21,7 @@ either a b = cond a true b
 -- a number, 0 to 255 by its form, that must be from low to below limit
 abbrev pub number : ℕ → ℕ → ℕ → Refusal → Spelling
 number sep low limit r = record {
-  options = 256;
+  options = numbers;
   spell = λ n. decimal n ++ sep ∷ [];
   byte = λ n. n;
   allowed = λ n. both (leb low n) (ltb n limit);
@@ -29,19 +29,28 @@ number sep low limit r = record {
   chosen = λ v. v;
 }
 
--- spelling o of a bound: a number, or, for an unlimited one, inf or nothing
+-- the spellings of a bound: the numbers, and then inf and nothing, for an unlimited one
+abbrev pub infBound : ℕ
+infBound = numbers
+
+abbrev pub emptyBound : ℕ
+emptyBound = suc infBound
+
+abbrev pub boundSpellings : ℕ
+boundSpellings = suc emptyBound
+
 unfoldable pub boundField : ℕ → List ℕ
-boundField o = cond (ltb o 256) (decimal o) (cond (eqb o 256) (ascii "inf") [])
+boundField o = cond (ltb o numbers) (decimal o) (cond (eqb o infBound) (ascii "inf") [])
 
 -- a bound: a number from 0 to 15, or unlimited
 abbrev pub bound : Spelling
 bound = record {
-  options = 258;
+  options = boundSpellings;
   spell = λ o. boundField o ++ comma ∷ [];
-  byte = λ o. cond (ltb o 256) o unlimited;
-  allowed = λ o. either (ltb o 16) (leb 256 o);
+  byte = λ o. cond (ltb o numbers) o unlimited;
+  allowed = λ o. either (ltb o (suc maxUnits)) (leb infBound o);
   refusal = refusal.Row;
-  chosen = λ v. cond (eqb v unlimited) 256 v;
+  chosen = λ v. cond (eqb v unlimited) infBound v;
 }
 
 -- the words of the rows, in the order of their kinds
@@ -50,7 +59,7 @@ kindWord k = getD (ascii "prop," ∷ ascii "not," ∷ ascii "or," ∷ ascii "nex
 
 abbrev pub kindSpelling : Spelling
 kindSpelling = record {
-  options = 6;
+  options = kinds;
   spell = kindWord;
   byte = λ k. k;
   allowed = λ k. true;
@@ -72,7 +81,7 @@ stateLine z s f = exactly (ascii "state,") (index s (value (maskSpelling z) (Mas
 
 -- a cost is 0 to 15, and idle's is 0; the last of its line is followed by the line's end
 abbrev pub costLimit : ℕ → ℕ
-costLimit k = cond (eqb k 0) 1 16
+costLimit k = cond (eqb k 0) 1 (suc maxUnits)
 
 abbrev pub costEnd : ℕ → ℕ
 costEnd left = cond (eqb left 0) lineEnd comma
@@ -149,7 +158,7 @@ binary k = either (eqb k orKind) (eqb k untilKind)
 -- n bounds from resource j on
 unfoldable pub boundFields : ℕ → ℕ → ℕ → Format → Format
 boundFields i zero j f = f
-boundFields i (suc n) j f = value bound (Field i (4 + j)) (λ v. boundFields i n (suc j) f)
+boundFields i (suc n) j f = value bound (Field i (boundByte + j)) (λ v. boundFields i n (suc j) f)
 
 -- a team is a mask of agents, never 0
 abbrev pub teamSpelling : Sizes → Spelling
@@ -158,7 +167,7 @@ teamSpelling z = number comma 1 (2 ^ z .agents) refusal.Row
 -- the team and the bounds of a strategic row
 unfoldable pub teamFields : Sizes → ℕ → ℕ → Format → Format
 teamFields z i k f =
-    cond (strategic k) (value (teamSpelling z) (Field i 3) (λ t. boundFields i (z .resources) 0 f)) f
+    cond (strategic k) (value (teamSpelling z) (Field i teamByte) (λ t. boundFields i (z .resources) 0 f)) f
 
 -- left and right of row i, of kind k: a proposition, or lower rows
 abbrev pub leftSpelling : Sizes → ℕ → ℕ → Spelling
@@ -170,11 +179,11 @@ rightSpelling i = number lineEnd 0 i refusal.Row
 -- the proposition or lower row, and the right row where the kind has one
 unfoldable pub operandFields : Sizes → ℕ → ℕ → Format → Format
 operandFields z i k f =
-    value (leftSpelling z i k) (Field i 1) (λ l. cond (binary k) (value (rightSpelling i) (Field i 2) (λ r. f)) f)
+    value (leftSpelling z i k) (Field i leftByte) (λ l. cond (binary k) (value (rightSpelling i) (Field i rightByte) (λ r. f)) f)
 
 -- a row: its word, team and bounds, operands; and n rows from row i on
 unfoldable pub rowLine : Sizes → ℕ → Format → Format
-rowLine z i f = value kindSpelling (Field i 0) (λ k. teamFields z i k (operandFields z i k f))
+rowLine z i f = value kindSpelling (Field i kindByte) (λ k. teamFields z i k (operandFields z i k f))
 
 unfoldable pub rowLines : Sizes → ℕ → ℕ → Format → Format
 rowLines z zero i f = f
@@ -191,11 +200,11 @@ size sep f high k = value (sizeSpelling sep high) (Header f) k
 unfoldable pub headerLine : (Sizes → Format) → Format
 headerLine f =
     exactly (ascii "job,")
-    (size comma 0 maxAgents λ n.
-    size comma 1 maxResources λ r.
-    size comma 2 maxStates λ m.
-    size comma 3 maxPropositions λ p.
-    size lineEnd 4 maxRows λ w. f (record { agents = n; resources = r; states = m; propositions = p; rows = w }))
+    (size comma agentsByte maxAgents λ n.
+    size comma resourcesByte maxResources λ r.
+    size comma statesByte maxStates λ m.
+    size comma propositionsByte maxPropositions λ p.
+    size lineEnd rowsByte maxRows λ w. f (record { agents = n; resources = r; states = m; propositions = p; rows = w }))
 
 unfoldable pub job : Format
 job = headerLine (λ z. states z (z .states) 0 (rowLines z (z .rows) 0 end))

@@ -2,7 +2,7 @@
 use mathlib.Core.Bool.{cond}
 use mathlib.Core.List.{List, [], _∷_, _++_}
 use mathlib.Core.Path.{_≡_}
-use Prim.Native.Nat.{ℕ, zero, suc, _+_, _/_, _%_}
+use Prim.Native.Nat.{ℕ, zero, suc, _+_, _/_, _%_, _<_}
 use Prim.Native.Char.{code}
 use Prim.Native.String.{String}
 use lib.Dec.{ltb, eqb}
@@ -22,6 +22,10 @@ lineEnd = 10
 abbrev pub numeral : ℕ → ℕ
 numeral d = 48 + d
 
+-- a number of a text is below this: it is that of a byte
+abbrev pub numbers : ℕ
+numbers = 256
+
 -- a number in base ten, without leading zeros; k bounds how many digits follow the first
 unfoldable pub decimalTo : ℕ → ℕ → List ℕ
 decimalTo zero n = numeral n ∷ []
@@ -33,6 +37,10 @@ decimal n = decimalTo n n
 -- a number and the byte after it
 abbrev pub field : ℕ → ℕ → List ℕ
 field n sep = decimal n ++ sep ∷ []
+
+-- a byte that can end a number: it is below the digits
+abbrev pub Ends : ℕ → Type 0
+Ends sep = (0 < sep) × (sep < numeral 0)
 
 -- the text t begins with the word w
 abbrev pub Starts : List ℕ → List ℕ → Type 0

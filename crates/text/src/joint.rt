@@ -1,14 +1,15 @@
 // Joint actions: the action of each agent, and whether the agents have them.
+use block::layout;
 ghost use mathlib.Core.Path.{_≡_};
 ghost use Prim.Native.Nat.{_<_};
 ghost use Rattle.block.specs.Layout as L;
-ghost use Rattle.block.specs.Layout.{maxAgents};
+ghost use Rattle.block.specs.Layout.{maxAgents, maxActions};
 ghost use Rattle.text.specs.Job as J;
 
 // Agent a's action in a joint action.
 pub fn digit(joint: usize, a: usize) -> usize
     requires { ⌜ a < maxAgents ⌝ }
-    ensures { λ r. ⌜ (r ≡ L.digit joint a) × (r < 4) ⌝ }
+    ensures { λ r. ⌜ (r ≡ L.digit joint a) × (r < maxActions) ⌝ }
 {
     if a == 0 {
         return joint % 4;
@@ -20,7 +21,7 @@ pub fn digit(joint: usize, a: usize) -> usize
 }
 
 // Whether the joint action can be done with these counts.
-pub fn possible(counts: [usize; 3], joint: usize) -> bool
+pub fn possible(counts: [usize; layout::MAX_AGENTS], joint: usize) -> bool
     ensures { λ r. ⌜ r ≡ J.possible counts joint ⌝ }
 {
     if counts[0] <= digit(joint, 0) {

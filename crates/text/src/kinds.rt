@@ -1,4 +1,5 @@
 // The kinds of rows.
+use block::layout;
 ghost use mathlib.Core.Path.{_≡_};
 ghost use Rattle.text.specs.Job as J;
 
@@ -6,8 +7,8 @@ ghost use Rattle.text.specs.Job as J;
 pub fn binary(k: usize) -> bool
     ensures { λ r. ⌜ r ≡ J.binary k ⌝ }
 {
-    if k == 2 {
+    if k == layout::OR_KIND {
         return true;
     }
-    k == 5
+    k == layout::UNTIL_KIND
 }

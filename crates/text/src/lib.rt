@@ -7,3 +7,15 @@ pub mod sizes;
 
 // A text is at most this long, and the writer's buffer has this length.
 pub const TEXT_BYTES: usize = 32768;
+
+// A number of a text is below this: it is that of a byte.
+pub const NUMBERS: usize = 256;
+
+// The bytes after fields, and those of the digits.
+pub const COMMA: usize = 44;
+
+pub const LINE_END: usize = 10;
+
+pub const ZERO: usize = 48;
+
+pub const NINE: usize = ZERO + 9;

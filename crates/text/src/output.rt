@@ -1,4 +1,5 @@
 // Bytes of a text: words and numbers, added to a buffer from a place on. Nothing else of the buffer changes.
+use crate::ZERO;
 ghost use mathlib.Core.List.{_∷_, []};
 ghost use mathlib.Core.Path.{_≡_};
 ghost use Prim.Native.Nat.{ℕ, _+_, _^_, _≤_, _<_};
@@ -19,7 +20,7 @@ fn digit(text: &mut [u8], at: usize, d: usize) -> usize
     requires { ⌜ (at < length (now text)) × (d < 10) ⌝ }
     ensures { λ r. ⌜ Adds (numeral d ∷ []) (now (text .entry)) at (now (text .exit)) r × (r ≡ at + 1) × Untouched (now (text .entry)) (now (text .exit)) r ⌝ }
 {
-    put(text, at, (48 + d) as u8)
+    put(text, at, (ZERO + d) as u8)
 }
 
 // The digits of a number, for which there is room.

@@ -1,6 +1,8 @@
 // The sizes in the header of a job.
 ghost use mathlib.Core.Path.{_≡_};
 ghost use Prim.Native.Nat.{_^_, _≤_};
+ghost use Rattle.block.specs.Layout.{maxPropositions};
+ghost use Rattle.text.specs.Numeral.{numbers};
 
 pub struct Sizes {
     pub agents: usize,
@@ -12,8 +14,8 @@ pub struct Sizes {
 
 // How many masks of n bits there are.
 pub fn masks(n: usize) -> usize
-    requires { ⌜ n ≤ 8 ⌝ }
-    ensures { λ r. ⌜ (r ≡ 2 ^ n) × (r ≤ 256) ⌝ }
+    requires { ⌜ n ≤ maxPropositions ⌝ }
+    ensures { λ r. ⌜ (r ≡ 2 ^ n) × (r ≤ numbers) ⌝ }
 {
     1 << n
 }

@@ -2,4 +2,5 @@
 pub mod Bytes
 pub mod Numbering
 pub mod Opponents
+pub mod Parts
 pub mod Listing

@@ -1,10 +1,10 @@
 // Moves of a coalition: its part of a joint action, and what a move costs.
+use block::joint;
 use block::layout;
 ghost use mathlib.Core.Path.{_≡_};
-ghost use Prim.Native.Nat.{_≤_, _<_};
-ghost use mathlib.Core.Bool.{cond};
+ghost use Prim.Native.Nat.{_^_, _≤_, _<_};
 ghost use Rattle.block.specs.Decide.{Decides};
-ghost use Rattle.block.specs.Layout.{rows, states, resources, agents, count, kind, Strategic, digit};
+ghost use Rattle.block.specs.Layout.{maxJoint, rows, states, resources, agents, kind, Strategic, digit};
 ghost use Rattle.block.specs.Valid.{Valid};
 ghost use Rattle.game.specs.Rbatl.{moveCost};
 ghost use Rattle.game.specs.Position.{partOf, MoveOf};
@@ -12,7 +12,7 @@ ghost use Rattle.game.specs.Model.{bit, structureOf};
 ghost use Rattle.turns.specs.Rules.{ReplyTo};
 
 // A team's part of a joint action: the digits of its agents, and 0 for the others.
-pub fn part(team: usize, joint: usize) -> usize
+fn part(team: usize, joint: usize) -> usize
     ensures { λ r. ⌜ r ≡ partOf (bit team) joint ⌝ }
 {
     let mut r = 0;
@@ -37,51 +37,46 @@ pub fn cost(block: &[u8], s: usize, team: usize, m: usize, j: usize) -> usize
 {
     let n = layout::agents(block);
     let mut sum = 0;
-    let mut a = 0;
     let mut rest = team;
     let mut k = m;
-    while a < n {
+    for a in 0..n {
         if rest % 2 == 1 {
             sum += layout::cost(block, s, a, k % 4, j);
         }
         rest = rest / 2;
         k = k / 4;
-        a += 1;
     }
     sum
 }
 
-// Whether k is an action of agent a in state s, or 0 for an agent outside the team.
-fn acts(block: &[u8], s: usize, a: usize, inside: bool, k: usize) -> bool
+// How many joint actions have a number: four to the number of agents.
+pub fn joint_actions(block: &[u8]) -> usize
     requires { ⌜ Valid (now block) ⌝ }
-    requires { ⌜ (s < states (now block)) × (a < agents (now block)) ⌝ }
-    ensures { λ r. ⌜ Decides (cond inside (k < count (now (block .entry)) s a) (k ≡ 0)) r ⌝ }
+    ensures { λ r. ⌜ (r ≡ 4 ^ agents (now (block .entry))) × (r ≤ maxJoint) ⌝ }
 {
-    if inside {
-        return k < layout::count(block, s, a);
+    let n = layout::agents(block);
+    if n == 1 {
+        return 4;
     }
-    k == 0
+    if n == 2 {
+        return 16;
+    }
+    layout::JOINT_ACTIONS
 }
 
-// Whether m is the number of a move of a team in state s.
+// Whether m is the number of a move of a team in state s: it is the team's part of itself, and a joint action that can be done there.
 pub fn is_move(block: &[u8], s: usize, team: usize, m: usize) -> bool
     requires { ⌜ Valid (now block) ⌝ }
     requires { ⌜ s < states (now block) ⌝ }
     ensures { λ r. ⌜ Decides (MoveOf (structureOf (now (block .entry))) (bit team) s m) r ⌝ }
 {
-    let n = layout::agents(block);
-    let mut a = 0;
-    let mut rest = team;
-    let mut k = m;
-    while a < n {
-        if !acts(block, s, a, rest % 2 == 1, k % 4) {
-            return false;
-        }
-        rest = rest / 2;
-        k = k / 4;
-        a += 1;
+    if layout::JOINT_ACTIONS <= m {
+        return false;
     }
-    k == 0
+    if part(team, m) != m {
+        return false;
+    }
+    joint::available(block, s, m)
 }
 
 // Whether r is a reply to row i's team in state s.

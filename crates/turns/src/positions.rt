@@ -33,10 +33,8 @@ pub fn stock_places(block: &[u8], i: usize) -> usize
 {
     let n = layout::resources(block);
     let mut c = 1;
-    let mut j = 0;
-    while j < n {
+    for j in 0..n {
         c = c * places(block, i, j);
-        j += 1;
     }
     c
 }
@@ -59,10 +57,8 @@ pub fn number(block: &[u8], i: usize, s: usize, stocks: &[u8]) -> usize
 {
     let n = layout::resources(block);
     let mut x = s;
-    let mut j = 0;
-    while j < n {
+    for j in 0..n {
         x = x * places(block, i, j) + wide(stocks[j]);
-        j += 1;
     }
     x
 }
@@ -89,10 +85,8 @@ pub fn offset(block: &[u8], i: usize, s: usize, m: usize) -> usize
 {
     let n = layout::resources(block);
     let mut x = 0;
-    let mut j = 0;
-    while j < n {
+    for j in 0..n {
         x = x * places(block, i, j) + taken(block, i, s, m, j);
-        j += 1;
     }
     x
 }
@@ -105,11 +99,9 @@ pub fn full(block: &[u8], i: usize, s: usize) -> usize
 {
     let n = layout::resources(block);
     let mut x = s;
-    let mut j = 0;
-    while j < n {
+    for j in 0..n {
         let c = places(block, i, j);
         x = x * c + (c - 1);
-        j += 1;
     }
     x
 }

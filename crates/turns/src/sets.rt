@@ -31,12 +31,10 @@ pub fn list_set(set: usize, list: &mut [u8]) -> usize
     fill::zeros(list, 0);
     let n = count(set);
     let mut from = 0;
-    let mut k = 0;
-    while k < n {
+    for k in 0..n {
         let s = from + lowest(set >> from);
         list[k] = s as u8;
         from = s + 1;
-        k += 1;
     }
     n
 }

@@ -1,8 +1,10 @@
 // Lengths of lent buffers, and the numbers that stand in them for what there is not.
 use block::layout;
 
-// The most positions of a row: 24 states with 16 stocks of each resource.
-pub const MAX_POSITIONS: usize = 6144;
+// The stocks of one resource, and the most positions of a row: a state with a stock of each resource, of which there are two.
+const MAX_STOCKS: usize = layout::MAX_UNITS + 1;
+
+pub const MAX_POSITIONS: usize = layout::MAX_STATES * MAX_STOCKS * MAX_STOCKS;
 
 // The sets of all rows; the ranks of a row, and working room, which holds them; its moves.
 pub const SETS_BYTES: usize = 4 * layout::MAX_ROWS;

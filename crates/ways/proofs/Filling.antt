@@ -68,9 +68,9 @@ module _ (P : ℕ → Type 0) where
       goes i k less small (yes e) = let (_, l) = so-far .only i (omega arith) in omega (arith, before i (omega arith), ap at′ e, here)
       goes i k less small (no ne) = omega (arith, so-far .rising i k less (omega arith), before i (omega arith), before k (omega arith))
 
-  pub line-all : (j n : ℕ) (at : ℕ → ℕ) → j ≡ 64 → ((m : ℕ) → P m → m < 64) → LineBelow P j at n → LineOf P at n
-  line-all j n at e below so-far = record {
-    each = λ m h. so-far .each m (omega (arith, below m h)) h;
+  pub line-all : (j n : ℕ) (at : ℕ → ℕ) → j ≤ 64 → ((m : ℕ) → P m → m < j) → LineBelow P j at n → LineOf P at n
+  line-all j n at small below so-far = record {
+    each = λ m h. so-far .each m (below m h) h;
     only = λ k small. so-far .only k small .0;
     rising = so-far .rising;
     few = omega (arith, so-far .few);

@@ -3,8 +3,8 @@ use mathlib.Core.Bool.{Bool, true, false, not}
 use mathlib.Core.List.{List}
 use mathlib.Core.Logic.{inl}
 use mathlib.Core.Path.{_≡_, sym, _∙_, ap, ap₂, subst}
-use Prim.Native.Nat.{ℕ, _+_, _*_, _-_, _≤_, _<_}
-use native.Mathlib.Nat.{mul-le-mul, pow-le-pow-right}
+use Prim.Native.Nat.{ℕ, _+_, _*_, _-_, _^_, _≤_, _<_}
+use native.Mathlib.Nat.{mul-le-mul}
 use native.Mathlib.Omega.{arith}
 use Rattle.block.specs.Layout as L
 use Rattle.block.specs.Layout.{Block}
@@ -126,10 +126,10 @@ module _ (b : Block) (valid : Valid b) (row : Row) (playable : Playable b row) w
   pub some-reply : (s : ℕ) (ways : List ℕ) → s < L.states b → StateListed b row s ways → 0 < countIn ways s false
   some-reply s ways state listed = let (k, l, _) = listed .lines false .each 0 (idle-move (structureOf b) (valid-proper b valid) (opponents (coalitionOf b (row .index))) s state) in omega arith
 
-  -- listed numbers are below 64
-  pub listable-small : (s : ℕ) (ours : Bool) (m : ℕ) → Listable b row s ours m → m < 64
-  listable-small s true m useful = omega (arith, useful .0 .0 .0, pow-le-pow-right {n = 4} (omega arith) (valid .sized .agents-fit .1))
-  listable-small s false m reply = omega (arith, reply .0, pow-le-pow-right {n = 4} (omega arith) (valid .sized .agents-fit .1))
+  -- listed numbers are those of joint actions
+  pub listable-small : (s : ℕ) (ours : Bool) (m : ℕ) → Listable b row s ours m → m < 4 ^ L.agents b
+  listable-small s true m useful = useful .0 .0 .0
+  listable-small s false m reply = reply .0
 
 -- one more state is listed, and the states and wide numbers before it stay
 module _ (b : Block) (row : Row) (s : ℕ) (l l′ : List ℕ) (same : SameOutside (fieldPlace s 0) (fieldPlace (s + 1) 0) l l′) where

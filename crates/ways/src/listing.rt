@@ -28,12 +28,10 @@ fn payable_at_all(block: &[u8], i: usize, s: usize, m: usize) -> bool
     ensures { λ r. ⌜ Decides (Affordable (arenaOf (now (block .entry)) i) (full (arenaOf (now (block .entry)) i) s) m) r ⌝ }
 {
     let n = layout::resources(block);
-    let mut j = 0;
-    while j < n {
+    for j in 0..n {
         if positions::places(block, i, j) <= positions::taken(block, i, s, m, j) {
             return false;
         }
-        j += 1;
     }
     true
 }
@@ -60,13 +58,11 @@ fn leads_into(block: &[u8], row: Row, ways: &[u8], s: usize, m: usize) -> bool
 {
     let set = row.set;
     let n = lines::count(ways, s, false);
-    let mut k = 0;
-    while k < n {
+    for k in 0..n {
         let r = lines::number(ways, s, false, k);
         if !buffers::has_bit(set, layout::next(block, s, m + r)) {
             return false;
         }
-        k += 1;
     }
     true
 }
@@ -99,14 +95,13 @@ fn list_line(block: &[u8], row: Row, s: usize, ours: bool, ways: &mut [u8]) -> u
     ensures { λ n. ⌜ LineOf (Listable (now (block .entry)) row s ours) (numberIn (now (ways .exit)) s ours) n ⌝ }
     ensures { λ _. ⌜ SameOutside (fieldPlace s (lineAt ours)) (fieldPlace s (lineAt ours) + 64) (now (ways .entry)) (now (ways .exit)) ⌝ }
 {
+    let limit = moves::joint_actions(block);
     let mut n = 0;
-    let mut m = 0;
-    while m < layout::JOINT_ACTIONS {
+    for m in 0..limit {
         if is_listed(block, row, ways, s, ours, m) {
             lines::set_number(ways, s, ours, n, m);
             n += 1;
         }
-        m += 1;
     }
     n
 }
@@ -121,11 +116,9 @@ fn list_takes(block: &[u8], row: Row, s: usize, ways: &mut [u8])
 {
     let i = row.index;
     let n = lines::count(ways, s, true);
-    let mut k = 0;
-    while k < n {
+    for k in 0..n {
         let m = lines::number(ways, s, true, k);
         lines::set_taken(ways, s, k, positions::offset(block, i, s, m));
-        k += 1;
     }
 }
 
@@ -151,9 +144,7 @@ pub fn list_row(block: &[u8], row: Row, ways: &mut [u8])
 {
     wides::fill_wides(block, row, ways);
     let n = layout::states(block);
-    let mut s = 0;
-    while s < n {
+    for s in 0..n {
         list_state(block, row, s, ways);
-        s += 1;
     }
 }

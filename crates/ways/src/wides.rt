@@ -40,10 +40,8 @@ pub fn fill_wides(block: &[u8], row: Row, ways: &mut [u8])
 {
     let i = row.index;
     let c = row.places;
-    let mut x = 0;
-    while x < c {
+    for x in 0..c {
         lines::set_wide_number(ways, x, wide_at(block, i, x));
-        x += 1;
     }
 }
 

@@ -89,8 +89,7 @@ pub fn worst_at(
 {
     let n = lines::count(ways, step.state, false);
     let mut best = rank_after(block, row, ways, ranks, step, 0);
-    let mut k = 1;
-    while k < n {
+    for k in 1..n {
         if beyond(limit.most, limit.rank, best) {
             return limit.rank;
         }
@@ -99,7 +98,6 @@ pub fn worst_at(
             rank_after(block, row, ways, ranks, step, k),
             best,
         );
-        k += 1;
     }
     further(!limit.most, best, limit.rank)
 }

@@ -9,13 +9,14 @@ ghost use Rattle.block.specs.Layout as L;
 ghost use Rattle.block.specs.Layout.{maxStates, maxAgents, maxActions};
 ghost use Rattle.block.specs.Valid.{Valid};
 ghost use Rattle.text.specs.Job as J;
+ghost use Rattle.writer.specs.Lengths.{costsBytes, actionsBytes, actsLineBytes, agentLinesBytes};
 ghost use Rattle.writer.specs.Writing.{Past, PastWith, Room, sizesOf, countsTo};
 
 // The costs of action k, which n further actions follow.
 fn costs(block: &[u8], text: &mut [u8], at: usize, s: usize, a: usize, n: usize, k: usize) -> usize
-    requires { ⌜ Valid (now block) × Room (now text) (at + 8) ⌝ }
+    requires { ⌜ Valid (now block) × Room (now text) (at + costsBytes) ⌝ }
     requires { ⌜ (s < maxStates) × ((a < maxAgents) × ((k < maxActions) × (n < maxActions))) ⌝ }
-    ensures { λ r. ⌜ Past (now (block .entry)) (J.costs s a n k (L.resources (now (block .entry))) 0) (now (text .entry)) at (now (text .exit)) r × (r ≤ at + 8) ⌝ }
+    ensures { λ r. ⌜ Past (now (block .entry)) (J.costs s a n k (L.resources (now (block .entry))) 0) (now (text .entry)) at (now (text .exit)) r × (r ≤ at + costsBytes) ⌝ }
 {
     let resources = layout::resources(block);
     let mut next = at;
@@ -29,9 +30,9 @@ fn costs(block: &[u8], text: &mut [u8], at: usize, s: usize, a: usize, n: usize,
 }
 
 fn actions(block: &[u8], text: &mut [u8], at: usize, s: usize, a: usize) -> usize
-    requires { ⌜ Valid (now block) × Room (now text) (at + 32) ⌝ }
+    requires { ⌜ Valid (now block) × Room (now text) (at + actionsBytes) ⌝ }
     requires { ⌜ (s < L.states (now block)) × (a < L.agents (now block)) ⌝ }
-    ensures { λ r. ⌜ Past (now (block .entry)) (J.actions (sizesOf (now (block .entry))) s a (L.count (now (block .entry)) s a) 0) (now (text .entry)) at (now (text .exit)) r × (r ≤ at + 32) ⌝ }
+    ensures { λ r. ⌜ Past (now (block .entry)) (J.actions (sizesOf (now (block .entry))) s a (L.count (now (block .entry)) s a) 0) (now (text .entry)) at (now (text .exit)) r × (r ≤ at + actionsBytes) ⌝ }
 {
     let count = layout::count(block, s, a);
     let mut next = at;
@@ -45,9 +46,9 @@ fn actions(block: &[u8], text: &mut [u8], at: usize, s: usize, a: usize) -> usiz
 
 // acts,s,a,count, and the costs.
 fn acts_line(block: &[u8], text: &mut [u8], at: usize, s: usize, a: usize) -> usize
-    requires { ⌜ Valid (now block) × Room (now text) (at + 47) ⌝ }
+    requires { ⌜ Valid (now block) × Room (now text) (at + actsLineBytes) ⌝ }
     requires { ⌜ (s < L.states (now block)) × (a < L.agents (now block)) ⌝ }
-    ensures { λ r. ⌜ PastWith (now (block .entry)) (J.actsLine (sizesOf (now (block .entry))) s a) (L.count (now (block .entry)) s a) (now (text .entry)) at (now (text .exit)) r × (r ≤ at + 47) ⌝ }
+    ensures { λ r. ⌜ PastWith (now (block .entry)) (J.actsLine (sizesOf (now (block .entry))) s a) (L.count (now (block .entry)) s a) (now (text .entry)) at (now (text .exit)) r × (r ≤ at + actsLineBytes) ⌝ }
 {
     let state = word(text, at, b"acts,");
     let agent = number(text, state, s, b',');
@@ -58,9 +59,9 @@ fn acts_line(block: &[u8], text: &mut [u8], at: usize, s: usize, a: usize) -> us
 
 // The acts lines of all agents.
 pub fn agent_lines(block: &[u8], text: &mut [u8], at: usize, s: usize) -> usize
-    requires { ⌜ Valid (now block) × Room (now text) (at + 141) ⌝ }
+    requires { ⌜ Valid (now block) × Room (now text) (at + agentLinesBytes) ⌝ }
     requires { ⌜ s < L.states (now block) ⌝ }
-    ensures { λ r. ⌜ PastWith (now (block .entry)) (J.agentLines (sizesOf (now (block .entry))) s (L.agents (now (block .entry))) 0 J.noCounts) (countsTo (now (block .entry)) s (L.agents (now (block .entry)))) (now (text .entry)) at (now (text .exit)) r × (r ≤ at + 141) ⌝ }
+    ensures { λ r. ⌜ PastWith (now (block .entry)) (J.agentLines (sizesOf (now (block .entry))) s (L.agents (now (block .entry))) 0 J.noCounts) (countsTo (now (block .entry)) s (L.agents (now (block .entry)))) (now (text .entry)) at (now (text .exit)) r × (r ≤ at + agentLinesBytes) ⌝ }
 {
     let agents = layout::agents(block);
     let mut next = at;
@@ -73,12 +74,12 @@ pub fn agent_lines(block: &[u8], text: &mut [u8], at: usize, s: usize) -> usize
 }
 
 // How many actions each agent has in state s; one that does not exist has one.
-pub fn counts(block: &[u8], s: usize) -> [usize; 3]
+pub fn counts(block: &[u8], s: usize) -> [usize; layout::MAX_AGENTS]
     requires { ⌜ Valid (now block) × (s < maxStates) ⌝ }
     ensures { λ r. ⌜ r ≡ countsTo (now (block .entry)) s (L.agents (now (block .entry))) ⌝ }
 {
     let agents = layout::agents(block);
-    let mut counts = [1usize, 1usize, 1usize];
+    let mut counts = [1usize; layout::MAX_AGENTS];
     let mut a = 0;
     while a < agents {
         counts[a] = layout::count(block, s, a);

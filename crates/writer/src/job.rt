@@ -10,12 +10,13 @@ ghost use lib.ListN.{length, take};
 ghost use Rattle.block.specs.Valid.{Valid};
 ghost use Rattle.text.specs.Job as J;
 ghost use Rattle.text.specs.Text.{textBytes, textOf};
+ghost use Rattle.writer.specs.Lengths.{headerLineBytes};
 ghost use Rattle.writer.specs.Writing.{PastWith, Room, sizesOf};
 
 // job,N,R,M,P,F
 fn header_line(block: &[u8], text: &mut [u8], at: usize) -> usize
-    requires { ⌜ Valid (now block) × Room (now text) (at + 24) ⌝ }
-    ensures { λ r. ⌜ PastWith (now (block .entry)) J.headerLine (sizesOf (now (block .entry))) (now (text .entry)) at (now (text .exit)) r × (r ≤ at + 24) ⌝ }
+    requires { ⌜ Valid (now block) × Room (now text) (at + headerLineBytes) ⌝ }
+    ensures { λ r. ⌜ PastWith (now (block .entry)) J.headerLine (sizesOf (now (block .entry))) (now (text .entry)) at (now (text .exit)) r × (r ≤ at + headerLineBytes) ⌝ }
 {
     let agents = word(text, at, b"job,");
     let resources = number(text, agents, layout::agents(block), b',');

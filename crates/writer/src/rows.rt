@@ -9,13 +9,14 @@ ghost use Rattle.block.specs.Layout as L;
 ghost use Rattle.block.specs.Layout.{maxRows};
 ghost use Rattle.block.specs.Valid.{Valid};
 ghost use Rattle.text.specs.Job as J;
+ghost use Rattle.writer.specs.Lengths.{boundsBytes, teamBytes, operandsBytes, rowLineBytes, rowLinesBytes};
 ghost use Rattle.writer.specs.Writing.{Past, Room, sizesOf};
 
 // The bounds of row i.
 fn bounds(block: &[u8], text: &mut [u8], at: usize, i: usize) -> usize
-    requires { ⌜ Valid (now block) × Room (now text) (at + 8) ⌝ }
+    requires { ⌜ Valid (now block) × Room (now text) (at + boundsBytes) ⌝ }
     requires { ⌜ i < maxRows ⌝ }
-    ensures { λ r. ⌜ Past (now (block .entry)) (J.boundFields i (L.resources (now (block .entry))) 0) (now (text .entry)) at (now (text .exit)) r × (r ≤ at + 8) ⌝ }
+    ensures { λ r. ⌜ Past (now (block .entry)) (J.boundFields i (L.resources (now (block .entry))) 0) (now (text .entry)) at (now (text .exit)) r × (r ≤ at + boundsBytes) ⌝ }
 {
     let resources = layout::resources(block);
     let mut next = at;
@@ -29,11 +30,11 @@ fn bounds(block: &[u8], text: &mut [u8], at: usize, i: usize) -> usize
 
 // The team and the bounds, where the kind has them.
 fn team_fields(block: &[u8], text: &mut [u8], at: usize, i: usize, k: usize) -> usize
-    requires { ⌜ Valid (now block) × Room (now text) (at + 12) ⌝ }
+    requires { ⌜ Valid (now block) × Room (now text) (at + teamBytes) ⌝ }
     requires { ⌜ i < maxRows ⌝ }
-    ensures { λ r. ⌜ Past (now (block .entry)) (J.teamFields (sizesOf (now (block .entry))) i k) (now (text .entry)) at (now (text .exit)) r × (r ≤ at + 12) ⌝ }
+    ensures { λ r. ⌜ Past (now (block .entry)) (J.teamFields (sizesOf (now (block .entry))) i k) (now (text .entry)) at (now (text .exit)) r × (r ≤ at + teamBytes) ⌝ }
 {
-    if 3 <= k {
+    if layout::NEXT_KIND <= k {
         let next = number(text, at, layout::team(block, i), b',');
         return bounds(block, text, next, i);
     }
@@ -42,9 +43,9 @@ fn team_fields(block: &[u8], text: &mut [u8], at: usize, i: usize, k: usize) -> 
 
 // The proposition or lower row, and the right row where the kind has one.
 fn operand_fields(block: &[u8], text: &mut [u8], at: usize, i: usize, k: usize) -> usize
-    requires { ⌜ Valid (now block) × Room (now text) (at + 8) ⌝ }
+    requires { ⌜ Valid (now block) × Room (now text) (at + operandsBytes) ⌝ }
     requires { ⌜ i < maxRows ⌝ }
-    ensures { λ r. ⌜ Past (now (block .entry)) (J.operandFields (sizesOf (now (block .entry))) i k) (now (text .entry)) at (now (text .exit)) r × (r ≤ at + 8) ⌝ }
+    ensures { λ r. ⌜ Past (now (block .entry)) (J.operandFields (sizesOf (now (block .entry))) i k) (now (text .entry)) at (now (text .exit)) r × (r ≤ at + operandsBytes) ⌝ }
 {
     let left = layout::left(block, i);
     if binary(k) {
@@ -56,9 +57,9 @@ fn operand_fields(block: &[u8], text: &mut [u8], at: usize, i: usize, k: usize) 
 
 // A row: its word, team and bounds, operands.
 fn row_line(block: &[u8], text: &mut [u8], at: usize, i: usize) -> usize
-    requires { ⌜ Valid (now block) × Room (now text) (at + 27) ⌝ }
+    requires { ⌜ Valid (now block) × Room (now text) (at + rowLineBytes) ⌝ }
     requires { ⌜ i < L.rows (now block) ⌝ }
-    ensures { λ r. ⌜ Past (now (block .entry)) (J.rowLine (sizesOf (now (block .entry))) i) (now (text .entry)) at (now (text .exit)) r × (r ≤ at + 27) ⌝ }
+    ensures { λ r. ⌜ Past (now (block .entry)) (J.rowLine (sizesOf (now (block .entry))) i) (now (text .entry)) at (now (text .exit)) r × (r ≤ at + rowLineBytes) ⌝ }
 {
     let k = layout::kind(block, i);
     let team = output::kind(text, at, k);
@@ -68,8 +69,8 @@ fn row_line(block: &[u8], text: &mut [u8], at: usize, i: usize) -> usize
 
 // The lines of all rows.
 pub fn row_lines(block: &[u8], text: &mut [u8], at: usize) -> usize
-    requires { ⌜ Valid (now block) × Room (now text) (at + 864) ⌝ }
-    ensures { λ r. ⌜ Past (now (block .entry)) (J.rowLines (sizesOf (now (block .entry))) (L.rows (now (block .entry))) 0) (now (text .entry)) at (now (text .exit)) r × (r ≤ at + 864) ⌝ }
+    requires { ⌜ Valid (now block) × Room (now text) (at + rowLinesBytes) ⌝ }
+    ensures { λ r. ⌜ Past (now (block .entry)) (J.rowLines (sizesOf (now (block .entry))) (L.rows (now (block .entry))) 0) (now (text .entry)) at (now (text .exit)) r × (r ≤ at + rowLinesBytes) ⌝ }
 {
     let rows = layout::rows(block);
     let mut next = at;

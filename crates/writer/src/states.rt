@@ -11,13 +11,14 @@ ghost use Rattle.block.specs.Layout as L;
 ghost use Rattle.block.specs.Layout.{maxStates, maxJoint};
 ghost use Rattle.block.specs.Valid.{Valid};
 ghost use Rattle.text.specs.Job as J;
+ghost use Rattle.writer.specs.Lengths.{jointBytes, goLineBytes, goLinesBytes, stateLineBytes, stateLinesBytes, statesBytes};
 ghost use Rattle.writer.specs.Writing.{Past, Room, sizesOf};
 
 // state,s,mask
 fn state_line(block: &[u8], text: &mut [u8], at: usize, s: usize) -> usize
-    requires { ⌜ Valid (now block) × Room (now text) (at + 13) ⌝ }
+    requires { ⌜ Valid (now block) × Room (now text) (at + stateLineBytes) ⌝ }
     requires { ⌜ s < maxStates ⌝ }
-    ensures { λ r. ⌜ Past (now (block .entry)) (J.stateLine (sizesOf (now (block .entry))) s) (now (text .entry)) at (now (text .exit)) r × (r ≤ at + 13) ⌝ }
+    ensures { λ r. ⌜ Past (now (block .entry)) (J.stateLine (sizesOf (now (block .entry))) s) (now (text .entry)) at (now (text .exit)) r × (r ≤ at + stateLineBytes) ⌝ }
 {
     let state = word(text, at, b"state,");
     let mask = number(text, state, s, b',');
@@ -26,8 +27,8 @@ fn state_line(block: &[u8], text: &mut [u8], at: usize, s: usize) -> usize
 
 // One action per agent.
 fn joint_fields(block: &[u8], text: &mut [u8], at: usize, joint: usize) -> usize
-    requires { ⌜ Valid (now block) × Room (now text) (at + 8) ⌝ }
-    ensures { λ r. ⌜ Past (now (block .entry)) (J.jointFields joint (L.agents (now (block .entry))) 0) (now (text .entry)) at (now (text .exit)) r × (r ≤ at + 6) ⌝ }
+    requires { ⌜ Valid (now block) × Room (now text) (at + jointBytes + 2) ⌝ }
+    ensures { λ r. ⌜ Past (now (block .entry)) (J.jointFields joint (L.agents (now (block .entry))) 0) (now (text .entry)) at (now (text .exit)) r × (r ≤ at + jointBytes) ⌝ }
 {
     let agents = layout::agents(block);
     let mut next = at;
@@ -41,9 +42,9 @@ fn joint_fields(block: &[u8], text: &mut [u8], at: usize, joint: usize) -> usize
 
 // go,s, the actions, and the next state.
 fn go_line(block: &[u8], text: &mut [u8], at: usize, s: usize, joint: usize) -> usize
-    requires { ⌜ Valid (now block) × Room (now text) (at + 16) ⌝ }
+    requires { ⌜ Valid (now block) × Room (now text) (at + goLineBytes) ⌝ }
     requires { ⌜ (s < maxStates) × (joint < maxJoint) ⌝ }
-    ensures { λ r. ⌜ Past (now (block .entry)) (J.goLine (sizesOf (now (block .entry))) s joint) (now (text .entry)) at (now (text .exit)) r × (r ≤ at + 16) ⌝ }
+    ensures { λ r. ⌜ Past (now (block .entry)) (J.goLine (sizesOf (now (block .entry))) s joint) (now (text .entry)) at (now (text .exit)) r × (r ≤ at + goLineBytes) ⌝ }
 {
     let state = word(text, at, b"go,");
     let actions = number(text, state, s, b',');
@@ -57,12 +58,12 @@ fn go_line_if(
     text: &mut [u8],
     at: usize,
     s: usize,
-    counts: [usize; 3],
+    counts: [usize; layout::MAX_AGENTS],
     joint: usize,
 ) -> usize
-    requires { ⌜ Valid (now block) × Room (now text) (at + 16) ⌝ }
+    requires { ⌜ Valid (now block) × Room (now text) (at + goLineBytes) ⌝ }
     requires { ⌜ (s < maxStates) × (joint < maxJoint) ⌝ }
-    ensures { λ r. ⌜ Past (now (block .entry)) (λ f. cond (J.possible counts joint) (J.goLine (sizesOf (now (block .entry))) s joint f) f) (now (text .entry)) at (now (text .exit)) r × (r ≤ at + 16) ⌝ }
+    ensures { λ r. ⌜ Past (now (block .entry)) (λ f. cond (J.possible counts joint) (J.goLine (sizesOf (now (block .entry))) s joint f) f) (now (text .entry)) at (now (text .exit)) r × (r ≤ at + goLineBytes) ⌝ }
 {
     if joint::possible(counts, joint) {
         return go_line(block, text, at, s, joint);
@@ -70,14 +71,20 @@ fn go_line_if(
     at
 }
 
-fn go_lines(block: &[u8], text: &mut [u8], at: usize, s: usize, counts: [usize; 3]) -> usize
-    requires { ⌜ Valid (now block) × Room (now text) (at + 1024) ⌝ }
+fn go_lines(
+    block: &[u8],
+    text: &mut [u8],
+    at: usize,
+    s: usize,
+    counts: [usize; layout::MAX_AGENTS],
+) -> usize
+    requires { ⌜ Valid (now block) × Room (now text) (at + goLinesBytes) ⌝ }
     requires { ⌜ s < maxStates ⌝ }
-    ensures { λ r. ⌜ Past (now (block .entry)) (J.goLines (sizesOf (now (block .entry))) s counts maxJoint 0) (now (text .entry)) at (now (text .exit)) r × (r ≤ at + 1024) ⌝ }
+    ensures { λ r. ⌜ Past (now (block .entry)) (J.goLines (sizesOf (now (block .entry))) s counts maxJoint 0) (now (text .entry)) at (now (text .exit)) r × (r ≤ at + goLinesBytes) ⌝ }
 {
     let mut next = at;
     let mut joint = 0;
-    while joint < 64 {
+    while joint < layout::JOINT_ACTIONS {
         next = go_line_if(block, text, next, s, counts, joint);
         joint += 1;
     }
@@ -85,9 +92,9 @@ fn go_lines(block: &[u8], text: &mut [u8], at: usize, s: usize, counts: [usize; 
 }
 
 fn state_lines(block: &[u8], text: &mut [u8], at: usize, s: usize) -> usize
-    requires { ⌜ Valid (now block) × Room (now text) (at + 1178) ⌝ }
+    requires { ⌜ Valid (now block) × Room (now text) (at + stateLinesBytes) ⌝ }
     requires { ⌜ s < L.states (now block) ⌝ }
-    ensures { λ r. ⌜ Past (now (block .entry)) (J.stateLines (sizesOf (now (block .entry))) s) (now (text .entry)) at (now (text .exit)) r × (r ≤ at + 1178) ⌝ }
+    ensures { λ r. ⌜ Past (now (block .entry)) (J.stateLines (sizesOf (now (block .entry))) s) (now (text .entry)) at (now (text .exit)) r × (r ≤ at + stateLinesBytes) ⌝ }
 {
     let agents = state_line(block, text, at, s);
     let go = agent_lines(block, text, agents, s);
@@ -96,8 +103,8 @@ fn state_lines(block: &[u8], text: &mut [u8], at: usize, s: usize) -> usize
 
 // The lines of all states.
 pub fn states(block: &[u8], text: &mut [u8], at: usize) -> usize
-    requires { ⌜ Valid (now block) × Room (now text) (at + 28272) ⌝ }
-    ensures { λ r. ⌜ Past (now (block .entry)) (J.states (sizesOf (now (block .entry))) (L.states (now (block .entry))) 0) (now (text .entry)) at (now (text .exit)) r × (r ≤ at + 28272) ⌝ }
+    requires { ⌜ Valid (now block) × Room (now text) (at + statesBytes) ⌝ }
+    ensures { λ r. ⌜ Past (now (block .entry)) (J.states (sizesOf (now (block .entry))) (L.states (now (block .entry))) 0) (now (text .entry)) at (now (text .exit)) r × (r ≤ at + statesBytes) ⌝ }
 {
     let count = layout::states(block);
     let mut next = at;

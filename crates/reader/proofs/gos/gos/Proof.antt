@@ -7,7 +7,7 @@ use Rattle.block.specs.Layout.{blockBytes}
 use Rattle.text.specs.Job as J
 use Rattle.scan.specs.Step.{Inside}
 use Rattle.reader.proofs.Progress.{Reached, reached-none, reached-more, reached-all}
-use Rattle.text.proofs.Repeats.{go-loop}
+use Rattle.text.proofs.JobLoops.{go-loop}
 use borrow.Author.Needs.{needs}
 use Rattle.reader.proofs.gos.gos.Statement.{statement}
 use Rattle.reader.proofs.gos.gos.Tie as tie

@@ -5,7 +5,7 @@ use Rattle.block.specs.Layout.{Block}
 use Rattle.text.specs.Job as J
 use Rattle.scan.specs.Step.{Inside}
 use Rattle.reader.proofs.Progress.{Reached, reached-none, reached-more, reached-all}
-use Rattle.text.proofs.Repeats.{joint-loop}
+use Rattle.text.proofs.JobLoops.{joint-loop}
 use borrow.Author.Needs.{needs}
 use Rattle.reader.proofs.gos.joint_fields.Statement.{statement}
 use Rattle.reader.proofs.gos.joint_fields.Tie as tie

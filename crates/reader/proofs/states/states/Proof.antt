@@ -7,7 +7,7 @@ use Rattle.block.specs.Layout.{blockBytes}
 use Rattle.text.specs.Job as J
 use Rattle.scan.specs.Step.{Inside}
 use Rattle.reader.proofs.Progress.{Reached, reached-none, reached-more, reached-all}
-use Rattle.text.proofs.Repeats.{states-loop}
+use Rattle.text.proofs.JobLoops.{states-loop}
 use borrow.Author.Needs.{needs}
 use Rattle.reader.proofs.states.states.Statement.{statement}
 use Rattle.reader.proofs.states.states.Tie as tie

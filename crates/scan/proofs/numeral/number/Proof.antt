@@ -4,7 +4,7 @@ use native.Mathlib.Omega.{arith}
 use borrow.Author.Tests.{not-true, not-false}
 use Rattle.block.proofs.Decide as D
 use Rattle.text.proofs.Decimals.{within}
-use Rattle.scan.proofs.Numbers.{one, two, three, number-missing, found-one}
+use Rattle.scan.proofs.NumbersAt.{one, two, three, number-missing, found-one}
 use borrow.Author.Needs.{needs}
 use Rattle.scan.proofs.numeral.number.Statement.{statement}
 use Rattle.scan.proofs.numeral.number.Tie as tie

@@ -5,7 +5,7 @@ use native.Mathlib.Omega.{arith}
 use lib.ListN.{length, getD}
 use borrow.Author.Count.{below-none, below-more}
 use Rattle.block.specs.Decide.{holds, fails}
-use Rattle.scan.proofs.Beginnings.{room-for, byte-of, stands-at}
+use Rattle.scan.proofs.WordsAt.{room-for, byte-of, stands-at}
 use borrow.Author.Needs.{needs}
 use Rattle.scan.proofs.words.stands.Statement.{statement}
 use Rattle.scan.proofs.words.stands.Tie as tie

@@ -5,7 +5,7 @@ use lib.ListN.{drop}
 use Rattle.text.specs.Numeral.{found}
 use Rattle.block.proofs.Decide as D
 use Rattle.text.proofs.Search.{after-found, after-other}
-use Rattle.scan.proofs.Beginnings.{room-for, rest-is}
+use Rattle.scan.proofs.WordsAt.{room-for, rest-is}
 use borrow.Author.Needs.{needs}
 use Rattle.scan.proofs.words.word_or.Statement.{statement}
 use Rattle.scan.proofs.words.word_or.Tie as tie

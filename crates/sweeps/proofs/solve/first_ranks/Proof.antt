@@ -14,7 +14,7 @@ use Rattle.game.proofs.Numbers.Decide.{eq?}
 use Rattle.game.proofs.Bridge.Truth.{full-fits}
 use Rattle.game.proofs.Blocks.Passing.{states-times}
 use Rattle.sweeps.specs.Solving.{FirstRank}
-use Rattle.sweeps.proofs.Placing.{stocks-below}
+use Rattle.ways.proofs.Placing.{stocks-below}
 use Rattle.sweeps.proofs.solve.first_ranks.Statement.{statement}
 use Rattle.sweeps.proofs.solve.first_ranks.Tie as tie
 
@@ -23,27 +23,27 @@ abbrev Placed : ℕ → ℕ → ℕ → ℕ → Type 0
 Placed c n s x = (s ≤ n) × (n ≡ s * c + x) × (x < c)
 
 abbrev Inv-loop : tie.InvT-loop
-Inv-loop block i c goal ranks₀ count n₀ s₀ x₀ ranks n s x =
-    (n ≤ 6144) × (length ranks ≡ length ranks₀) × Placed c n s x × ((k : ℕ) → k < n → FirstRank goal c (positions (arenaOf block i)) k (rankIn ranks k))
+Inv-loop block goal ranks₀ c count n₀ s₀ x₀ ranks n s x =
+    (n ≤ 6144) × (length ranks ≡ length ranks₀) × Placed c n s x × ((k : ℕ) → k < n → FirstRank goal c count k (rankIn ranks k))
 
 abbrev μ-loop : tie.MeasureT-loop
-μ-loop block i c goal ranks₀ count n₀ s₀ x₀ ranks n s x = 6144 - n
+μ-loop block goal ranks₀ c count n₀ s₀ x₀ ranks n s x = 6144 - n
 
 count-requires : tie.Need-count-requires Inv-loop μ-loop
-count-requires c κs = (c .before .before .pre .0, c .before .before .pre .1 .0)
+count-requires c κs = (c .before .before .pre .0, (c .before .before .pre .1 .0 .inside, c .before .before .pre .1 .0 .strategic))
 
 module _ (start : tie.Start Inv-loop μ-loop) where
-  some : 0 < start .args .c
+  some : 0 < start .args .row .places
   some =
-      let G = arenaOf (start .args .block .now) (start .args .i) in
-      omega (arith, stocks-below G (full G 0) (full-fits G 0 (omega (arith, start .pre .0 .sized .states-fit))), start .pre .1 .1 .0)
+      let G = arenaOf (start .args .block .now) (start .args .row .index) in
+      omega (arith, stocks-below G (full G 0) (full-fits G 0 (omega (arith, start .pre .0 .sized .states-fit))), start .pre .1 .0 .places-are)
 
-  all : positions (arenaOf (start .args .block .now) (start .args .i)) ≤ 24 * start .args .c
+  all : positions (arenaOf (start .args .block .now) (start .args .row .index)) ≤ 24 * start .args .row .places
   all =
       let b = start .args .block .now in
-      let G = arenaOf b (start .args .i) in
+      let G = arenaOf b (start .args .row .index) in
       let most : L.states b * stockPlaces G ≤ 24 * stockPlaces G = mul-le-mul-right (stockPlaces G) (start .pre .0 .sized .states-fit .1) in
-      omega (arith, most, states-times b (start .pre .0) (start .args .i) (L.resources b), start .pre .1 .1 .0)
+      omega (arith, most, states-times b (start .pre .0) (start .args .row .index) (L.resources b), start .pre .1 .0 .places-are)
 
 loop-holds : tie.Need-loop-holds Inv-loop μ-loop
 loop-holds c = (omega arith, refl, (omega arith, omega arith, some (c .before .before .before)), λ k l. absurd (omega arith))
@@ -56,12 +56,12 @@ first-rank-requires : tie.Need-first-rank-requires Inv-loop μ-loop
 first-rank-requires c κs = λ inside.
     let start = c .before .before .before .before .before .before in
     let at = c .before .before .loop in
-    let same = quotient (start .args .c) (at .n) (at .s) (at .x) (some start) (at .inv .2) in
-    let below : at .n / start .args .c < 24 = div-lt-iff-lt-mul (some start) .1 (omega (arith, inside, all start, c .before .before .before .count .ensures .0)) in
+    let same = quotient (start .args .row .places) (at .n) (at .s) (at .x) (some start) (at .inv .2) in
+    let below : at .n / start .args .row .places < 24 = div-lt-iff-lt-mul (some start) .1 (omega (arith, inside, all start, c .before .before .before .count .ensures .0)) in
     (same, omega (arith, same, below))
 
 set-rank-requires : tie.Need-set-rank-requires Inv-loop μ-loop
-set-rank-requires c κs = (omega (arith, c .before .before .before .before .before .before .before .pre .1 .1 .1, c .before .before .before .loop .inv .1, c .before .before .loop-test .taken), c .first-rank .ensures .1)
+set-rank-requires c κs = (omega (arith, c .before .before .before .before .before .before .before .pre .1 .1, c .before .before .before .loop .inv .1, c .before .before .loop-test .taken), c .first-rank .ensures .1)
 
 add-n : tie.Need-add-n Inv-loop μ-loop
 add-n c = record { fits = omega (arith, c .before .before .before .before .before .loop-test .taken) }
@@ -95,12 +95,11 @@ loop-again c =
     let args = c .before .before .before .before .before .before .before .before .before .before .before .args in
     let at = c .before .before .before .before .before .before .before .loop in
     let put = c .before .before .before .set-rank in
-    let first = c .before .before .before .before .first-rank in
-    let rank = subst (λ (count : ℕ). FirstRank (args .goal) (args .c) count (at .n) (first .result)) (c .before .before .before .before .before .before .before .before .count .ensures .0) (first .ensures .0) in (
+    let first = c .before .before .before .before .first-rank in (
       omega (arith, c .before .before .before .before .before .before .loop-test .taken),
       put .ensures .kept ∙ at .inv .1,
-      over (args .c) (at .n) (at .s) (at .x) (at .inv .2) (c .if1 .taken),
-      more (args .goal) (args .c) (positions (arenaOf (args .block .now) (args .i))) (at .n) (first .result) (at .ranks) (put .last .0) (at .inv .3) rank (put .ensures),
+      over (args .row .places) (at .n) (at .s) (at .x) (at .inv .2) (c .if1 .taken),
+      more (args .goal) (args .row .places) (c .before .before .before .before .before .before .before .before .count .result) (at .n) (first .result) (at .ranks) (put .last .0) (at .inv .3) (first .ensures .0) (put .ensures),
     )
 
 loop-less-2 : tie.Need-loop-less-2 Inv-loop μ-loop
@@ -111,19 +110,20 @@ loop-again-2 c =
     let args = c .before .before .before .before .before .before .before .before .before .before .before .args in
     let at = c .before .before .before .before .before .before .before .loop in
     let put = c .before .before .before .set-rank in
-    let first = c .before .before .before .before .first-rank in
-    let rank = subst (λ (count : ℕ). FirstRank (args .goal) (args .c) count (at .n) (first .result)) (c .before .before .before .before .before .before .before .before .count .ensures .0) (first .ensures .0) in (
+    let first = c .before .before .before .before .first-rank in (
       omega (arith, c .before .before .before .before .before .before .loop-test .taken),
       put .ensures .kept ∙ at .inv .1,
-      along (args .c) (at .n) (at .s) (at .x) (at .inv .2) (c .if1 .left),
-      more (args .goal) (args .c) (positions (arenaOf (args .block .now) (args .i))) (at .n) (first .result) (at .ranks) (put .last .0) (at .inv .3) rank (put .ensures),
+      along (args .row .places) (at .n) (at .s) (at .x) (at .inv .2) (c .if1 .left),
+      more (args .goal) (args .row .places) (c .before .before .before .before .before .before .before .before .count .result) (at .n) (first .result) (at .ranks) (put .last .0) (at .inv .3) (first .ensures .0) (put .ensures),
     )
 
 same-length : tie.Need-same-length Inv-loop μ-loop
 same-length c = c .before .loop .inv .1
 
 returns : tie.Need-returns Inv-loop μ-loop
-returns c = (λ n l. c .before .loop .inv .3 n (omega (arith, c .loop-test .left)), c .before .loop .inv .1)
+returns c =
+    let at = c .before .loop in
+    (λ n l. subst (λ (count : ℕ). FirstRank (c .before .before .before .before .before .args .goal) (c .before .before .before .before .before .args .row .places) count n (rankIn (at .ranks) n)) (c .before .before .count .ensures .0) (at .inv .3 n (omega (arith, c .loop-test .left))), at .inv .1)
 
 pub first-ranks-spec : {M : Type 1} → statement M
 first-ranks-spec =

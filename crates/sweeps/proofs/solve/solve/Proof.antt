@@ -12,35 +12,32 @@ use Rattle.sweeps.proofs.Starting.{first-kept}
 use Rattle.sweeps.proofs.solve.solve.Statement.{statement}
 use Rattle.sweeps.proofs.solve.solve.Tie as tie
 
-stock-places-requires : tie.Need-stock-places-requires
-stock-places-requires c κs = let pre = c .before .before .pre in (pre .0, (pre .1 .0, pre .1 .1))
-
 first-ranks-requires : tie.Need-first-ranks-requires
-first-ranks-requires c κs = let pre = c .before .before .before .before .pre in (pre .0, ((pre .1 .0, pre .1 .1), (c .before .stock-places .ensures .0, pre .1 .2)))
+first-ranks-requires c κs = (c .before .before .before .pre .0, c .before .before .before .pre .1 .0)
 
 settle-requires : tie.Need-settle-requires
-settle-requires c κs = let pre = c .before .before .before .before .before .before .before .before .pre in (pre .0, ((pre .1 .0, pre .1 .1), (c .before .before .before .before .before .stock-places .ensures .0, omega (arith, pre .1 .2, c .before .before .before .first-ranks .ensures .1))))
+settle-requires c κs = (c .before .before .before .before .before .before .before .pre .0, ((c .before .before .before .before .before .before .before .pre .1 .0 .0, omega (arith, c .before .before .before .before .before .before .before .pre .1 .0 .1, c .before .before .before .first-ranks .ensures .1)), c .before .before .before .before .before .before .before .pre .1 .1))
 
 same-length : tie.Need-same-length
-same-length c = search needs
+same-length c = c .before .before .settle .ensures .long ∙ c .before .before .before .before .before .before .first-ranks .ensures .1
 
 returns : tie.Need-returns
 returns c =
-    let start = c .before .before .before .before .before .before .before .before .before .before .before in
-    let args = start .args in
+    let args = c .before .before .before .before .before .before .before .before .before .before .args in
     let b = args .block .now in
-    let G = arenaOf b (args .i) in
+    let G = arenaOf b (args .row .index) in
     let first = c .before .before .before .before .before .before .first-ranks in
     let done = c .before .before .settle in
-    let l = first .last .1 .1 .1 .1 .0 in
-    let ranks = subst (λ (places : ℕ). (n : ℕ) → n < 6144 → FirstRank (args .goal) places (positions G) n (rankIn l n)) (c .before .before .before .before .before .before .before .before .stock-places .ensures .0) (first .ensures .0) in
-    let few = few-positions b (start .pre .0) (args .i) (start .pre .1 .0) (start .pre .1 .1) in (
+    let playable = c .before .before .before .before .before .before .before .before .before .before .pre .1 .0 .0 in
+    let l = first .last .1 .1 .1 .0 in
+    let ranks = subst (λ (places : ℕ). (n : ℕ) → n < 6144 → FirstRank (args .goal) places (positions G) n (rankIn l n)) (playable .places-are) (first .ensures .0) in
+    let few = few-positions b (c .before .before .before .before .before .before .before .before .before .before .pre .0) (args .row .index) (playable .inside) (playable .strategic) in (
       record {
-        ranked = done .ensures .ranked (args .goal) (first-kept G (args .most) (args .safe) (args .goal) l few ranks);
+        ranked = done .ensures .ranked (args .goal) (first-kept G (args .side .most) (args .side .safe) (args .goal) l few ranks);
         outside = λ n beyond small. done .ensures .beyond n beyond ∙ ranks n small .outside beyond;
       },
       done .ensures .long ∙ first .ensures .1,
     )
 
 pub solve-spec : {M : Type 1} → statement M
-solve-spec = tie.close (tie.spec stock-places-requires first-ranks-requires settle-requires same-length returns)
+solve-spec = tie.close (tie.spec first-ranks-requires settle-requires same-length returns)

@@ -10,19 +10,19 @@ use Rattle.sweeps.proofs.sweep.settle_places.Statement.{statement}
 use Rattle.sweeps.proofs.sweep.settle_places.Tie as tie
 
 abbrev Inv-loop : tie.InvT-loop
-Inv-loop block i c safe most counts moves takes others answers wides ranks₀ x₀ ranks x = (x ≤ c) × ((proper : Proper (structureOf block)) → SettledBelow (arenaOf block i) proper most safe x ranks₀ ranks)
+Inv-loop block row side ways ranks₀ c x₀ ranks x = (x ≤ c) × ((proper : Proper (structureOf block)) → SettledBelow (arenaOf block (row .index)) proper (side .most) (side .safe) x ranks₀ ranks)
 
 abbrev μ-loop : tie.MeasureT-loop
-μ-loop block i c safe most counts moves takes others answers wides ranks₀ x₀ ranks x = c - x
+μ-loop block row side ways ranks₀ c x₀ ranks x = c - x
 
 loop-holds : tie.Need-loop-holds Inv-loop μ-loop
-loop-holds c = let args = c .before .before .before .before .before .before .before .before .args in (omega arith, λ proper. settled-none (arenaOf (args .block .now) (args .i)) proper (args .most) (args .safe) (args .ranks .now))
+loop-holds c = let args = c .before .before .before .args in (omega arith, λ proper. settled-none (arenaOf (args .block .now) (args .row .index)) proper (args .side .most) (args .side .safe) (args .ranks .now))
 
 settle-place-requires : tie.Need-settle-place-requires Inv-loop μ-loop
 settle-place-requires c κs =
-    let pre = c .before .before .before .before .before .before .before .before .before .before .before .pre in
+    let pre = c .before .before .before .before .before .before .pre in
     let at = c .before .before .loop in
-    (pre .0, (pre .1 .0, (pre .1 .1 .0, (pre .1 .1 .1 .0, c .before .loop-test .taken, omega (arith, pre .1 .1 .1 .1, at .inv .1 (valid-proper (c .before .before .before .before .before .before .before .before .before .before .before .args .block .now) (pre .0)) .long)))))
+    (pre .0, ((pre .1 .0 .0, pre .1 .0 .1, omega (arith, pre .1 .0 .2, at .inv .1 (valid-proper (c .before .before .before .before .before .before .args .block .now) (pre .0)) .long)), (pre .1 .1, c .before .loop-test .taken)))
 
 add-x : tie.Need-add-x Inv-loop μ-loop
 add-x c = omega arith
@@ -32,25 +32,25 @@ loop-less c = omega (arith, c .before .before .before .before .loop-test .taken)
 
 loop-again : tie.Need-loop-again Inv-loop μ-loop
 loop-again c =
-    let args = c .before .before .before .before .before .before .before .before .before .before .before .before .before .before .args in
+    let args = c .before .before .before .before .before .before .before .before .before .args in
     let at = c .before .before .before .before .before .loop in
     let step = c .before .before .settle-place in
-    (omega (arith, c .before .before .before .before .loop-test .taken), λ proper. settled-next (arenaOf (args .block .now) (args .i)) proper (args .most) (args .safe) (at .x) (args .ranks .now) (at .ranks) (step .last .1 .1 .1 .1 .1 .1 .1 .1 .1 .1 .1 .1 .0) (at .inv .1 proper) (step .ensures))
+    (omega (arith, c .before .before .before .before .loop-test .taken), λ proper. settled-next (arenaOf (args .block .now) (args .row .index)) proper (args .side .most) (args .side .safe) (at .x) (args .ranks .now) (at .ranks) (step .last .1 .1 .1 .1 .1 .0) (at .inv .1 proper) (step .ensures))
 
 same-length : tie.Need-same-length Inv-loop μ-loop
-same-length c = c .before .loop .inv .1 (valid-proper (c .before .before .before .before .before .before .before .before .before .before .args .block .now) (c .before .before .before .before .before .before .before .before .before .before .pre .0)) .long
+same-length c = c .before .loop .inv .1 (valid-proper (c .before .before .before .before .before .args .block .now) (c .before .before .before .before .before .pre .0)) .long
 
 returns : tie.Need-returns Inv-loop μ-loop
 returns c =
-    let start = c .before .before .before .before .before .before .before .before .before .before in
+    let start = c .before .before .before .before .before in
     let args = start .args in
     let b = args .block .now in
-    let G = arenaOf b (args .i) in
+    let G = arenaOf b (args .row .index) in
     let proper = valid-proper b (start .pre .0) in
     let at = c .before .loop in
-    let all : at .x ≡ args .c = omega (arith, at .inv .0, c .loop-test .left) in
-    settled-all G proper (args .most) (args .safe) (omega (arith, few-positions b (start .pre .0) (args .i) (start .pre .1 .0 .0) (start .pre .1 .0 .1))) (args .ranks .now) (at .ranks)
-    (subst (λ (x : ℕ). SettledBelow G proper (args .most) (args .safe) x (args .ranks .now) (at .ranks)) (all ∙ start .pre .1 .1 .1 .0) (at .inv .1 proper))
+    let all : at .x ≡ args .row .places = omega (arith, at .inv .0, c .loop-test .left) in
+    settled-all G proper (args .side .most) (args .side .safe) (omega (arith, few-positions b (start .pre .0) (args .row .index) (start .pre .1 .0 .0 .inside) (start .pre .1 .0 .0 .strategic))) (args .ranks .now) (at .ranks)
+    (subst (λ (x : ℕ). SettledBelow G proper (args .side .most) (args .side .safe) x (args .ranks .now) (at .ranks)) (all ∙ start .pre .1 .0 .0 .places-are) (at .inv .1 proper))
 
 pub settle-places-spec : {M : Type 1} → statement M
 settle-places-spec = tie.close (tie.spec Inv-loop μ-loop loop-holds settle-place-requires add-x loop-less loop-again same-length returns)

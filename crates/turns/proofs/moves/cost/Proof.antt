@@ -15,11 +15,11 @@ use Rattle.turns.proofs.moves.cost.Statement.{statement}
 use Rattle.turns.proofs.moves.cost.Tie as tie
 
 abbrev Inv-loop : tie.InvT-loop
-Inv-loop block s team m j n sum₀ a₀ rest₀ k₀ sum a rest k =
+Inv-loop block s team m j n sum₀ rest₀ k₀ a₀ sum rest k a =
     (a ≤ n) × (sum ≡ costUpTo (structureOf block) (bit team) a s (digit m) j) × (sum ≤ 15 * a) × (rest ≡ team / 2 ^ a) × (k ≡ m / 4 ^ a)
 
 abbrev μ-loop : tie.MeasureT-loop
-μ-loop block s team m j n sum₀ a₀ rest₀ k₀ sum a rest k = n - a
+μ-loop block s team m j n sum₀ rest₀ k₀ a₀ sum rest k a = n - a
 
 agents-requires : tie.Need-agents-requires Inv-loop μ-loop
 agents-requires c κs = c .before .pre .0 .sized .bytes

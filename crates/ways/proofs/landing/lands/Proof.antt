@@ -17,7 +17,7 @@ covers-requires : tie.Need-covers-requires
 covers-requires c κs = (c .before .before .before .pre .1 .0 .1 .long, omega (arith, c .before .before .before .pre .1 .1 .1, few (c .before .before .before .args .block .now) (c .before .before .before .pre .0) (c .before .before .before .args .row) (c .before .before .before .pre .1 .0 .0)), c .taken .ensures .1)
 
 sub-t9 : tie.Need-sub-t9
-sub-t9 c = D.truth (c .before .covers .ensures) (c .if1 .taken) .0
+sub-t9 c = omega (arith, D.truth (c .before .covers .ensures) (c .if1 .taken) .0)
 
 returns : tie.Need-returns
 returns c =

@@ -4,14 +4,15 @@ use Prim.Native.Nat.{_+_, _-_, _*_, _≤_}
 use native.Mathlib.Omega.{arith}
 use lib.ListN.{length}
 use Rattle.text.specs.Job as J
+use Rattle.writer.specs.Lengths.{costsBytes}
 use Rattle.writer.specs.Writing.{sizesOf}
-use Rattle.text.proofs.Repeats.{actions-loop}
+use Rattle.text.proofs.JobLoops.{actions-loop}
 use Rattle.writer.proofs.Writing.{Looped, looped-none, looped-more, looped-all}
 use Rattle.writer.proofs.agents.actions.Statement.{statement}
 use Rattle.writer.proofs.agents.actions.Tie as tie
 
 abbrev Inv-loop : tie.InvT-loop
-Inv-loop block text₀ at s a count next₀ k₀ text next k = (k ≤ count) × ((length text ≡ length text₀) × ((next ≤ at + 8 * k) × Looped (J.actions (sizesOf block) s a) count block text₀ at text next k))
+Inv-loop block text₀ at s a count next₀ k₀ text next k = (k ≤ count) × ((length text ≡ length text₀) × ((next ≤ at + costsBytes * k) × Looped (J.actions (sizesOf block) s a) count block text₀ at text next k))
 
 abbrev μ-loop : tie.MeasureT-loop
 μ-loop block text₀ at s a count next₀ k₀ text next k = count - k

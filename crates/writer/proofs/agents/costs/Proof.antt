@@ -7,13 +7,14 @@ use Rattle.block.specs.Layout.{placeOf}
 use Rattle.block.specs.declared.layout.Place.the-variants.{Cost}
 use Rattle.text.specs.Format.{write}
 use Rattle.text.specs.Job as J
-use Rattle.text.proofs.Repeats.{costs-loop}
+use Rattle.text.proofs.JobLoops.{costs-loop}
+use Rattle.writer.specs.Lengths.{fieldBytes}
 use Rattle.writer.proofs.Writing.{Looped, looped-none, looped-more, looped-all}
 use Rattle.writer.proofs.agents.costs.Statement.{statement}
 use Rattle.writer.proofs.agents.costs.Tie as tie
 
 abbrev Inv-loop : tie.InvT-loop
-Inv-loop block text₀ at s a n k resources next₀ j₀ text next j = (j ≤ resources) × ((length text ≡ length text₀) × ((next ≤ at + 4 * j) × Looped (J.costs s a n k) resources block text₀ at text next j))
+Inv-loop block text₀ at s a n k resources next₀ j₀ text next j = (j ≤ resources) × ((length text ≡ length text₀) × ((next ≤ at + fieldBytes * j) × Looped (J.costs s a n k) resources block text₀ at text next j))
 
 abbrev μ-loop : tie.MeasureT-loop
 μ-loop block text₀ at s a n k resources next₀ j₀ text next j = resources - j

@@ -4,14 +4,15 @@ use Prim.Native.Nat.{_+_, _-_, _*_, _≤_}
 use native.Mathlib.Omega.{arith}
 use lib.ListN.{length}
 use Rattle.text.specs.Job as J
+use Rattle.writer.specs.Lengths.{rowLineBytes}
 use Rattle.writer.specs.Writing.{sizesOf}
-use Rattle.text.proofs.Repeats.{rows-loop}
+use Rattle.text.proofs.JobLoops.{rows-loop}
 use Rattle.writer.proofs.Writing.{Looped, looped-none, looped-more, looped-all}
 use Rattle.writer.proofs.rows.row_lines.Statement.{statement}
 use Rattle.writer.proofs.rows.row_lines.Tie as tie
 
 abbrev Inv-loop : tie.InvT-loop
-Inv-loop block text₀ at rows next₀ i₀ text next i = (i ≤ rows) × ((length text ≡ length text₀) × ((next ≤ at + 27 * i) × Looped (J.rowLines (sizesOf block)) rows block text₀ at text next i))
+Inv-loop block text₀ at rows next₀ i₀ text next i = (i ≤ rows) × ((length text ≡ length text₀) × ((next ≤ at + rowLineBytes * i) × Looped (J.rowLines (sizesOf block)) rows block text₀ at text next i))
 
 abbrev μ-loop : tie.MeasureT-loop
 μ-loop block text₀ at rows next₀ i₀ text next i = rows - i

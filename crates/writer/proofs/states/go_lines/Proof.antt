@@ -5,14 +5,15 @@ use native.Mathlib.Omega.{arith}
 use lib.ListN.{length}
 use Rattle.text.specs.Job as J
 use Rattle.block.specs.Layout.{maxJoint}
+use Rattle.writer.specs.Lengths.{goLineBytes}
 use Rattle.writer.specs.Writing.{sizesOf}
-use Rattle.text.proofs.Repeats.{go-loop}
+use Rattle.text.proofs.JobLoops.{go-loop}
 use Rattle.writer.proofs.Writing.{Looped, looped-none, looped-more, looped-all}
 use Rattle.writer.proofs.states.go_lines.Statement.{statement}
 use Rattle.writer.proofs.states.go_lines.Tie as tie
 
 abbrev Inv-loop : tie.InvT-loop
-Inv-loop block text₀ at s counts next₀ joint₀ text next joint = (joint ≤ maxJoint) × ((length text ≡ length text₀) × ((next ≤ at + 16 * joint) × Looped (J.goLines (sizesOf block) s counts) maxJoint block text₀ at text next joint))
+Inv-loop block text₀ at s counts next₀ joint₀ text next joint = (joint ≤ maxJoint) × ((length text ≡ length text₀) × ((next ≤ at + goLineBytes * joint) × Looped (J.goLines (sizesOf block) s counts) maxJoint block text₀ at text next joint))
 
 abbrev μ-loop : tie.MeasureT-loop
 μ-loop block text₀ at s counts next₀ joint₀ text next joint = maxJoint - joint

@@ -6,13 +6,14 @@ use lib.ListN.{length}
 use Rattle.text.specs.Format.{write}
 use Rattle.text.specs.Job as J
 use Rattle.text.specs.Job.{index}
-use Rattle.text.proofs.Repeats.{joint-loop}
+use Rattle.text.proofs.JobLoops.{joint-loop}
+use Rattle.writer.specs.Lengths.{actionBytes}
 use Rattle.writer.proofs.Writing.{Looped, looped-none, looped-more, looped-all}
 use Rattle.writer.proofs.states.joint_fields.Statement.{statement}
 use Rattle.writer.proofs.states.joint_fields.Tie as tie
 
 abbrev Inv-loop : tie.InvT-loop
-Inv-loop block text₀ at joint agents next₀ a₀ text next a = (a ≤ agents) × ((length text ≡ length text₀) × ((next ≤ at + 2 * a) × Looped (J.jointFields joint) agents block text₀ at text next a))
+Inv-loop block text₀ at joint agents next₀ a₀ text next a = (a ≤ agents) × ((length text ≡ length text₀) × ((next ≤ at + actionBytes * a) × Looped (J.jointFields joint) agents block text₀ at text next a))
 
 abbrev μ-loop : tie.MeasureT-loop
 μ-loop block text₀ at joint agents next₀ a₀ text next a = agents - a

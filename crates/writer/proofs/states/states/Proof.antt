@@ -4,14 +4,15 @@ use Prim.Native.Nat.{_+_, _-_, _*_, _≤_}
 use native.Mathlib.Omega.{arith}
 use lib.ListN.{length}
 use Rattle.text.specs.Job as J
+use Rattle.writer.specs.Lengths.{stateLinesBytes}
 use Rattle.writer.specs.Writing.{sizesOf}
-use Rattle.text.proofs.Repeats.{states-loop}
+use Rattle.text.proofs.JobLoops.{states-loop}
 use Rattle.writer.proofs.Writing.{Looped, looped-none, looped-more, looped-all}
 use Rattle.writer.proofs.states.states.Statement.{statement}
 use Rattle.writer.proofs.states.states.Tie as tie
 
 abbrev Inv-loop : tie.InvT-loop
-Inv-loop block text₀ at count next₀ s₀ text next s = (s ≤ count) × ((length text ≡ length text₀) × ((next ≤ at + 1178 * s) × Looped (J.states (sizesOf block)) count block text₀ at text next s))
+Inv-loop block text₀ at count next₀ s₀ text next s = (s ≤ count) × ((length text ≡ length text₀) × ((next ≤ at + stateLinesBytes * s) × Looped (J.states (sizesOf block)) count block text₀ at text next s))
 
 abbrev μ-loop : tie.MeasureT-loop
 μ-loop block text₀ at count next₀ s₀ text next s = count - s

@@ -14,7 +14,7 @@ use Rattle.block.specs.Layout.{Block, maxAgents, agents, count, digit, Acts}
 use Rattle.block.proofs.Digits.{each-agent}
 use Rattle.text.specs.Job.{both, possible, noCounts}
 use Rattle.text.proofs.Decimals.{lt-or-ge}
-use Rattle.text.proofs.Everywhere.{told}
+use Rattle.text.proofs.FieldsByName.{told}
 
 all-three : (x y z : Bool) → T (both x (both y z)) ↔ (T x × T y × T z)
 all-three true true z = (λ t. (tt, tt, t), λ p. p .2)

@@ -1,4 +1,4 @@
--- The places of a job's text come in rising turn, line kind by line kind (Formats' Proper).
+-- The fields of a job's text stand at different places: their places come in rising turn, line kind by line kind (Formats' Proper).
 -- In each law, n is a turn that has not passed, and what follows the lines is proper from the turn after theirs.
 -- Assumes nothing.
 use mathlib.Core.Bool.{Bool, true, false, cond}

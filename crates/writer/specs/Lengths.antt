@@ -1,0 +1,70 @@
+-- How many bytes each part of a text takes at most, as the writer's contracts count them: the letters of its words with their commas, and
+-- each number with the comma or line end after it: one of the block, one below 100, and one below 10.
+use Prim.Native.Nat.{ℕ, _+_, _*_}
+use Rattle.block.specs.Layout.{maxAgents, maxResources, maxStates, maxRows, maxActions, maxJoint}
+
+abbrev pub fieldBytes : ℕ
+fieldBytes = 4
+
+abbrev pub indexBytes : ℕ
+indexBytes = 3
+
+abbrev pub actionBytes : ℕ
+actionBytes = 2
+
+-- the word of a row, with its comma
+abbrev pub wordBytes : ℕ
+wordBytes = 7
+
+-- job, and five sizes
+abbrev pub headerLineBytes : ℕ
+headerLineBytes = 4 + 5 * fieldBytes
+
+-- the costs of an action and of an agent; acts, the state, the agent and the count before them; the acts lines of a state
+abbrev pub costsBytes : ℕ
+costsBytes = fieldBytes * maxResources
+
+abbrev pub actionsBytes : ℕ
+actionsBytes = costsBytes * maxActions
+
+abbrev pub actsLineBytes : ℕ
+actsLineBytes = 5 + 2 * indexBytes + fieldBytes + actionsBytes
+
+abbrev pub agentLinesBytes : ℕ
+agentLinesBytes = actsLineBytes * maxAgents
+
+-- an action of each agent; go, the state and the next state around them; the go lines of a state
+abbrev pub jointBytes : ℕ
+jointBytes = actionBytes * maxAgents
+
+abbrev pub goLineBytes : ℕ
+goLineBytes = 3 + indexBytes + jointBytes + fieldBytes
+
+abbrev pub goLinesBytes : ℕ
+goLinesBytes = goLineBytes * maxJoint
+
+-- state, its number and its mask; all lines of a state, and of the states
+abbrev pub stateLineBytes : ℕ
+stateLineBytes = 6 + indexBytes + fieldBytes
+
+abbrev pub stateLinesBytes : ℕ
+stateLinesBytes = stateLineBytes + agentLinesBytes + goLinesBytes
+
+abbrev pub statesBytes : ℕ
+statesBytes = stateLinesBytes * maxStates
+
+-- the bounds of a row, its team and bounds, and what it names; a row and the rows
+abbrev pub boundsBytes : ℕ
+boundsBytes = fieldBytes * maxResources
+
+abbrev pub teamBytes : ℕ
+teamBytes = fieldBytes + boundsBytes
+
+abbrev pub operandsBytes : ℕ
+operandsBytes = 2 * fieldBytes
+
+abbrev pub rowLineBytes : ℕ
+rowLineBytes = wordBytes + teamBytes + operandsBytes
+
+abbrev pub rowLinesBytes : ℕ
+rowLinesBytes = rowLineBytes * maxRows
