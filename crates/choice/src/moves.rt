@@ -107,12 +107,10 @@ pub fn move_at(block: &[u8], row: Row, ways: &[u8], ranks: &[u8], spot: Spot, ki
         own: own,
     };
     let n = lines::count(ways, spot.state, true);
-    let mut k = 0;
-    while k < n {
+    for k in 0..n {
         if is_good(block, row, ways, ranks, spot, aim, k) {
             return lines::number(ways, spot.state, true, k) as u8;
         }
-        k += 1;
     }
     sizes::NO_MOVE
 }

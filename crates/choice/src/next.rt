@@ -31,12 +31,10 @@ fn next_rank(block: &[u8], row: Row, ways: &[u8], spot: Spot) -> usize
     ensures { λ v. ⌜ NextRight (now (block .entry)) (row .index) (row .set) (spot .state * row .places + spot .place) v × (v < 65536) ⌝ }
 {
     let n = lines::count(ways, spot.state, true);
-    let mut k = 0;
-    while k < n {
+    for k in 0..n {
         if let Landing::At(_) = landing::lands(block, row, ways, spot, k) {
             return 1;
         }
-        k += 1;
     }
     sizes::NEVER
 }
@@ -50,11 +48,9 @@ fn next_places(block: &[u8], row: Row, ways: &[u8], s: usize, ranks: &mut [u8])
     ensures { λ _. ⌜ length (now (ranks .exit)) ≡ length (now (ranks .entry)) ⌝ }
 {
     let c = row.places;
-    let mut x = 0;
-    while x < c {
+    for x in 0..c {
         let spot = Spot { state: s, place: x };
         buffers::set_rank(ranks, s * c + x, next_rank(block, row, ways, spot));
-        x += 1;
     }
 }
 
@@ -67,10 +63,8 @@ fn next_states(block: &[u8], row: Row, ways: &[u8], ranks: &mut [u8])
     ensures { λ _. ⌜ length (now (ranks .exit)) ≡ length (now (ranks .entry)) ⌝ }
 {
     let n = layout::states(block);
-    let mut s = 0;
-    while s < n {
+    for s in 0..n {
         next_places(block, row, ways, s, ranks);
-        s += 1;
     }
 }
 

@@ -31,12 +31,10 @@ pub fn way_to(block: &[u8], row: Row, ways: &[u8], spot: Spot, m: usize) -> Land
     ensures { λ r. ⌜ Makes (now (block .entry)) row (spot .state) (spot .place) m r ⌝ }
 {
     let n = lines::count(ways, spot.state, true);
-    let mut k = 0;
-    while k < n {
+    for k in 0..n {
         if lines::number(ways, spot.state, true, k) == m {
             return landing::lands(block, row, ways, spot, k);
         }
-        k += 1;
     }
     Landing::Unpaid
 }
@@ -50,15 +48,13 @@ fn find_reply(block: &[u8], row: Row, ways: &[u8], ranks: &[u8], step: Step, aim
 {
     let c = row.places;
     let n = lines::count(ways, step.state, false);
-    let mut k = 0;
-    while k < n {
+    for k in 0..n {
         let r = lines::number(ways, step.state, false, k);
         let q = layout::next(block, step.state, step.number + r);
         let rank = buffers::rank_at(ranks, q * c + step.place);
         if kinds::counters(aim.kind, row.set, aim.own, q, rank) {
             return r;
         }
-        k += 1;
     }
     0
 }

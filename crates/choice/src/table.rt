@@ -35,11 +35,9 @@ fn fill_places(
     ensures { λ _. ⌜ length (now (moves .exit)) ≡ length (now (moves .entry)) ⌝ }
 {
     let c = row.places;
-    let mut x = 0;
-    while x < c {
+    for x in 0..c {
         let spot = Spot { state: s, place: x };
         moves[s * c + x] = moves::move_at(block, row, ways, ranks, spot, kind);
-        x += 1;
     }
 }
 
@@ -52,10 +50,8 @@ fn fill_states(block: &[u8], row: Row, ways: &[u8], ranks: &[u8], kind: usize, m
     ensures { λ _. ⌜ length (now (moves .exit)) ≡ length (now (moves .entry)) ⌝ }
 {
     let n = layout::states(block);
-    let mut s = 0;
-    while s < n {
+    for s in 0..n {
         fill_places(block, row, ways, ranks, kind, s, moves);
-        s += 1;
     }
 }
 
