@@ -1,10 +1,18 @@
 -- The first number of a line that has a property is the smallest of all, where the line leaves none out. Assumes nothing.
 use mathlib.Core.Path.{_≡_, sym, subst}
-use Prim.Native.Nat.{ℕ, _+_, _<_}
+use Prim.Native.Nat.{ℕ, _+_, _^_, _<_}
+use native.Mathlib.Nat.{pow-le-pow-right}
 use native.Mathlib.Omega.{arith}
+use Rattle.block.specs.Layout as L
+use Rattle.block.specs.Layout.{Block}
+use Rattle.block.specs.Valid.{Valid}
 use Rattle.game.specs.Table.{Smallest}
 use Rattle.game.proofs.Numbers.Decide.{eq?, lt?}
 use Rattle.ways.specs.Listing.{LineOf}
+
+-- there are at most 64 joint actions
+pub joint-number : (b : Block) → Valid b → (m : ℕ) → m < 4 ^ L.agents b → m < 64
+joint-number b valid m small = omega (arith, small, pow-le-pow-right {n = 4} (omega arith) (valid .sized .agents-fit .1))
 
 -- one more number fails
 pub none-more : (P : ℕ → Type 0) (n : ℕ) → ((k : ℕ) → k < n → P k → ⊥) → (P n → ⊥) → (k : ℕ) → k < n + 1 → P k → ⊥

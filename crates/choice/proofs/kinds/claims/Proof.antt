@@ -9,10 +9,14 @@ use Rattle.choice.proofs.kinds.claims.Statement.{statement}
 use Rattle.choice.proofs.kinds.claims.Tie as tie
 
 returns : tie.Need-returns
-returns c = decides-as (ap (λ (k : ℕ). ClaimsBy k (c .before .args .rank)) (c .if1 .taken)) (D.equal (c .before .args .rank) 1)
+returns c =
+    let args = c .before .args in
+    decides-as (ap (λ (k : ℕ). ClaimsBy k (args .rank)) (c .if1 .taken)) (D.equal (args .rank) 1)
 
 returns-2 : tie.Need-returns-2
-returns-2 c = decides-as (ap (λ (k : ℕ). ClaimsBy k (c .before .before .args .rank)) (c .if2 .taken)) (D.equal (c .before .before .args .rank) 65535)
+returns-2 c =
+    let args = c .before .before .args in
+    decides-as (ap (λ (k : ℕ). ClaimsBy k (args .rank)) (c .if2 .taken)) (D.equal (args .rank) 65535)
 
 returns-3 : tie.Need-returns-3
 returns-3 c =

@@ -59,13 +59,14 @@ enum-told c = search needs
 
 returns : tie.Need-returns
 returns c p placed =
+    let pre = c .before .before .before .before .before .before .before .before .before .pre in
     let args = c .before .before .before .before .before .before .before .before .before .args in
     let b = args .block .now in
-    let sought = c .before .before .before .before .before .before .before .before .before .pre .1 .0 .0 in
+    let sought = pre .1 .0 .0 in
     let m = numberIn (args .ways .now) (args .spot .state) true (args .k) in
     let (paid, leaves) = landed ((c .before .before .before)) .1 p placed in
     let aimed = subst (λ (n : ℕ). AimedFrom b (args .row) (args .ranks .now) (args .aim .kind) (args .aim .own) (args .spot .state) n (c .before .before .before .y .given .0 .0) (c .aimed .result)) (c .before .number .ensures) (c .aimed .ensures) in
-    D.same (aimed p (placed .fits) (placed .state) leaves) (λ h. (move-here b (c .before .before .before .before .before .before .before .before .before .pre .0) (args .row) (sought .playable) (args .spot .state) (args .spot .place) m p placed (useful (c .before .before .before .before .before .before .before .before .before) .0 .0) paid, h)) (λ good. good .1)
+    D.same (aimed p (placed .fits) (placed .state) leaves) (λ h. (move-here b (pre .0) (args .row) (sought .playable) (args .spot .state) (args .spot .place) m p placed (useful (c .before .before .before .before .before .before .before .before .before) .0 .0) paid, h)) (λ good. good .1)
 
 returns-2 : tie.Need-returns-2
 returns-2 c p placed = fails (λ (allowed, _). rw (c .enum-told .given .1) at (c .before .before .lands .ensures) p placed (allowed .1))

@@ -4,7 +4,6 @@ use mathlib.Core.Path.{_≡_, sym, _∙_, ap, subst}
 use Prim.Native.Nat.{ℕ, _+_, _*_, _-_, _≤_, _<_}
 use native.Mathlib.Omega.{arith}
 use borrow.Author.Tests.{not-true, not-false}
-use Rattle.block.specs.Layout as L
 use Rattle.block.proofs.Decide as D
 use Rattle.game.specs.Position.{Position, IsPosition, number}
 use Rattle.game.specs.Model.{arenaOf}
@@ -12,11 +11,11 @@ use Rattle.turns.specs.Buffers.{rankIn}
 use Rattle.ways.specs.Lines.{countIn, numberIn}
 use Rattle.ways.specs.Listing.{Useful}
 use Rattle.ways.specs.Places.{PlacedAt}
-use Rattle.ways.proofs.Leading.{number-inside, listable-small}
+use Rattle.ways.proofs.Leading.{number-inside}
 use Rattle.choice.specs.Choices.{GoodBy}
 use Rattle.choice.specs.Tables.{MoveFor}
 use Rattle.choice.proofs.Moving.{spot-placed, good-useful, move-lost, move-met, move-found, move-exists}
-use Rattle.choice.proofs.Searching.{none-more, line-first, line-none}
+use Rattle.choice.proofs.Searching.{joint-number, none-more, line-first, line-none}
 use Rattle.choice.proofs.moves.move_at.Statement.{statement}
 use Rattle.choice.proofs.moves.move_at.Tie as tie
 
@@ -54,14 +53,18 @@ claims-requires c κs = tt
 
 returns : tie.Need-returns Inv-loop μ-loop
 returns c right ranked p fits is =
+    let args = c .before .before .before .before .before .before .before .before .before .args in
+    let pre = c .before .before .before .before .before .before .before .before .before .pre in
     let at = (c .before .before) in
-    move-lost (c .before .before .before .before .before .before .before .before .before .args .block .now) (c .before .before .before .before .before .before .before .before .before .pre .0) (c .before .before .before .before .before .before .before .before .before .args .row) (c .before .before .before .before .before .before .before .before .before .args .kind) (c .before .before .before .before .before .before .before .before .before .pre .1 .0 .0) (c .before .before .before .before .before .before .before .before .before .args .ranks .now) (c .before .before .before .before .before .before .before .before .before .args .spot .state) (c .before .before .before .before .before .before .before .before .before .args .spot .place) (c .before .before .rank-at .result) p (placed at p fits is) (own at p fits is) right
+    move-lost (args .block .now) (pre .0) (args .row) (args .kind) (pre .1 .0 .0) (args .ranks .now) (args .spot .state) (args .spot .place) (c .before .before .rank-at .result) p (placed at p fits is) (own at p fits is) right
     (D.falsity (c .before .claims .ensures) (not-true _ (c .if1 .taken)))
 
 returns-2 : tie.Need-returns-2 Inv-loop μ-loop
 returns-2 c right ranked p fits is =
+    let args = c .before .before .before .before .before .before .before .before .before .before .args in
+    let pre = c .before .before .before .before .before .before .before .before .before .before .pre in
     let at = (c .before .before .before) in
-    move-met (c .before .before .before .before .before .before .before .before .before .before .args .block .now) (c .before .before .before .before .before .before .before .before .before .before .pre .0) (c .before .before .before .before .before .before .before .before .before .before .args .row) (c .before .before .before .before .before .before .before .before .before .before .args .kind) (c .before .before .before .before .before .before .before .before .before .before .pre .1 .0 .0) (c .before .before .before .before .before .before .before .before .before .before .args .ranks .now) (c .before .before .before .before .before .before .before .before .before .before .args .spot .state) (c .before .before .before .before .before .before .before .before .before .before .args .spot .place) (c .before .before .before .rank-at .result) p (placed at p fits is) (own at p fits is) right
+    move-met (args .block .now) (pre .0) (args .row) (args .kind) (pre .1 .0 .0) (args .ranks .now) (args .spot .state) (args .spot .place) (c .before .before .before .rank-at .result) p (placed at p fits is) (own at p fits is) right
     (D.truth (c .before .before .claims .ensures) (not-false _ (c .before .if1 .left))) (c .if2 .taken)
 
 state-small : (start : tie.Start Inv-loop μ-loop) → start .args .spot .state < 24
@@ -81,24 +84,29 @@ is-good-requires : tie.Need-is-good-requires Inv-loop μ-loop
 is-good-requires c κs = let pre = c .before .before .before .before .before .before .before .before .before .before .before .before .before .pre in (pre .0, (pre .1 .0, (pre .1 .1 .0, pre .1 .1 .1, within c)))
 
 number-requires : tie.Need-number-requires Inv-loop μ-loop
-number-requires c κs = (c .before .before .before .before .before .before .before .before .before .before .before .before .before .before .before .pre .1 .0 .1 .long, state-small (c .before .before .before .before .before .before .before .before .before .before .before .before .before .before .before), omega (arith, within ((c .before .before)), c .before .before .before .before .before .before .before .before .before .before .before .before .before .before .before .pre .1 .0 .1 .states (c .before .before .before .before .before .before .before .before .before .before .before .before .before .before .before .args .spot .state) (c .before .before .before .before .before .before .before .before .before .before .before .before .before .before .before .pre .1 .1 .0) .lines true .few))
+number-requires c κs =
+    let pre = c .before .before .before .before .before .before .before .before .before .before .before .before .before .before .before .pre in
+    (pre .1 .0 .1 .long, state-small (c .before .before .before .before .before .before .before .before .before .before .before .before .before .before .before), omega (arith, within ((c .before .before)), pre .1 .0 .1 .states (c .before .before .before .before .before .before .before .before .before .before .before .before .before .before .before .args .spot .state) (pre .1 .1 .0) .lines true .few))
 
 cast-result : tie.Need-cast-result Inv-loop μ-loop
 cast-result c =
-    let line = c .before .before .before .before .before .before .before .before .before .before .before .before .before .before .before .before .pre .1 .0 .1 .states (c .before .before .before .before .before .before .before .before .before .before .before .before .before .before .before .before .args .spot .state) (c .before .before .before .before .before .before .before .before .before .before .before .before .before .before .before .before .pre .1 .1 .0) .lines true in
-    record { fits = omega (arith, c .number .ensures, listable-small (c .before .before .before .before .before .before .before .before .before .before .before .before .before .before .before .before .args .block .now) (c .before .before .before .before .before .before .before .before .before .before .before .before .before .before .before .before .pre .0) (c .before .before .before .before .before .before .before .before .before .before .before .before .before .before .before .before .args .row) (c .before .before .before .before .before .before .before .before .before .before .before .before .before .before .before .before .pre .1 .0 .0 .playable) (c .before .before .before .before .before .before .before .before .before .before .before .before .before .before .before .before .args .spot .state) true (numberIn (c .before .before .before .before .before .before .before .before .before .before .before .before .before .before .before .before .args .ways .now) (c .before .before .before .before .before .before .before .before .before .before .before .before .before .before .before .before .args .spot .state) true (c .before .before .before .before .loop .k)) (line .only (c .before .before .before .before .loop .k) (within ((c .before .before .before))))) }
+    let args = c .before .before .before .before .before .before .before .before .before .before .before .before .before .before .before .before .args in
+    let pre = c .before .before .before .before .before .before .before .before .before .before .before .before .before .before .before .before .pre in
+    let way = pre .1 .0 .1 .states (args .spot .state) (pre .1 .1 .0) .lines true .only (c .before .before .before .before .loop .k) (within ((c .before .before .before))) in
+    record { fits = omega (arith, c .number .ensures, joint-number (args .block .now) (pre .0) (numberIn (args .ways .now) (args .spot .state) true (c .before .before .before .before .loop .k)) (way .0 .0 .0)) }
 
 returns-3 : tie.Need-returns-3 Inv-loop μ-loop
 returns-3 c right ranked p fits is =
+    let pre = c .before .before .before .before .before .before .before .before .before .before .before .before .before .before .before .before .pre in
     let args = c .before .before .before .before .before .before .before .before .before .before .before .before .before .before .before .before .args in
     let at = (c .before .before .before .before .before .before .before .before .before) in
-    let sought = c .before .before .before .before .before .before .before .before .before .before .before .before .before .before .before .before .pre .1 .0 .0 in
+    let sought = pre .1 .0 .0 in
     let here = placed at p fits is in
     subst (MoveFor (args .block .now) (args .row .index) (args .row .set) right (args .ranks .now) p) (sym (c .number .ensures))
-    (move-found (args .block .now) (c .before .before .before .before .before .before .before .before .before .before .before .before .before .before .before .before .pre .0) (args .row) (args .kind) sought (args .ranks .now) (args .spot .state) (args .spot .place) (c .before .before .before .before .before .before .before .before .before .rank-at .result) p here (own at p fits is) right
+    (move-found (args .block .now) (pre .0) (args .row) (args .kind) sought (args .ranks .now) (args .spot .state) (args .spot .place) (c .before .before .before .before .before .before .before .before .before .rank-at .result) p here (own at p fits is) right
     (D.truth (c .before .before .before .before .before .before .before .before .claims .ensures) (not-false _ (c .before .before .before .before .before .before .before .if1 .left))) (c .before .before .before .before .before .before .if2 .left) (numberIn (args .ways .now) (args .spot .state) true (c .before .before .before .before .loop .k))
-    (line-first (Useful (args .block .now) (args .row) (args .spot .state)) (GoodBy (args .block .now) (args .row) (args .ranks .now) (args .kind) (c .before .before .before .before .before .before .before .before .before .rank-at .result) p) (c .before .before .before .before .before .before .before .before .before .before .before .before .before .before .before .before .pre .1 .0 .1 .states (args .spot .state) (c .before .before .before .before .before .before .before .before .before .before .before .before .before .before .before .before .pre .1 .1 .0) .lines true)
-    (good-useful (args .block .now) (c .before .before .before .before .before .before .before .before .before .before .before .before .before .before .before .before .pre .0) (args .row) (args .kind) sought (args .ranks .now) (args .spot .state) (args .spot .place) (c .before .before .before .before .before .before .before .before .before .rank-at .result) p here) (c .before .before .before .before .loop .k) (within ((c .before .before .before))) (c .before .before .before .before .loop .inv .1 p here) (D.truth (c .before .before .is-good .ensures p here) (c .before .if3 .taken))))
+    (line-first (Useful (args .block .now) (args .row) (args .spot .state)) (GoodBy (args .block .now) (args .row) (args .ranks .now) (args .kind) (c .before .before .before .before .before .before .before .before .before .rank-at .result) p) (pre .1 .0 .1 .states (args .spot .state) (pre .1 .1 .0) .lines true)
+    (good-useful (args .block .now) (pre .0) (args .row) (args .kind) sought (args .ranks .now) (args .spot .state) (args .spot .place) (c .before .before .before .before .before .before .before .before .before .rank-at .result) p here) (c .before .before .before .before .loop .k) (within ((c .before .before .before))) (c .before .before .before .before .loop .inv .1 p here) (D.truth (c .before .before .is-good .ensures p here) (c .before .if3 .taken))))
 
 add-k : tie.Need-add-k Inv-loop μ-loop
 add-k c = omega arith
@@ -107,22 +115,24 @@ loop-less : tie.Need-loop-less Inv-loop μ-loop
 loop-less c = omega (arith, c .before .before .loop-test .taken)
 
 loop-again : tie.Need-loop-again Inv-loop μ-loop
-loop-again c = (
-  omega (arith, c .before .before .loop-test .taken),
-  λ p here. none-more (λ j. GoodBy (c .before .before .before .before .before .before .before .before .before .before .before .before .before .before .before .args .block .now) (c .before .before .before .before .before .before .before .before .before .before .before .before .before .before .before .args .row) (c .before .before .before .before .before .before .before .before .before .before .before .before .before .before .before .args .ranks .now) (c .before .before .before .before .before .before .before .before .before .before .before .before .before .before .before .args .kind) (c .before .before .before .before .before .before .before .before .rank-at .result) p (numberIn (c .before .before .before .before .before .before .before .before .before .before .before .before .before .before .before .args .ways .now) (c .before .before .before .before .before .before .before .before .before .before .before .before .before .before .before .args .spot .state) true j)) (c .before .before .before .loop .k) (c .before .before .before .loop .inv .1 p here) (D.falsity (c .before .is-good .ensures p here) (c .if3 .left)),
-)
+loop-again c =
+    let args = c .before .before .before .before .before .before .before .before .before .before .before .before .before .before .before .args in (
+      omega (arith, c .before .before .loop-test .taken),
+      λ p here. none-more (λ j. GoodBy (args .block .now) (args .row) (args .ranks .now) (args .kind) (c .before .before .before .before .before .before .before .before .rank-at .result) p (numberIn (args .ways .now) (args .spot .state) true j)) (c .before .before .before .loop .k) (c .before .before .before .loop .inv .1 p here) (D.falsity (c .before .is-good .ensures p here) (c .if3 .left)),
+    )
 
 returns-4 : tie.Need-returns-4 Inv-loop μ-loop
 returns-4 c right ranked p fits is =
+    let pre = c .before .before .before .before .before .before .before .before .before .before .before .before .before .pre in
     let args = c .before .before .before .before .before .before .before .before .before .before .before .before .before .args in
     let at = (c .before .before .before .before .before .before) in
-    let sought = c .before .before .before .before .before .before .before .before .before .before .before .before .before .pre .1 .0 .0 in
+    let sought = pre .1 .0 .0 in
     let here = placed at p fits is in
     let own-rank = c .before .before .before .before .before .before .rank-at .result in
-    absurd (move-exists (args .block .now) (c .before .before .before .before .before .before .before .before .before .before .before .before .before .pre .0) (args .row) (args .kind) sought (args .ranks .now) (args .spot .state) (args .spot .place) own-rank p here (own at p fits is) right
+    absurd (move-exists (args .block .now) (pre .0) (args .row) (args .kind) sought (args .ranks .now) (args .spot .state) (args .spot .place) own-rank p here (own at p fits is) right
     (D.truth (c .before .before .before .before .before .claims .ensures) (not-false _ (c .before .before .before .before .if1 .left))) (c .before .before .before .if2 .left) ranked
-    (line-none (Useful (args .block .now) (args .row) (args .spot .state)) (GoodBy (args .block .now) (args .row) (args .ranks .now) (args .kind) own-rank p) (c .before .before .before .before .before .before .before .before .before .before .before .before .before .pre .1 .0 .1 .states (args .spot .state) (c .before .before .before .before .before .before .before .before .before .before .before .before .before .pre .1 .1 .0) .lines true)
-    (good-useful (args .block .now) (c .before .before .before .before .before .before .before .before .before .before .before .before .before .pre .0) (args .row) (args .kind) sought (args .ranks .now) (args .spot .state) (args .spot .place) own-rank p here)
+    (line-none (Useful (args .block .now) (args .row) (args .spot .state)) (GoodBy (args .block .now) (args .row) (args .ranks .now) (args .kind) own-rank p) (pre .1 .0 .1 .states (args .spot .state) (pre .1 .1 .0) .lines true)
+    (good-useful (args .block .now) (pre .0) (args .row) (args .kind) sought (args .ranks .now) (args .spot .state) (args .spot .place) own-rank p here)
     (λ j small. c .before .loop .inv .1 p here j (omega (arith, c .loop-test .left, c .before .before .count .ensures)))))
 
 pub move-at-spec : {M : Type 1} → statement M

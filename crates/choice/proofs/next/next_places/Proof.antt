@@ -17,11 +17,16 @@ abbrev μ-loop : tie.MeasureT-loop
 μ-loop block row ways s ranks₀ c x₀ ranks x = c - x
 
 loop-holds : tie.Need-loop-holds Inv-loop μ-loop
-loop-holds c = (omega arith, places-first (c .before .before .before .args .s) (c .before .before .before .args .row .places) (c .before .before .before .pre .1 .1 .1), refl)
+loop-holds c =
+    let args = c .before .before .before .args in
+    (omega arith, places-first (args .s) (args .row .places) (c .before .before .before .pre .1 .1 .1), refl)
 
 -- the position is within the buffer
 inside : (c : tie.In-loop Inv-loop μ-loop) → c .before .before .before .before .before .args .s * c .before .before .before .before .before .args .row .places + c .before .loop .x < 6144
-inside c = number-inside (c .before .before .before .before .before .args .block .now) (c .before .before .before .before .before .pre .0) (c .before .before .before .before .before .args .row) (c .before .before .before .before .before .pre .1 .0 .0) (c .before .before .before .before .before .args .s) (c .before .loop .x) (c .before .before .before .before .before .pre .1 .1 .0) (c .loop-test .taken)
+inside c =
+    let args = c .before .before .before .before .before .args in
+    let pre = c .before .before .before .before .before .pre in
+    number-inside (args .block .now) (pre .0) (args .row) (pre .1 .0 .0) (args .s) (c .before .loop .x) (pre .1 .1 .0) (c .loop-test .taken)
 
 mul-set-rank : tie.Need-mul-set-rank Inv-loop μ-loop
 mul-set-rank c = record { fits = omega (arith, inside ((c .before))) }
@@ -43,14 +48,17 @@ loop-less c = omega (arith, c .before .before .before .before .before .loop-test
 
 loop-again : tie.Need-loop-again Inv-loop μ-loop
 loop-again c =
+    let args = c .before .before .before .before .before .before .before .before .before .before .args in
     let put = c .before .before .set-rank .ensures in
-    (omega (arith, c .before .before .before .before .before .loop-test .taken), places-next (c .before .before .before .before .before .before .before .before .before .before .args .s) (c .before .before .before .before .before .before .before .before .before .before .args .row .places) (c .before .before .before .before .before .before .loop .x) (c .before .before .before .next-rank .result) (c .before .before .before .before .before .before .loop .inv .1) put (c .before .before .before .next-rank .ensures .0), put .kept ∙ c .before .before .before .before .before .before .loop .inv .2)
+    (omega (arith, c .before .before .before .before .before .loop-test .taken), places-next (args .s) (args .row .places) (c .before .before .before .before .before .before .loop .x) (c .before .before .before .next-rank .result) (c .before .before .before .before .before .before .loop .inv .1) put (c .before .before .before .next-rank .ensures .0), put .kept ∙ c .before .before .before .before .before .before .loop .inv .2)
 
 same-length : tie.Need-same-length Inv-loop μ-loop
 same-length c = c .before .loop .inv .2
 
 returns : tie.Need-returns Inv-loop μ-loop
-returns c = (places-all (c .before .before .before .before .before .args .s) (c .before .before .before .before .before .args .row .places) (c .before .loop .x) (omega (arith, c .loop-test .left, c .before .loop .inv .0)) (c .before .loop .inv .1), c .before .loop .inv .2)
+returns c =
+    let args = c .before .before .before .before .before .args in
+    (places-all (args .s) (args .row .places) (c .before .loop .x) (omega (arith, c .loop-test .left, c .before .loop .inv .0)) (c .before .loop .inv .1), c .before .loop .inv .2)
 
 pub next-places-spec : {M : Type 1} → statement M
 next-places-spec =

@@ -68,10 +68,11 @@ loop-less : tie.Need-loop-less Inv-loop μ-loop
 loop-less c = omega (arith, c .before .before .before .loop-test .taken)
 
 loop-again : tie.Need-loop-again Inv-loop μ-loop
-loop-again c = (
-  omega (arith, c .before .before .before .loop-test .taken),
-  λ p here. none-more (λ j. Affordable (arenaOf (c .before .before .before .before .before .before .before .before .args .block .now) (c .before .before .before .before .before .before .before .before .args .row .index)) p (numberIn (c .before .before .before .before .before .before .before .before .args .ways .now) (c .before .before .before .before .before .before .before .before .args .spot .state) true j)) (c .before .before .before .before .loop .k) (c .before .before .before .before .loop .inv .1 p here) (rw (c .enum-told2 .given .1) at (c .before .before .lands .ensures) p here),
-)
+loop-again c =
+    let args = c .before .before .before .before .before .before .before .before .args in (
+      omega (arith, c .before .before .before .loop-test .taken),
+      λ p here. none-more (λ j. Affordable (arenaOf (args .block .now) (args .row .index)) p (numberIn (args .ways .now) (args .spot .state) true j)) (c .before .before .before .before .loop .k) (c .before .before .before .before .loop .inv .1 p here) (rw (c .enum-told2 .given .1) at (c .before .before .lands .ensures) p here),
+    )
 
 returns-2 : tie.Need-returns-2 Inv-loop μ-loop
 returns-2 c =

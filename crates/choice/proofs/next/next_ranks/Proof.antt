@@ -25,9 +25,11 @@ slice-aggregate-next-states c = search needs
 
 next-states-requires : tie.Need-next-states-requires
 next-states-requires c κs =
+    let args = c .before .before .before .before .before .before .before .before .before .before .before .before .args in
+    let pre = c .before .before .before .before .before .before .before .before .before .before .before .before .pre in
     let row = c .before .before .before .before .before .before .before .before .before .row-of in
     let zeros = c .before .before .before .before .zeros in
-    (c .before .before .before .before .before .before .before .before .before .before .before .before .pre .0, ((row .ensures .0, row .ensures .2, c .before .before .before .before .before .before .before .list-row .ensures, zeros .kept .0 ∙ c .before .before .before .before .before .before .before .before .before .before .before .before .pre .1 .2), words-none (c .before .before .before .before .before .before .before .before .before .before .before .before .args .ranks .now) (zeros .last .0) (zeros .ensures) (NextRight (c .before .before .before .before .before .before .before .before .before .before .before .before .args .block .now) (row .result .index) (row .result .set))))
+    (pre .0, ((row .ensures .0, row .ensures .2, c .before .before .before .before .before .before .before .list-row .ensures, zeros .kept .0 ∙ pre .1 .2), words-none (args .ranks .now) (zeros .last .0) (zeros .ensures) (NextRight (args .block .now) (row .result .index) (row .result .set))))
 
 same-length : tie.Need-same-length
 same-length c = search needs

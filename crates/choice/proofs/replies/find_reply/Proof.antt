@@ -13,11 +13,11 @@ use Rattle.turns.specs.Rules.{ReplyTo}
 use Rattle.turns.proofs.Opponents.{next-small}
 use Rattle.ways.specs.Landing.{Leaves}
 use Rattle.ways.specs.Lines.{countIn, numberIn}
-use Rattle.ways.proofs.Leading.{reply-joint, reply-inside, listable-small}
+use Rattle.ways.proofs.Leading.{reply-joint, reply-inside}
 use Rattle.choice.specs.Choices.{CountersBy}
 use Rattle.choice.specs.Kinds.{CounterBy}
 use Rattle.choice.proofs.Replying.{counters-here, here-counters}
-use Rattle.choice.proofs.Searching.{none-more, line-first, line-none}
+use Rattle.choice.proofs.Searching.{joint-number, none-more, line-first, line-none}
 use Rattle.choice.proofs.replies.find_reply.Statement.{statement}
 use Rattle.choice.proofs.replies.find_reply.Tie as tie
 
@@ -58,7 +58,9 @@ module _ (start : tie.Start Inv-loop μ-loop) (k : ℕ) (small : k < countIn (st
   state-fits = next-small (start .args .block .now) (start .pre .0) (start .args .row .index) (start .pre .1 .0 .0 .inside) (start .pre .1 .0 .0 .strategic) (start .args .step .state) (start .args .step .number) r (start .pre .1 .1 .0) (start .pre .1 .1 .1) reply
 
 number-requires : tie.Need-number-requires Inv-loop μ-loop
-number-requires c κs = (c .before .before .before .before .before .before .pre .1 .0 .1 .long, state-small (c .before .before .before .before .before .before), omega (arith, within (c), c .before .before .before .before .before .before .pre .1 .0 .1 .states (c .before .before .before .before .before .before .args .step .state) (c .before .before .before .before .before .before .pre .1 .1 .0) .lines false .few))
+number-requires c κs =
+    let pre = c .before .before .before .before .before .before .pre in
+    (pre .1 .0 .1 .long, state-small (c .before .before .before .before .before .before), omega (arith, within (c), pre .1 .0 .1 .states (c .before .before .before .before .before .before .args .step .state) (pre .1 .1 .0) .lines false .few))
 
 add-next : tie.Need-add-next Inv-loop μ-loop
 add-next c = record { fits = omega (arith, c .before .number .ensures, sum-fits (c .before .before .before .before .before .before .before .before) (c .before .before .before .loop .k) (within ((c .before .before)))) }
@@ -68,10 +70,14 @@ next-requires c κs = (c .before .before .before .before .before .before .before
 
 -- where the reply that is tried leads
 leads : (c : tie.After-next Inv-loop μ-loop) → c .next .result ≡ L.next (c .before .before .before .before .before .before .before .before .before .args .block .now) (c .before .before .before .before .before .before .before .before .before .args .step .state) (c .before .before .before .before .before .before .before .before .before .args .step .number + numberIn (c .before .before .before .before .before .before .before .before .before .args .ways .now) (c .before .before .before .before .before .before .before .before .before .args .step .state) false (c .before .before .before .before .loop .k))
-leads c = c .next .ensures ∙ ap (λ (r : ℕ). L.next (c .before .before .before .before .before .before .before .before .before .args .block .now) (c .before .before .before .before .before .before .before .before .before .args .step .state) (c .before .before .before .before .before .before .before .before .before .args .step .number + r)) (c .before .before .number .ensures)
+leads c =
+    let args = c .before .before .before .before .before .before .before .before .before .args in
+    c .next .ensures ∙ ap (λ (r : ℕ). L.next (args .block .now) (args .step .state) (args .step .number + r)) (c .before .before .number .ensures)
 
 spot-fits : (c : tie.After-next Inv-loop μ-loop) → c .next .result * c .before .before .before .before .before .before .before .before .before .args .row .places + c .before .before .before .before .before .before .before .before .before .args .step .place < 6144
-spot-fits c = subst (λ (q : ℕ). q * c .before .before .before .before .before .before .before .before .before .args .row .places + c .before .before .before .before .before .before .before .before .before .args .step .place < 6144) (sym (leads c)) (inside (c .before .before .before .before .before .before .before .before .before) (c .before .before .before .before .loop .k) (within ((c .before .before .before))))
+spot-fits c =
+    let args = c .before .before .before .before .before .before .before .before .before .args in
+    subst (λ (q : ℕ). q * args .row .places + args .step .place < 6144) (sym (leads c)) (inside (c .before .before .before .before .before .before .before .before .before) (c .before .before .before .before .loop .k) (within ((c .before .before .before))))
 
 mul-rank-at : tie.Need-mul-rank-at Inv-loop μ-loop
 mul-rank-at c = record { fits = omega (arith, spot-fits (c)) }
@@ -88,7 +94,9 @@ counters-requires c κs = omega (arith, leads ((c .before .before)), state-fits 
 -- the test is about the reply's own state and rank
 tested : (c : tie.After-counters Inv-loop μ-loop) → CounterBy (c .before .before .before .before .before .before .before .before .before .before .before .before .args .aim .kind) (c .before .before .before .before .before .before .before .before .before .before .before .before .args .row .set) (c .before .before .before .before .before .before .before .before .before .before .before .before .args .aim .own) (c .before .before .before .next .result) (c .before .rank-at .result)
     ≡ CounterBy (c .before .before .before .before .before .before .before .before .before .before .before .before .args .aim .kind) (c .before .before .before .before .before .before .before .before .before .before .before .before .args .row .set) (c .before .before .before .before .before .before .before .before .before .before .before .before .args .aim .own) (L.next (c .before .before .before .before .before .before .before .before .before .before .before .before .args .block .now) (c .before .before .before .before .before .before .before .before .before .before .before .before .args .step .state) (c .before .before .before .before .before .before .before .before .before .before .before .before .args .step .number + numberIn (c .before .before .before .before .before .before .before .before .before .before .before .before .args .ways .now) (c .before .before .before .before .before .before .before .before .before .before .before .before .args .step .state) false (c .before .before .before .before .before .before .before .loop .k))) (rankIn (c .before .before .before .before .before .before .before .before .before .before .before .before .args .ranks .now) (L.next (c .before .before .before .before .before .before .before .before .before .before .before .before .args .block .now) (c .before .before .before .before .before .before .before .before .before .before .before .before .args .step .state) (c .before .before .before .before .before .before .before .before .before .before .before .before .args .step .number + numberIn (c .before .before .before .before .before .before .before .before .before .before .before .before .args .ways .now) (c .before .before .before .before .before .before .before .before .before .before .before .before .args .step .state) false (c .before .before .before .before .before .before .before .loop .k)) * c .before .before .before .before .before .before .before .before .before .before .before .before .args .row .places + c .before .before .before .before .before .before .before .before .before .before .before .before .args .step .place))
-tested c = ap (CounterBy (c .before .before .before .before .before .before .before .before .before .before .before .before .args .aim .kind) (c .before .before .before .before .before .before .before .before .before .before .before .before .args .row .set) (c .before .before .before .before .before .before .before .before .before .before .before .before .args .aim .own) (c .before .before .before .next .result)) (c .before .rank-at .ensures .0) ∙ ap (λ (q : ℕ). CounterBy (c .before .before .before .before .before .before .before .before .before .before .before .before .args .aim .kind) (c .before .before .before .before .before .before .before .before .before .before .before .before .args .row .set) (c .before .before .before .before .before .before .before .before .before .before .before .before .args .aim .own) q (rankIn (c .before .before .before .before .before .before .before .before .before .before .before .before .args .ranks .now) (q * c .before .before .before .before .before .before .before .before .before .before .before .before .args .row .places + c .before .before .before .before .before .before .before .before .before .before .before .before .args .step .place))) (leads ((c .before .before .before)))
+tested c =
+    let args = c .before .before .before .before .before .before .before .before .before .before .before .before .args in
+    ap (CounterBy (args .aim .kind) (args .row .set) (args .aim .own) (c .before .before .before .next .result)) (c .before .rank-at .ensures .0) ∙ ap (λ (q : ℕ). CounterBy (args .aim .kind) (args .row .set) (args .aim .own) q (rankIn (args .ranks .now) (q * args .row .places + args .step .place))) (leads ((c .before .before .before)))
 
 -- the replies that are tried, from a position that the move is made from
 module _ (c : tie.At-loop Inv-loop μ-loop) (p : Position) (is-state : p .state ≡ c .before .before .before .before .before .args .step .state) (leaves : Leaves (arenaOf (c .before .before .before .before .before .args .block .now) (c .before .before .before .before .before .args .row .index)) p (c .before .before .before .before .before .args .step .number) (c .before .before .before .before .before .args .step .place)) where
@@ -114,7 +122,7 @@ returns c =
           (λ j less. none-so-far ((c .before .before .before .before .before .before .before .before)) p is-state leaves j less (omega arith))
           (counters-here (args .block .now) (pre .0) (args .row) (pre .1 .0 .0) (args .ranks .now) (args .aim .kind) (args .aim .own) (args .step .state) (args .step .number) (args .step .place) (pre .1 .1) p is-state leaves (numberIn (args .ways .now) (args .step .state) false k) (reply (c .before .before .before .before .before .before .before .before .before .before .before .before .before) k small)
           (transport (tested ((c .before))) (D.truth (c .before .counters .ensures) (c .if1 .taken))))),
-      omega (arith, c .before .before .before .before .before .before .number .ensures, listable-small (args .block .now) (pre .0) (args .row) (pre .1 .0 .0) (args .step .state) false (numberIn (args .ways .now) (args .step .state) false k) (reply (c .before .before .before .before .before .before .before .before .before .before .before .before .before) k small)),
+      omega (arith, c .before .before .before .before .before .before .number .ensures, joint-number (args .block .now) (pre .0) (numberIn (args .ways .now) (args .step .state) false k) (reply (c .before .before .before .before .before .before .before .before .before .before .before .before .before) k small .0)),
     )
 
 add-k : tie.Need-add-k Inv-loop μ-loop
@@ -124,17 +132,19 @@ loop-less : tie.Need-loop-less Inv-loop μ-loop
 loop-less c = omega (arith, c .before .before .before .before .before .before .before .loop-test .taken)
 
 loop-again : tie.Need-loop-again Inv-loop μ-loop
-loop-again c = (
-  omega (arith, c .before .before .before .before .before .before .before .loop-test .taken),
-  none-more (λ j. CounterBy (c .before .before .before .before .before .before .before .before .before .before .before .before .before .args .aim .kind) (c .before .before .before .before .before .before .before .before .before .before .before .before .before .args .row .set) (c .before .before .before .before .before .before .before .before .before .before .before .before .before .args .aim .own) (L.next (c .before .before .before .before .before .before .before .before .before .before .before .before .before .args .block .now) (c .before .before .before .before .before .before .before .before .before .before .before .before .before .args .step .state) (c .before .before .before .before .before .before .before .before .before .before .before .before .before .args .step .number + numberIn (c .before .before .before .before .before .before .before .before .before .before .before .before .before .args .ways .now) (c .before .before .before .before .before .before .before .before .before .before .before .before .before .args .step .state) false j)) (rankIn (c .before .before .before .before .before .before .before .before .before .before .before .before .before .args .ranks .now) (L.next (c .before .before .before .before .before .before .before .before .before .before .before .before .before .args .block .now) (c .before .before .before .before .before .before .before .before .before .before .before .before .before .args .step .state) (c .before .before .before .before .before .before .before .before .before .before .before .before .before .args .step .number + numberIn (c .before .before .before .before .before .before .before .before .before .before .before .before .before .args .ways .now) (c .before .before .before .before .before .before .before .before .before .before .before .before .before .args .step .state) false j) * c .before .before .before .before .before .before .before .before .before .before .before .before .before .args .row .places + c .before .before .before .before .before .before .before .before .before .before .before .before .before .args .step .place))) (c .before .before .before .before .before .before .before .before .loop .k) (c .before .before .before .before .before .before .before .before .loop .inv .1)
-      (λ aim. D.falsity (c .before .counters .ensures) (c .if1 .left) (transport (sym (tested ((c .before)))) aim)),
-)
+loop-again c =
+    let args = c .before .before .before .before .before .before .before .before .before .before .before .before .before .args in (
+      omega (arith, c .before .before .before .before .before .before .before .loop-test .taken),
+      none-more (λ j. CounterBy (args .aim .kind) (args .row .set) (args .aim .own) (L.next (args .block .now) (args .step .state) (args .step .number + numberIn (args .ways .now) (args .step .state) false j)) (rankIn (args .ranks .now) (L.next (args .block .now) (args .step .state) (args .step .number + numberIn (args .ways .now) (args .step .state) false j) * args .row .places + args .step .place))) (c .before .before .before .before .before .before .before .before .loop .k) (c .before .before .before .before .before .before .before .before .loop .inv .1)
+          (λ aim. D.falsity (c .before .counters .ensures) (c .if1 .left) (transport (sym (tested ((c .before)))) aim)),
+    )
 
 returns-2 : tie.Need-returns-2 Inv-loop μ-loop
 returns-2 c =
+    let pre = c .before .before .before .before .before .before .pre in
     let args = c .before .before .before .before .before .before .args in (
       λ p fits is-state leaves k counter. absurd (line-none (ReplyTo (args .block .now) (args .row .index) (args .step .state)) (Counters ((c .before)) p is-state leaves)
-          (c .before .before .before .before .before .before .pre .1 .0 .1 .states (args .step .state) (c .before .before .before .before .before .before .pre .1 .1 .0) .lines false) (listed ((c .before)) p is-state leaves)
+          (pre .1 .0 .1 .states (args .step .state) (pre .1 .1 .0) .lines false) (listed ((c .before)) p is-state leaves)
           (λ j small. none-so-far ((c .before)) p is-state leaves j (omega (arith, c .loop-test .left, c .before .before .count .ensures)) small) k counter),
       omega arith,
     )

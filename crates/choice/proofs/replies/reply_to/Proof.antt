@@ -9,24 +9,30 @@ kind-requires : tie.Need-kind-requires
 kind-requires c κs = let pre = c .before .before .before .pre in (pre .0 .sized .bytes, omega (arith, pre .1 .0 .0 .inside, pre .0 .sized .rows-fit))
 
 failed-requires : tie.Need-failed-requires
-failed-requires c κs = omega (arith, c .before .before .before .before .pre .1 .1 .0 .0 .0, c .before .before .before .before .pre .0 .sized .states-fit)
+failed-requires c κs =
+    let pre = c .before .before .before .before .pre in
+    omega (arith, pre .1 .1 .0 .0 .0, pre .0 .sized .states-fit)
 
 returns : tie.Need-returns
-returns c = (
-  λ p fits is-state leaves allowed own-is. reply-failed (c .before .before .before .before .before .before .args .block .now) (c .before .before .before .before .before .before .pre .0) (c .before .before .before .before .before .before .args .row) (c .before .before .before .before .before .before .pre .1 .0 .0) (c .before .before .before .before .before .before .args .ranks .now) (c .before .before .kind .result) (c .before .before .before .before .before .before .args .own) (c .before .before .before .before .before .before .args .step .state) (c .before .before .before .before .before .before .args .step .number) (c .before .before .before .before .before .before .args .step .place) (c .before .before .before .before .before .before .pre .1 .1 .0 .0) p is-state leaves
-      fits (c .before .before .kind .ensures) own-is (c .before .before .before .before .before .before .args .right) (c .before .before .before .before .before .before .pre .1 .1 .0 .1) (c .before .before .before .before .before .before .pre .1 .1 .1) allowed (D.truth (c .before .failed .ensures) (c .if1 .taken)),
-  omega arith,
-)
+returns c =
+    let args = c .before .before .before .before .before .before .args in
+    let pre = c .before .before .before .before .before .before .pre in (
+      λ p fits is-state leaves allowed own-is. reply-failed (args .block .now) (pre .0) (args .row) (pre .1 .0 .0) (args .ranks .now) (c .before .before .kind .result) (args .own) (args .step .state) (args .step .number) (args .step .place) (pre .1 .1 .0 .0) p is-state leaves
+          fits (c .before .before .kind .ensures) own-is (args .right) (pre .1 .1 .0 .1) (pre .1 .1 .1) allowed (D.truth (c .before .failed .ensures) (c .if1 .taken)),
+      omega arith,
+    )
 
 find-reply-requires : tie.Need-find-reply-requires
 find-reply-requires c κs = let pre = c .before .before .before .before .before .before .pre in (pre .0, (pre .1 .0, pre .1 .1 .0 .0))
 
 returns-2 : tie.Need-returns-2
-returns-2 c = (
-  λ p fits is-state leaves allowed own-is. reply-found (c .before .before .before .before .before .before .before .args .block .now) (c .before .before .before .before .before .before .before .pre .0) (c .before .before .before .before .before .before .before .args .row) (c .before .before .before .before .before .before .before .pre .1 .0 .0) (c .before .before .before .before .before .before .before .args .ranks .now) (c .before .before .before .kind .result) (c .before .before .before .before .before .before .before .args .own) (c .before .before .before .before .before .before .before .args .step .state) (c .before .before .before .before .before .before .before .args .step .number) (c .before .before .before .before .before .before .before .args .step .place) (c .before .before .before .before .before .before .before .pre .1 .1 .0 .0) p is-state leaves
-      fits (c .before .before .before .kind .ensures) own-is (c .before .before .before .before .before .before .before .args .right) (c .before .before .before .before .before .before .before .pre .1 .1 .0 .1) (c .before .before .before .before .before .before .before .pre .1 .1 .1) allowed (D.falsity (c .before .before .failed .ensures) (c .before .if1 .left)) (c .find-reply .result) (c .find-reply .ensures .0 p fits is-state leaves),
-  c .find-reply .ensures .1,
-)
+returns-2 c =
+    let args = c .before .before .before .before .before .before .before .args in
+    let pre = c .before .before .before .before .before .before .before .pre in (
+      λ p fits is-state leaves allowed own-is. reply-found (args .block .now) (pre .0) (args .row) (pre .1 .0 .0) (args .ranks .now) (c .before .before .before .kind .result) (args .own) (args .step .state) (args .step .number) (args .step .place) (pre .1 .1 .0 .0) p is-state leaves
+          fits (c .before .before .before .kind .ensures) own-is (args .right) (pre .1 .1 .0 .1) (pre .1 .1 .1) allowed (D.falsity (c .before .before .failed .ensures) (c .before .if1 .left)) (c .find-reply .result) (c .find-reply .ensures .0 p fits is-state leaves),
+      c .find-reply .ensures .1,
+    )
 
 pub reply-to-spec : {M : Type 1} → statement M
 reply-to-spec =

@@ -29,7 +29,9 @@ within : (c : tie.In-loop Inv-loop μ-loop) → c .before .loop .k < countIn (c 
 within c = omega (arith, c .loop-test .taken, c .before .before .count .ensures)
 
 number-requires : tie.Need-number-requires Inv-loop μ-loop
-number-requires c κs = (c .before .before .before .before .before .pre .1 .0 .2 .long, state-small (c .before .before .before .before .before), omega (arith, within (c), c .before .before .before .before .before .pre .1 .0 .2 .states (c .before .before .before .before .before .args .spot .state) (c .before .before .before .before .before .pre .1 .1 .0) .lines true .few))
+number-requires c κs =
+    let pre = c .before .before .before .before .before .pre in
+    (pre .1 .0 .2 .long, state-small (c .before .before .before .before .before), omega (arith, within (c), pre .1 .0 .2 .states (c .before .before .before .before .before .args .spot .state) (pre .1 .1 .0) .lines true .few))
 
 lands-requires : tie.Need-lands-requires Inv-loop μ-loop
 lands-requires c κs = let pre = c .before .before .before .before .before .before .before .pre in (pre .0, ((pre .1 .0 .0, pre .1 .0 .2), (pre .1 .1 .0, pre .1 .1 .1, within ((c .before .before)))))
@@ -49,10 +51,11 @@ loop-less : tie.Need-loop-less Inv-loop μ-loop
 loop-less c = omega (arith, c .before .before .loop-test .taken)
 
 loop-again : tie.Need-loop-again Inv-loop μ-loop
-loop-again c = (
-  omega (arith, c .before .before .loop-test .taken),
-  none-more (λ j. numberIn (c .before .before .before .before .before .before .before .args .ways .now) (c .before .before .before .before .before .before .before .args .spot .state) true j ≡ c .before .before .before .before .before .before .before .args .m) (c .before .before .before .loop .k) (c .before .before .before .loop .inv .1) (λ e. c .if1 .left (c .before .number .ensures ∙ e)),
-)
+loop-again c =
+    let args = c .before .before .before .before .before .before .before .args in (
+      omega (arith, c .before .before .loop-test .taken),
+      none-more (λ j. numberIn (args .ways .now) (args .spot .state) true j ≡ args .m) (c .before .before .before .loop .k) (c .before .before .before .loop .inv .1) (λ e. c .if1 .left (c .before .number .ensures ∙ e)),
+    )
 
 returns-2 : tie.Need-returns-2 Inv-loop μ-loop
 returns-2 c p here allowed =

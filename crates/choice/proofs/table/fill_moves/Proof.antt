@@ -29,21 +29,23 @@ slice-aggregate-fill-states c = search needs
 
 fill-states-requires : tie.Need-fill-states-requires
 fill-states-requires c κs =
+    let args = c .before .before .before .before .before .before .before .before .before .before .before .before .before .before .args in
+    let pre = c .before .before .before .before .before .before .before .before .before .before .before .before .before .before .pre in
     let row = c .before .before .before .before .before .before .before .before .before .row-of in
     let zeros = c .before .before .before .before .zeros in (
-      c .before .before .before .before .before .before .before .before .before .before .before .before .before .before .pre .0,
+      pre .0,
       (
         (
           record {
             playable = row .ensures .0;
-            kind-is = c .before .before .before .before .before .before .before .before .before .before .kind .ensures ∙ ap (L.kind (c .before .before .before .before .before .before .before .before .before .before .before .before .before .before .args .block .now)) (sym (row .ensures .1));
+            kind-is = c .before .before .before .before .before .before .before .before .before .before .kind .ensures ∙ ap (L.kind (args .block .now)) (sym (row .ensures .1));
             into-is = row .ensures .2;
           },
           c .before .before .before .before .before .before .before .list-row .ensures,
-          c .before .before .before .before .before .before .before .before .before .before .before .before .before .before .pre .1 .1 .0,
-          zeros .kept .0 ∙ c .before .before .before .before .before .before .before .before .before .before .before .before .before .before .pre .1 .1 .1,
+          pre .1 .1 .0,
+          zeros .kept .0 ∙ pre .1 .1 .1,
         ),
-        bytes-none (c .before .before .before .before .before .before .before .before .before .before .before .before .before .before .args .moves .now) (zeros .last .0) (zeros .ensures) (MoveRight (c .before .before .before .before .before .before .before .before .before .before .before .before .before .before .args .block .now) (row .result .index) (row .result .set) (c .before .before .before .before .before .before .before .before .before .before .before .before .before .before .args .ranks .now)),
+        bytes-none (args .moves .now) (zeros .last .0) (zeros .ensures) (MoveRight (args .block .now) (row .result .index) (row .result .set) (args .ranks .now)),
       ),
     )
 

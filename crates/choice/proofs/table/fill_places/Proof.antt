@@ -16,14 +16,19 @@ abbrev μ-loop : tie.MeasureT-loop
 μ-loop block row ways ranks kind s moves₀ c x₀ moves x = c - x
 
 loop-holds : tie.Need-loop-holds Inv-loop μ-loop
-loop-holds c = (omega arith, places-first (c .before .before .before .before .args .s) (c .before .before .before .before .args .row .places) (c .before .before .before .before .pre .1 .1 .1), refl)
+loop-holds c =
+    let args = c .before .before .before .before .args in
+    (omega arith, places-first (args .s) (args .row .places) (c .before .before .before .before .pre .1 .1 .1), refl)
 
 move-at-requires : tie.Need-move-at-requires Inv-loop μ-loop
 move-at-requires c κs = let pre = c .before .before .before .before .before .before .pre in (pre .0, ((pre .1 .0 .0, pre .1 .0 .1, pre .1 .0 .2), (pre .1 .1 .0, c .loop-test .taken)))
 
 -- the position is within the buffer
 inside : (c : tie.In-loop Inv-loop μ-loop) → c .before .before .before .before .before .before .args .s * c .before .before .before .before .before .before .args .row .places + c .before .loop .x < 6144
-inside c = number-inside (c .before .before .before .before .before .before .args .block .now) (c .before .before .before .before .before .before .pre .0) (c .before .before .before .before .before .before .args .row) (c .before .before .before .before .before .before .pre .1 .0 .0 .playable) (c .before .before .before .before .before .before .args .s) (c .before .loop .x) (c .before .before .before .before .before .before .pre .1 .1 .0) (c .loop-test .taken)
+inside c =
+    let args = c .before .before .before .before .before .before .args in
+    let pre = c .before .before .before .before .before .before .pre in
+    number-inside (args .block .now) (pre .0) (args .row) (pre .1 .0 .0 .playable) (args .s) (c .before .loop .x) (pre .1 .1 .0) (c .loop-test .taken)
 
 mul-moves : tie.Need-mul-moves Inv-loop μ-loop
 mul-moves c = record { fits = omega (arith, inside ((c .before))) }
@@ -50,7 +55,9 @@ same-length : tie.Need-same-length Inv-loop μ-loop
 same-length c = c .before .loop .inv .2
 
 returns : tie.Need-returns Inv-loop μ-loop
-returns c = (places-all (c .before .before .before .before .before .before .args .s) (c .before .before .before .before .before .before .args .row .places) (c .before .loop .x) (omega (arith, c .loop-test .left, c .before .loop .inv .0)) (c .before .loop .inv .1), c .before .loop .inv .2)
+returns c =
+    let args = c .before .before .before .before .before .before .args in
+    (places-all (args .s) (args .row .places) (c .before .loop .x) (omega (arith, c .loop-test .left, c .before .loop .inv .0)) (c .before .loop .inv .1), c .before .loop .inv .2)
 
 pub fill-places-spec : {M : Type 1} → statement M
 fill-places-spec =
