@@ -16,7 +16,7 @@ use Rattle.game.proofs.Numbers.Decide.{eq?}
 use Rattle.choice.specs.Kinds.{byStrategy, ClaimsBy, MetBy, AimBy, CounterBy, FailedBy}
 
 -- for a kind that is neither next nor always
-pub until-stands : (k : ℕ) (A B C : Type 0) → (k ≡ 3 → ⊥) → (k ≡ 4 → ⊥) → byStrategy k A B C ≡ C
+pub until-stands {ℓ} : {X : Type ℓ} (k : ℕ) (A B C : X) → (k ≡ 3 → ⊥) → (k ≡ 4 → ⊥) → byStrategy k A B C ≡ C
 until-stands k A B C n₃ n₄ = ap (λ (t : Bool). cond t A (cond (eqb k 4) B C)) (ne-eqb k 3 n₃) ∙ ap (λ (t : Bool). cond t B C) (ne-eqb k 4 n₄)
 
 -- a test of what stands for the kind

@@ -3,4 +3,4 @@ pub mod kinds;
 pub mod moves;
 pub mod next;
 pub mod replies;
-pub mod table;
+pub mod tables;

@@ -6,6 +6,8 @@ use turns::sizes;
 use ways::landing;
 use ways::landing::Landing;
 use ways::lines;
+use ways::listing;
+use ways::rows;
 use ways::rows::Row;
 use ways::rows::Spot;
 use ways::worst;
@@ -18,11 +20,11 @@ ghost use lib.ListN.{length};
 ghost use Rattle.block.specs.Decide.{Decides};
 ghost use Rattle.block.specs.Layout as L;
 ghost use Rattle.block.specs.Valid.{Valid};
-ghost use Rattle.game.specs.Position.{Position};
+ghost use Rattle.game.specs.Position.{Position, stockPlaces};
 ghost use Rattle.game.specs.Model.{arenaOf};
 ghost use Rattle.turns.specs.Sizes.{roomBytes};
 ghost use Rattle.ways.specs.Landing.{Made};
-ghost use Rattle.ways.specs.Lines.{countIn, numberIn};
+ghost use Rattle.ways.specs.Lines.{waysBytes, countIn, numberIn};
 ghost use Rattle.ways.specs.Listing.{Listed, LeadsInto};
 ghost use Rattle.ways.specs.Places.{PlacedAt};
 ghost use Rattle.choice.specs.Choices.{Sought, AimedFrom, GoodBy};
@@ -113,4 +115,29 @@ pub fn move_at(block: &[u8], row: Row, ways: &[u8], ranks: &[u8], spot: Spot, ki
         }
     }
     sizes::NO_MOVE
+}
+
+// Lists row i, whose left row has the set left, for its moves: in a next row those that lead into the set.
+pub fn list_moves(block: &[u8], i: usize, left: usize, ways: &mut [u8]) -> Row
+    requires { ⌜ Valid (now block) ⌝ }
+    requires { ⌜ (i < L.rows (now block)) × L.Strategic (L.kind (now block) i) × (length (now ways) ≡ waysBytes) ⌝ }
+    ensures { λ r. ⌜ Sought (now (block .entry)) r (L.kind (now (block .entry)) i) × Listed (now (block .entry)) r (now (ways .exit)) × (r .index ≡ i) × (r .set ≡ left) ⌝ }
+{
+    let soon = layout::kind(block, i) == layout::NEXT_KIND;
+    let row = rows::row_of(block, i, soon, left);
+    listing::list_row(block, row, ways);
+    row
+}
+
+// The same move at a position of row i, listed for it.
+pub fn find_move(block: &[u8], i: usize, left: usize, ranks: &[u8], spot: Spot) -> u8
+    requires { ⌜ Valid (now block) ⌝ }
+    requires { ⌜ (i < L.rows (now block)) × L.Strategic (L.kind (now block) i) × (roomBytes ≤ length (now ranks)) ⌝ }
+    requires { ⌜ (spot .state < L.states (now block)) × (spot .place < stockPlaces (arenaOf (now block) i)) ⌝ }
+    ensures { λ m. ⌜ MoveRight (now (block .entry)) i left (now (ranks .entry)) (spot .state * stockPlaces (arenaOf (now (block .entry)) i) + spot .place) m ⌝ }
+{
+    let mut ways = [0u8; lines::WAYS_BYTES];
+    let row = list_moves(block, i, left, &mut ways);
+    let kind = layout::kind(block, i);
+    move_at(block, row, &ways, ranks, spot, kind)
 }

@@ -17,7 +17,7 @@ use Rattle.turns.specs.Sizes.{setsBytes, roomBytes, movesBytes}
 use Rattle.turns.specs.Buffers.{rankIn, wordIn}
 use Rattle.game.specs.Model.{RowSet, WonSet, arenaOf}
 use Rattle.game.specs.Demand.{TableOf}
-use Rattle.solver.specs.Tables.{tableIn}
+use Rattle.choice.specs.Tables.{tableIn}
 
 -- the conditions that the label call refuses: the block's, and under 1 also sets or a room of another length
 abbrev pub Unlabelled : Block → List ℕ → List ℕ → Refusal → Type 0

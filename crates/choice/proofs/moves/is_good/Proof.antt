@@ -46,7 +46,7 @@ aimed-requires c κs =
           (
             pre .1 .1 .0,
             subst (MoveOf (structureOf (args .block .now)) (coalitionOf (args .block .now) (args .row .index)) (args .spot .state)) is (useful (c .before .before .before .before .before .before .before .before) .0 .0),
-            omega (arith, landed ((c .before .before)) .0, pre .1 .0 .0 .playable .places-are),
+            omega (arith, landed (c .before .before) .0, pre .1 .0 .0 .playable .places-are),
           ),
           λ soon. subst (λ (m : ℕ). LeadsInto (args .block .now) (args .row .index) (args .spot .state) m (args .row .set)) is
               (useful (c .before .before .before .before .before .before .before .before) .1 (pre .1 .0 .0 .into-is ∙ eq-eqb (args .aim .kind) 3 soon)),
@@ -64,7 +64,7 @@ returns c p placed =
     let b = args .block .now in
     let sought = pre .1 .0 .0 in
     let m = numberIn (args .ways .now) (args .spot .state) true (args .k) in
-    let (paid, leaves) = landed ((c .before .before .before)) .1 p placed in
+    let (paid, leaves) = landed (c .before .before .before) .1 p placed in
     let aimed = subst (λ (n : ℕ). AimedFrom b (args .row) (args .ranks .now) (args .aim .kind) (args .aim .own) (args .spot .state) n (c .before .before .before .y .given .0 .0) (c .aimed .result)) (c .before .number .ensures) (c .aimed .ensures) in
     D.same (aimed p (placed .fits) (placed .state) leaves) (λ h. (move-here b (pre .0) (args .row) (sought .playable) (args .spot .state) (args .spot .place) m p placed (useful (c .before .before .before .before .before .before .before .before .before) .0 .0) paid, h)) (λ good. good .1)
 

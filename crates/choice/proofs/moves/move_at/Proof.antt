@@ -55,7 +55,7 @@ returns : tie.Need-returns Inv-loop μ-loop
 returns c right ranked p fits is =
     let args = c .before .before .before .before .before .before .before .before .before .args in
     let pre = c .before .before .before .before .before .before .before .before .before .pre in
-    let at = (c .before .before) in
+    let at = c .before .before in
     move-lost (args .block .now) (pre .0) (args .row) (args .kind) (pre .1 .0 .0) (args .ranks .now) (args .spot .state) (args .spot .place) (c .before .before .rank-at .result) p (placed at p fits is) (own at p fits is) right
     (D.falsity (c .before .claims .ensures) (not-true _ (c .if1 .taken)))
 
@@ -63,7 +63,7 @@ returns-2 : tie.Need-returns-2 Inv-loop μ-loop
 returns-2 c right ranked p fits is =
     let args = c .before .before .before .before .before .before .before .before .before .before .args in
     let pre = c .before .before .before .before .before .before .before .before .before .before .pre in
-    let at = (c .before .before .before) in
+    let at = c .before .before .before in
     move-met (args .block .now) (pre .0) (args .row) (args .kind) (pre .1 .0 .0) (args .ranks .now) (args .spot .state) (args .spot .place) (c .before .before .before .rank-at .result) p (placed at p fits is) (own at p fits is) right
     (D.truth (c .before .before .claims .ensures) (not-false _ (c .before .if1 .left))) (c .if2 .taken)
 
@@ -86,27 +86,27 @@ is-good-requires c κs = let pre = c .before .before .before .before .before .be
 number-requires : tie.Need-number-requires Inv-loop μ-loop
 number-requires c κs =
     let pre = c .before .before .before .before .before .before .before .before .before .before .before .before .before .before .before .pre in
-    (pre .1 .0 .1 .long, state-small (c .before .before .before .before .before .before .before .before .before .before .before .before .before .before .before), omega (arith, within ((c .before .before)), pre .1 .0 .1 .states (c .before .before .before .before .before .before .before .before .before .before .before .before .before .before .before .args .spot .state) (pre .1 .1 .0) .lines true .few))
+    (pre .1 .0 .1 .long, state-small (c .before .before .before .before .before .before .before .before .before .before .before .before .before .before .before), omega (arith, within (c .before .before), pre .1 .0 .1 .states (c .before .before .before .before .before .before .before .before .before .before .before .before .before .before .before .args .spot .state) (pre .1 .1 .0) .lines true .few))
 
 cast-result : tie.Need-cast-result Inv-loop μ-loop
 cast-result c =
     let args = c .before .before .before .before .before .before .before .before .before .before .before .before .before .before .before .before .args in
     let pre = c .before .before .before .before .before .before .before .before .before .before .before .before .before .before .before .before .pre in
-    let way = pre .1 .0 .1 .states (args .spot .state) (pre .1 .1 .0) .lines true .only (c .before .before .before .before .loop .k) (within ((c .before .before .before))) in
+    let way = pre .1 .0 .1 .states (args .spot .state) (pre .1 .1 .0) .lines true .only (c .before .before .before .before .loop .k) (within (c .before .before .before)) in
     record { fits = omega (arith, c .number .ensures, joint-number (args .block .now) (pre .0) (numberIn (args .ways .now) (args .spot .state) true (c .before .before .before .before .loop .k)) (way .0 .0 .0)) }
 
 returns-3 : tie.Need-returns-3 Inv-loop μ-loop
 returns-3 c right ranked p fits is =
     let pre = c .before .before .before .before .before .before .before .before .before .before .before .before .before .before .before .before .pre in
     let args = c .before .before .before .before .before .before .before .before .before .before .before .before .before .before .before .before .args in
-    let at = (c .before .before .before .before .before .before .before .before .before) in
+    let at = c .before .before .before .before .before .before .before .before .before in
     let sought = pre .1 .0 .0 in
     let here = placed at p fits is in
     subst (MoveFor (args .block .now) (args .row .index) (args .row .set) right (args .ranks .now) p) (sym (c .number .ensures))
     (move-found (args .block .now) (pre .0) (args .row) (args .kind) sought (args .ranks .now) (args .spot .state) (args .spot .place) (c .before .before .before .before .before .before .before .before .before .rank-at .result) p here (own at p fits is) right
     (D.truth (c .before .before .before .before .before .before .before .before .claims .ensures) (not-false _ (c .before .before .before .before .before .before .before .if1 .left))) (c .before .before .before .before .before .before .if2 .left) (numberIn (args .ways .now) (args .spot .state) true (c .before .before .before .before .loop .k))
     (line-first (Useful (args .block .now) (args .row) (args .spot .state)) (GoodBy (args .block .now) (args .row) (args .ranks .now) (args .kind) (c .before .before .before .before .before .before .before .before .before .rank-at .result) p) (pre .1 .0 .1 .states (args .spot .state) (pre .1 .1 .0) .lines true)
-    (good-useful (args .block .now) (pre .0) (args .row) (args .kind) sought (args .ranks .now) (args .spot .state) (args .spot .place) (c .before .before .before .before .before .before .before .before .before .rank-at .result) p here) (c .before .before .before .before .loop .k) (within ((c .before .before .before))) (c .before .before .before .before .loop .inv .1 p here) (D.truth (c .before .before .is-good .ensures p here) (c .before .if3 .taken))))
+    (good-useful (args .block .now) (pre .0) (args .row) (args .kind) sought (args .ranks .now) (args .spot .state) (args .spot .place) (c .before .before .before .before .before .before .before .before .before .rank-at .result) p here) (c .before .before .before .before .loop .k) (within (c .before .before .before)) (c .before .before .before .before .loop .inv .1 p here) (D.truth (c .before .before .is-good .ensures p here) (c .before .if3 .taken))))
 
 add-k : tie.Need-add-k Inv-loop μ-loop
 add-k c = omega arith
@@ -125,7 +125,7 @@ returns-4 : tie.Need-returns-4 Inv-loop μ-loop
 returns-4 c right ranked p fits is =
     let pre = c .before .before .before .before .before .before .before .before .before .before .before .before .before .pre in
     let args = c .before .before .before .before .before .before .before .before .before .before .before .before .before .args in
-    let at = (c .before .before .before .before .before .before) in
+    let at = c .before .before .before .before .before .before in
     let sought = pre .1 .0 .0 in
     let here = placed at p fits is in
     let own-rank = c .before .before .before .before .before .before .rank-at .result in

@@ -29,16 +29,16 @@ inside c =
     number-inside (args .block .now) (pre .0) (args .row) (pre .1 .0 .0) (args .s) (c .before .loop .x) (pre .1 .1 .0) (c .loop-test .taken)
 
 mul-set-rank : tie.Need-mul-set-rank Inv-loop μ-loop
-mul-set-rank c = record { fits = omega (arith, inside ((c .before))) }
+mul-set-rank c = record { fits = omega (arith, inside (c .before)) }
 
 add-set-rank : tie.Need-add-set-rank Inv-loop μ-loop
-add-set-rank c = record { fits = omega (arith, inside ((c .before))) }
+add-set-rank c = record { fits = omega (arith, inside (c .before)) }
 
 next-rank-requires : tie.Need-next-rank-requires Inv-loop μ-loop
 next-rank-requires c κs = let pre = c .before .before .before .before .before .before .pre in (pre .0, ((pre .1 .0 .0, pre .1 .0 .1, pre .1 .0 .2), (pre .1 .1 .0, c .before .loop-test .taken)))
 
 set-rank-requires : tie.Need-set-rank-requires Inv-loop μ-loop
-set-rank-requires c κs = (omega (arith, inside ((c .before .before)), c .before .before .before .loop .inv .2, c .before .before .before .before .before .before .before .pre .1 .0 .3), c .next-rank .ensures .1)
+set-rank-requires c κs = (omega (arith, inside (c .before .before), c .before .before .before .loop .inv .2, c .before .before .before .before .before .before .before .pre .1 .0 .3), c .next-rank .ensures .1)
 
 add-x : tie.Need-add-x Inv-loop μ-loop
 add-x c = omega (arith, c .before .before .before .before .before .loop-test .taken)

@@ -50,7 +50,7 @@ returns : tie.Need-returns Inv-loop μ-loop
 returns c =
     let args = c .before .before .before .before .before .before .before .before .args in
     let pre = c .before .before .before .before .before .before .before .before .pre in
-    let useful = pre .1 .0 .2 .states (args .spot .state) (pre .1 .1 .0) .lines true .only (c .before .before .before .before .loop .k) (within ((c .before .before .before))) in
+    let useful = pre .1 .0 .2 .states (args .spot .state) (pre .1 .1 .0) .lines true .only (c .before .before .before .before .loop .k) (within (c .before .before .before)) in
     let lands = rw (c .enum-told .given .1) at (c .before .before .lands .ensures) in (
       λ p fits is.
           let here = placed (c .before .before .before .before .before .before .before .before) p fits is in

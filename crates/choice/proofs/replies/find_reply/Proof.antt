@@ -63,10 +63,10 @@ number-requires c κs =
     (pre .1 .0 .1 .long, state-small (c .before .before .before .before .before .before), omega (arith, within (c), pre .1 .0 .1 .states (c .before .before .before .before .before .before .args .step .state) (pre .1 .1 .0) .lines false .few))
 
 add-next : tie.Need-add-next Inv-loop μ-loop
-add-next c = record { fits = omega (arith, c .before .number .ensures, sum-fits (c .before .before .before .before .before .before .before .before) (c .before .before .before .loop .k) (within ((c .before .before)))) }
+add-next c = record { fits = omega (arith, c .before .number .ensures, sum-fits (c .before .before .before .before .before .before .before .before) (c .before .before .before .loop .k) (within (c .before .before))) }
 
 next-requires : tie.Need-next-requires Inv-loop μ-loop
-next-requires c κs = (c .before .before .before .before .before .before .before .before .pre .0 .sized .bytes, (state-small (c .before .before .before .before .before .before .before .before), omega (arith, c .before .number .ensures, sum-fits (c .before .before .before .before .before .before .before .before) (c .before .before .before .loop .k) (within ((c .before .before))))))
+next-requires c κs = (c .before .before .before .before .before .before .before .before .pre .0 .sized .bytes, (state-small (c .before .before .before .before .before .before .before .before), omega (arith, c .before .number .ensures, sum-fits (c .before .before .before .before .before .before .before .before) (c .before .before .before .loop .k) (within (c .before .before)))))
 
 -- where the reply that is tried leads
 leads : (c : tie.After-next Inv-loop μ-loop) → c .next .result ≡ L.next (c .before .before .before .before .before .before .before .before .before .args .block .now) (c .before .before .before .before .before .before .before .before .before .args .step .state) (c .before .before .before .before .before .before .before .before .before .args .step .number + numberIn (c .before .before .before .before .before .before .before .before .before .args .ways .now) (c .before .before .before .before .before .before .before .before .before .args .step .state) false (c .before .before .before .before .loop .k))
@@ -77,26 +77,26 @@ leads c =
 spot-fits : (c : tie.After-next Inv-loop μ-loop) → c .next .result * c .before .before .before .before .before .before .before .before .before .args .row .places + c .before .before .before .before .before .before .before .before .before .args .step .place < 6144
 spot-fits c =
     let args = c .before .before .before .before .before .before .before .before .before .args in
-    subst (λ (q : ℕ). q * args .row .places + args .step .place < 6144) (sym (leads c)) (inside (c .before .before .before .before .before .before .before .before .before) (c .before .before .before .before .loop .k) (within ((c .before .before .before))))
+    subst (λ (q : ℕ). q * args .row .places + args .step .place < 6144) (sym (leads c)) (inside (c .before .before .before .before .before .before .before .before .before) (c .before .before .before .before .loop .k) (within (c .before .before .before)))
 
 mul-rank-at : tie.Need-mul-rank-at Inv-loop μ-loop
 mul-rank-at c = record { fits = omega (arith, spot-fits (c)) }
 
 add-rank-at : tie.Need-add-rank-at Inv-loop μ-loop
-add-rank-at c = record { fits = omega (arith, spot-fits ((c .before))) }
+add-rank-at c = record { fits = omega (arith, spot-fits (c .before)) }
 
 rank-at-requires : tie.Need-rank-at-requires Inv-loop μ-loop
-rank-at-requires c κs = omega (arith, spot-fits ((c .before)), c .before .before .before .before .before .before .before .before .before .before .pre .1 .0 .2)
+rank-at-requires c κs = omega (arith, spot-fits (c .before), c .before .before .before .before .before .before .before .before .before .before .pre .1 .0 .2)
 
 counters-requires : tie.Need-counters-requires Inv-loop μ-loop
-counters-requires c κs = omega (arith, leads ((c .before .before)), state-fits (c .before .before .before .before .before .before .before .before .before .before .before) (c .before .before .before .before .before .before .loop .k) (within ((c .before .before .before .before .before))))
+counters-requires c κs = omega (arith, leads (c .before .before), state-fits (c .before .before .before .before .before .before .before .before .before .before .before) (c .before .before .before .before .before .before .loop .k) (within (c .before .before .before .before .before)))
 
 -- the test is about the reply's own state and rank
 tested : (c : tie.After-counters Inv-loop μ-loop) → CounterBy (c .before .before .before .before .before .before .before .before .before .before .before .before .args .aim .kind) (c .before .before .before .before .before .before .before .before .before .before .before .before .args .row .set) (c .before .before .before .before .before .before .before .before .before .before .before .before .args .aim .own) (c .before .before .before .next .result) (c .before .rank-at .result)
     ≡ CounterBy (c .before .before .before .before .before .before .before .before .before .before .before .before .args .aim .kind) (c .before .before .before .before .before .before .before .before .before .before .before .before .args .row .set) (c .before .before .before .before .before .before .before .before .before .before .before .before .args .aim .own) (L.next (c .before .before .before .before .before .before .before .before .before .before .before .before .args .block .now) (c .before .before .before .before .before .before .before .before .before .before .before .before .args .step .state) (c .before .before .before .before .before .before .before .before .before .before .before .before .args .step .number + numberIn (c .before .before .before .before .before .before .before .before .before .before .before .before .args .ways .now) (c .before .before .before .before .before .before .before .before .before .before .before .before .args .step .state) false (c .before .before .before .before .before .before .before .loop .k))) (rankIn (c .before .before .before .before .before .before .before .before .before .before .before .before .args .ranks .now) (L.next (c .before .before .before .before .before .before .before .before .before .before .before .before .args .block .now) (c .before .before .before .before .before .before .before .before .before .before .before .before .args .step .state) (c .before .before .before .before .before .before .before .before .before .before .before .before .args .step .number + numberIn (c .before .before .before .before .before .before .before .before .before .before .before .before .args .ways .now) (c .before .before .before .before .before .before .before .before .before .before .before .before .args .step .state) false (c .before .before .before .before .before .before .before .loop .k)) * c .before .before .before .before .before .before .before .before .before .before .before .before .args .row .places + c .before .before .before .before .before .before .before .before .before .before .before .before .args .step .place))
 tested c =
     let args = c .before .before .before .before .before .before .before .before .before .before .before .before .args in
-    ap (CounterBy (args .aim .kind) (args .row .set) (args .aim .own) (c .before .before .before .next .result)) (c .before .rank-at .ensures .0) ∙ ap (λ (q : ℕ). CounterBy (args .aim .kind) (args .row .set) (args .aim .own) q (rankIn (args .ranks .now) (q * args .row .places + args .step .place))) (leads ((c .before .before .before)))
+    ap (CounterBy (args .aim .kind) (args .row .set) (args .aim .own) (c .before .before .before .next .result)) (c .before .rank-at .ensures .0) ∙ ap (λ (q : ℕ). CounterBy (args .aim .kind) (args .row .set) (args .aim .own) q (rankIn (args .ranks .now) (q * args .row .places + args .step .place))) (leads (c .before .before .before))
 
 -- the replies that are tried, from a position that the move is made from
 module _ (c : tie.At-loop Inv-loop μ-loop) (p : Position) (is-state : p .state ≡ c .before .before .before .before .before .args .step .state) (leaves : Leaves (arenaOf (c .before .before .before .before .before .args .block .now) (c .before .before .before .before .before .args .row .index)) p (c .before .before .before .before .before .args .step .number) (c .before .before .before .before .before .args .step .place)) where
@@ -115,13 +115,13 @@ returns c =
     let args = c .before .before .before .before .before .before .before .before .before .before .before .before .before .args in
     let pre = c .before .before .before .before .before .before .before .before .before .before .before .before .before .pre in
     let k = c .before .before .before .before .before .before .before .before .loop .k in
-    let small = within ((c .before .before .before .before .before .before .before)) in
+    let small = within (c .before .before .before .before .before .before .before) in
     let line = pre .1 .0 .1 .states (args .step .state) (pre .1 .1 .0) .lines false in (
-      λ p fits is-state leaves _ _. subst (Smallest (Counters ((c .before .before .before .before .before .before .before .before)) p is-state leaves)) (sym (c .before .before .before .before .before .before .number .ensures))
-          (line-first (ReplyTo (args .block .now) (args .row .index) (args .step .state)) (Counters ((c .before .before .before .before .before .before .before .before)) p is-state leaves) line (listed ((c .before .before .before .before .before .before .before .before)) p is-state leaves) k small
-          (λ j less. none-so-far ((c .before .before .before .before .before .before .before .before)) p is-state leaves j less (omega arith))
+      λ p fits is-state leaves _ _. subst (Smallest (Counters (c .before .before .before .before .before .before .before .before) p is-state leaves)) (sym (c .before .before .before .before .before .before .number .ensures))
+          (line-first (ReplyTo (args .block .now) (args .row .index) (args .step .state)) (Counters (c .before .before .before .before .before .before .before .before) p is-state leaves) line (listed (c .before .before .before .before .before .before .before .before) p is-state leaves) k small
+          (λ j less. none-so-far (c .before .before .before .before .before .before .before .before) p is-state leaves j less (omega arith))
           (counters-here (args .block .now) (pre .0) (args .row) (pre .1 .0 .0) (args .ranks .now) (args .aim .kind) (args .aim .own) (args .step .state) (args .step .number) (args .step .place) (pre .1 .1) p is-state leaves (numberIn (args .ways .now) (args .step .state) false k) (reply (c .before .before .before .before .before .before .before .before .before .before .before .before .before) k small)
-          (transport (tested ((c .before))) (D.truth (c .before .counters .ensures) (c .if1 .taken))))),
+          (transport (tested (c .before)) (D.truth (c .before .counters .ensures) (c .if1 .taken))))),
       omega (arith, c .before .before .before .before .before .before .number .ensures, joint-number (args .block .now) (pre .0) (numberIn (args .ways .now) (args .step .state) false k) (reply (c .before .before .before .before .before .before .before .before .before .before .before .before .before) k small .0)),
     )
 
@@ -136,16 +136,16 @@ loop-again c =
     let args = c .before .before .before .before .before .before .before .before .before .before .before .before .before .args in (
       omega (arith, c .before .before .before .before .before .before .before .loop-test .taken),
       none-more (λ j. CounterBy (args .aim .kind) (args .row .set) (args .aim .own) (L.next (args .block .now) (args .step .state) (args .step .number + numberIn (args .ways .now) (args .step .state) false j)) (rankIn (args .ranks .now) (L.next (args .block .now) (args .step .state) (args .step .number + numberIn (args .ways .now) (args .step .state) false j) * args .row .places + args .step .place))) (c .before .before .before .before .before .before .before .before .loop .k) (c .before .before .before .before .before .before .before .before .loop .inv .1)
-          (λ aim. D.falsity (c .before .counters .ensures) (c .if1 .left) (transport (sym (tested ((c .before)))) aim)),
+          (λ aim. D.falsity (c .before .counters .ensures) (c .if1 .left) (transport (sym (tested (c .before))) aim)),
     )
 
 returns-2 : tie.Need-returns-2 Inv-loop μ-loop
 returns-2 c =
     let pre = c .before .before .before .before .before .before .pre in
     let args = c .before .before .before .before .before .before .args in (
-      λ p fits is-state leaves k counter. absurd (line-none (ReplyTo (args .block .now) (args .row .index) (args .step .state)) (Counters ((c .before)) p is-state leaves)
-          (pre .1 .0 .1 .states (args .step .state) (pre .1 .1 .0) .lines false) (listed ((c .before)) p is-state leaves)
-          (λ j small. none-so-far ((c .before)) p is-state leaves j (omega (arith, c .loop-test .left, c .before .before .count .ensures)) small) k counter),
+      λ p fits is-state leaves k counter. absurd (line-none (ReplyTo (args .block .now) (args .row .index) (args .step .state)) (Counters (c .before) p is-state leaves)
+          (pre .1 .0 .1 .states (args .step .state) (pre .1 .1 .0) .lines false) (listed (c .before) p is-state leaves)
+          (λ j small. none-so-far (c .before) p is-state leaves j (omega (arith, c .loop-test .left, c .before .before .count .ensures)) small) k counter),
       omega arith,
     )
 

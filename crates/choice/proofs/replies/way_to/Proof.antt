@@ -34,13 +34,13 @@ number-requires c κs =
     (pre .1 .0 .2 .long, state-small (c .before .before .before .before .before), omega (arith, within (c), pre .1 .0 .2 .states (c .before .before .before .before .before .args .spot .state) (pre .1 .1 .0) .lines true .few))
 
 lands-requires : tie.Need-lands-requires Inv-loop μ-loop
-lands-requires c κs = let pre = c .before .before .before .before .before .before .before .pre in (pre .0, ((pre .1 .0 .0, pre .1 .0 .2), (pre .1 .1 .0, pre .1 .1 .1, within ((c .before .before)))))
+lands-requires c κs = let pre = c .before .before .before .before .before .before .before .pre in (pre .0, ((pre .1 .0 .0, pre .1 .0 .2), (pre .1 .1 .0, pre .1 .1 .1, within (c .before .before))))
 
 returns : tie.Need-returns Inv-loop μ-loop
 returns c =
     let args = c .before .before .before .before .before .before .before .before .args in
     let pre = c .before .before .before .before .before .before .before .before .pre in
-    let useful = pre .1 .0 .2 .states (args .spot .state) (pre .1 .1 .0) .lines true .only (c .before .before .before .before .loop .k) (within ((c .before .before .before))) in
+    let useful = pre .1 .0 .2 .states (args .spot .state) (pre .1 .1 .0) .lines true .only (c .before .before .before .before .loop .k) (within (c .before .before .before)) in
     subst (λ (m : ℕ). Makes (args .block .now) (args .row) (args .spot .state) (args .spot .place) m (c .lands .result)) (sym (c .before .before .number .ensures) ∙ c .before .if1 .taken)
     (way-makes (args .block .now) (args .row) (args .spot .state) (args .spot .place) (numberIn (args .ways .now) (args .spot .state) true (c .before .before .before .before .loop .k)) (c .lands .result) (useful .0 .0) (c .lands .ensures))
 

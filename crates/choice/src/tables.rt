@@ -3,8 +3,6 @@ use crate::moves;
 use block::fill;
 use block::layout;
 use ways::lines;
-use ways::listing;
-use ways::rows;
 use ways::rows::Row;
 use ways::rows::Spot;
 ghost use mathlib.Core.Path.{_≡_};
@@ -63,10 +61,9 @@ pub fn fill_moves(block: &[u8], i: usize, left: usize, ranks: &[u8], moves: &mut
     ensures { λ _. ⌜ ((right : ℕ) → RanksOf (now (block .entry)) i left right (now (ranks .entry)) → MovesOf (now (block .entry)) i left right (now (ranks .entry)) (now (moves .exit))) ⌝ }
     ensures { λ _. ⌜ length (now (moves .exit)) ≡ length (now (moves .entry)) ⌝ }
 {
-    let kind = layout::kind(block, i);
-    let row = rows::row_of(block, i, kind == layout::NEXT_KIND, left);
     let mut ways = [0u8; lines::WAYS_BYTES];
-    listing::list_row(block, row, &mut ways);
+    let row = moves::list_moves(block, i, left, &mut ways);
+    let kind = layout::kind(block, i);
     fill::zeros(moves, 0);
     fill_states(block, row, &ways, ranks, kind, moves);
 }

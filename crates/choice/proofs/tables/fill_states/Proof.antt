@@ -7,8 +7,8 @@ use lib.ListN.{length}
 use Rattle.block.specs.Layout as L
 use Rattle.choice.specs.Filling.{byteIn, FilledTo, MoveRight}
 use Rattle.choice.proofs.Filling.{states-first}
-use Rattle.choice.proofs.table.fill_states.Statement.{statement}
-use Rattle.choice.proofs.table.fill_states.Tie as tie
+use Rattle.choice.proofs.tables.fill_states.Statement.{statement}
+use Rattle.choice.proofs.tables.fill_states.Tie as tie
 
 abbrev Inv-loop : tie.InvT-loop
 Inv-loop block row ways ranks kind moves₀ n s₀ moves s = (s ≤ n) × FilledTo byteIn (MoveRight block (row .index) (row .set) ranks) (s * row .places) moves × (length moves ≡ length moves₀)

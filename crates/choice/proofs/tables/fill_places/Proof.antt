@@ -6,8 +6,8 @@ use lib.ListN.{length}
 use Rattle.ways.proofs.Leading.{number-inside}
 use Rattle.choice.specs.Filling.{byteIn, FilledTo, MoveRight}
 use Rattle.choice.proofs.Filling.{byte-stored, places-first, places-next, places-all}
-use Rattle.choice.proofs.table.fill_places.Statement.{statement}
-use Rattle.choice.proofs.table.fill_places.Tie as tie
+use Rattle.choice.proofs.tables.fill_places.Statement.{statement}
+use Rattle.choice.proofs.tables.fill_places.Tie as tie
 
 abbrev Inv-loop : tie.InvT-loop
 Inv-loop block row ways ranks kind s moves₀ c x₀ moves x = (x ≤ c) × FilledTo byteIn (MoveRight block (row .index) (row .set) ranks) (s * row .places + x) moves × (length moves ≡ length moves₀)
@@ -31,13 +31,13 @@ inside c =
     number-inside (args .block .now) (pre .0) (args .row) (pre .1 .0 .0 .playable) (args .s) (c .before .loop .x) (pre .1 .1 .0) (c .loop-test .taken)
 
 mul-moves : tie.Need-mul-moves Inv-loop μ-loop
-mul-moves c = record { fits = omega (arith, inside ((c .before))) }
+mul-moves c = record { fits = omega (arith, inside (c .before)) }
 
 add-moves : tie.Need-add-moves Inv-loop μ-loop
-add-moves c = record { fits = omega (arith, inside ((c .before))) }
+add-moves c = record { fits = omega (arith, inside (c .before)) }
 
 slice-write-moves : tie.Need-slice-write-moves Inv-loop μ-loop
-slice-write-moves c = omega (arith, inside ((c .before)), c .before .before .loop .inv .2, c .before .before .before .before .before .before .before .pre .1 .0 .3)
+slice-write-moves c = omega (arith, inside (c .before), c .before .before .loop .inv .2, c .before .before .before .before .before .before .before .pre .1 .0 .3)
 
 add-x : tie.Need-add-x Inv-loop μ-loop
 add-x c = omega (arith, c .before .loop-test .taken)
@@ -48,7 +48,7 @@ loop-less c = omega (arith, c .before .loop-test .taken)
 loop-again : tie.Need-loop-again Inv-loop μ-loop
 loop-again c =
     let args = c .before .before .before .before .before .before .before .args in
-    let put = byte-stored (c .before .before .loop .moves) (args .s * args .row .places + c .before .before .loop .x) (c .move-at .result) (omega (arith, inside ((c .before)), c .before .before .loop .inv .2, c .before .before .before .before .before .before .before .pre .1 .0 .3)) in
+    let put = byte-stored (c .before .before .loop .moves) (args .s * args .row .places + c .before .before .loop .x) (c .move-at .result) (omega (arith, inside (c .before), c .before .before .loop .inv .2, c .before .before .before .before .before .before .before .pre .1 .0 .3)) in
     (omega (arith, c .before .loop-test .taken), places-next (args .s) (args .row .places) (c .before .before .loop .x) (c .move-at .result) (c .before .before .loop .inv .1) put (c .move-at .ensures), put .kept ∙ c .before .before .loop .inv .2)
 
 same-length : tie.Need-same-length Inv-loop μ-loop
