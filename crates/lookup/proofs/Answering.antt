@@ -26,7 +26,7 @@ use Rattle.game.proofs.Solving.Determined.{foundMoves, moves-found}
 use Rattle.game.proofs.Local.Exist.{good-exists}
 use Rattle.game.proofs.Whole.Decided.{claims-win, wins-claimed}
 use Rattle.game.proofs.Whole.Unique.{smallest-unique}
-use Rattle.solver.specs.Rows.{ClaimsBy}
+use Rattle.choice.specs.Kinds.{ClaimsBy}
 use Rattle.solver.proofs.Labelling.{words-decided, claims-by, retold-claims, row-retold, facts-told}
 use Rattle.lookup.specs.Aims.{Stands, AimBy, Aimed, GoodBy, FoundBelow}
 use Rattle.solver.specs.Labels.{Prepared}

@@ -1,11 +1,10 @@
 -- A row's set from what the code finds: lower rows' sets, ranks, and the states in which the row is true by them. Assumes nothing.
-use mathlib.Core.Bool.{Bool, true, false, cond}
 use mathlib.Core.List.{List}
 use mathlib.Core.Logic.{_⊎_, _↔_, inl, inr}
 use mathlib.Core.Path.{_≡_, refl, sym, _∙_, ap, subst, transport}
 use Prim.Native.Nat.{ℕ, _+_, _/_, _%_, _^_, _<_}
 use native.Mathlib.Omega.{arith}
-use lib.Dec.{T, eqb, eqb→eq}
+use lib.Dec.{T, eqb→eq}
 use lib.ListN.{getD}
 use Rattle.block.specs.Decide.{Bit}
 use Rattle.block.specs.Layout as L
@@ -13,8 +12,8 @@ use Rattle.block.specs.Layout.{Block, Strategic}
 use Rattle.block.specs.Valid.{Valid}
 use Rattle.game.specs.Position.{Position, number, full}
 use Rattle.game.specs.Play.{Objective, next, always, until}
-use Rattle.game.specs.Table.{Table, never, rankAt}
-use Rattle.game.specs.Facts.{RowsDecided, Claims, Facts}
+use Rattle.game.specs.Table.{Table}
+use Rattle.game.specs.Facts.{Claims, Facts}
 use Rattle.turns.specs.Buffers.{rankIn, wordIn}
 use Rattle.game.specs.Model.{bit, byKind, RowTrue, RowSet, Says, arenaOf, objectiveOf, objectiveBy}
 use Rattle.game.proofs.Numbers.Decide.{eq?, eq-test}
@@ -24,36 +23,17 @@ use Rattle.game.proofs.Blocks.Formulas.{next-objective, always-objective, until
 use Rattle.game.proofs.Blocks.Labels.{set-tells, prop-set, not-set, or-set, table-says-set}
 use Rattle.game.proofs.Solving.Determined.{foundMoves, moves-found}
 use Rattle.solver.specs.Labels.{LowerSets, RowLabelled}
-use Rattle.solver.specs.Tables.{RanksOf}
-use Rattle.solver.specs.Rows.{ClaimsBy, TrueBy}
+use Rattle.choice.specs.Tables.{RanksOf}
+use Rattle.choice.specs.Kinds.{ClaimsBy}
+use Rattle.solver.specs.Rows.{TrueBy}
 use Rattle.solver.proofs.Words.{strategic-stands}
-use Rattle.solver.proofs.Ranking.{until-by}
-use Rattle.sweeps.proofs.Starting.{bit?}
+use Rattle.choice.proofs.ByKind.{until-stands, claims-by, words-decided}
 
 says-same : (b : Block) (w : ℕ) (Q Q′ : ℕ → Type 0) → ((s : ℕ) → s < L.states b → Q s ↔ Q′ s) → Says b w Q → Says b w Q′
 says-same b w Q Q′ same (word, (few, says)) = (word, (few, λ s l. ((λ h. same s l .0 (says s l .0 h)), λ q. says s l .1 (same s l .1 q))))
 
 along : {P Q : Type 0} → P ≡ Q → P ↔ Q
 along path = ((λ p. transport path p), λ q. transport (sym path) q)
-
--- lower rows that are told by words are decided
-pub words-decided : (b : Block) (i left right : ℕ) → RowsDecided (arenaOf b i) (objectiveBy (L.kind b i) left right)
-words-decided b i left right = go (eqb (L.kind b i) L.nextKind) (eqb (L.kind b i) L.alwaysKind)
-  where
-    go : (t u : Bool) → RowsDecided (arenaOf b i) (cond t (next (Bit left)) (cond u (always (Bit left)) (until (Bit left) (Bit right))))
-    go true u = λ q _. bit? left q
-    go false true = λ q _. bit? left q
-    go false false = ((λ q _. bit? left q), λ q _. bit? right q)
-
--- what a rank claims goes by the kind alone
-pub claims-by : (b : Block) (i left right : ℕ) (X : Table) (p : Position) → ClaimsBy (L.kind b i) (rankAt (arenaOf b i) X p) ≡ Claims (arenaOf b i) X (objectiveBy (L.kind b i) left right) p
-claims-by b i left right X p = go (eqb (L.kind b i) L.nextKind) (eqb (L.kind b i) L.alwaysKind)
-  where
-    go : (t u : Bool) → cond t (rankAt (arenaOf b i) X p ≡ 1) (cond u (rankAt (arenaOf b i) X p ≡ never) (rankAt (arenaOf b i) X p < never))
-        ≡ Claims (arenaOf b i) X (cond t (next (Bit left)) (cond u (always (Bit left)) (until (Bit left) (Bit right)))) p
-    go true u = refl
-    go false true = refl
-    go false false = refl
 
 -- the objective does not matter to a claim but by its kind
 pub retold-claims : (b : Block) (i : ℕ) (X : Table) (p : Position) {t t′ : Objective} → Retold (arenaOf b i) t t′ → Claims (arenaOf b i) X t p ≡ Claims (arenaOf b i) X t′ p
@@ -78,7 +58,7 @@ module _ (b : Block) (valid : Valid b) (i : ℕ) (inside : i < L.rows b) (left r
       go (no _) (yes e) = told _ _ (ap (λ (k : ℕ). objectiveBy k left right) e) (always-objective b (valid-proper b valid) i (valid .row-fits i inside) e) (same-always lower)
       go (no n₃) (no n₄) =
           let e : L.kind b i ≡ L.untilKind = omega (arith, strategic) in
-          told _ _ (until-by (L.kind b i) left right n₃ n₄) (until-objective b (valid-proper b valid) i (valid .row-fits i inside) e) (same-until lower (set-tells b (L.right b i) right (right-set (inr e))))
+          told _ _ (until-stands (L.kind b i) (next (Bit left)) (always (Bit left)) (until (Bit left) (Bit right)) n₃ n₄) (until-objective b (valid-proper b valid) i (valid .row-fits i inside) e) (same-until lower (set-tells b (L.right b i) right (right-set (inr e))))
 
   -- a table over the lower rows' sets is one over their truth
   pub facts-told : Strategic (L.kind b i) → (X : Table) → Facts (arenaOf b i) X (objectiveBy (L.kind b i) left right) → Facts (arenaOf b i) X (objectiveOf b i)
@@ -105,13 +85,13 @@ module _ (b : Block) (valid : Valid b) (i : ℕ) (inside : i < L.rows b) (left r
     strategic-set strategic found =
         let G = arenaOf b i in
         let t = objectiveBy (L.kind b i) left right in
-        let rows = words-decided b i left right in
+        let rows = words-decided G (L.kind b i) left right in
         let X : Table = record { rank = rankIn ranks; move = λ n. getD (foundMoves G (valid-proper b valid) t rows (rankIn ranks)) n 0 } in
         let facts = moves-found G (valid-proper b valid) t rows (rankIn ranks) (found .facts) in
         table-says-set b (valid-proper b valid) i (valid .row-fits i inside) w X strategic (facts-told strategic X facts)
         (says-same b w (TrueBy b i left right ranks) (λ s. Claims G X (objectiveOf b i) (full G s))
         (λ s _. along (strategic-stands (L.kind b i) (Prop s) (Not s) (Or s) (Claimed s) (λ e. omega (arith, strategic)) (λ e. omega (arith, strategic)) (λ e. omega (arith, strategic))
-        ∙ claims-by b i left right X (full G s) ∙ retold-claims b i X (full G s) (row-retold strategic))) word)
+        ∙ claims-by G X (L.kind b i) left right (full G s) ∙ retold-claims b i X (full G s) (row-retold strategic))) word)
 
     pub row-labelled : (Strategic (L.kind b i) → RanksOf b i left right ranks) → RowSet b i w
     row-labelled found = go (eq? (L.kind b i) L.propKind) (eq? (L.kind b i) L.notKind) (eq? (L.kind b i) L.orKind)

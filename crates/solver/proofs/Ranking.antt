@@ -1,10 +1,8 @@
 -- The ranks of a strategic row by its kind. Assumes nothing.
-use mathlib.Core.Bool.{Bool, true, false, cond}
+use mathlib.Core.Bool.{true, false}
 use mathlib.Core.List.{List}
-use mathlib.Core.Path.{_≡_, sym, _∙_, ap, subst}
+use mathlib.Core.Path.{_≡_, sym, ap, subst}
 use Prim.Native.Nat.{ℕ}
-use lib.Dec.{eqb}
-use borrow.Author.Tests.{ne-eqb}
 use Rattle.block.specs.Decide.{Bit}
 use Rattle.block.specs.Layout as L
 use Rattle.block.specs.Layout.{Block}
@@ -14,14 +12,9 @@ use Rattle.game.specs.Facts.{RankFacts}
 use Rattle.turns.specs.Buffers.{rankIn}
 use Rattle.game.specs.Model.{arenaOf, objectiveBy, Says}
 use Rattle.sweeps.specs.Solving.{Solved}
-use Rattle.solver.specs.Next.{NextRanks}
-use Rattle.solver.specs.Tables.{RanksOf}
+use Rattle.choice.specs.Tables.{RanksOf, NextRanks}
+use Rattle.choice.proofs.ByKind.{until-stands}
 use Rattle.solver.proofs.Words.{no-bits}
-
-pub until-by : (k left right : ℕ) → (k ≡ 3 → ⊥) → (k ≡ 4 → ⊥) → objectiveBy k left right ≡ until (Bit left) (Bit right)
-until-by k left right n₃ n₄ =
-    ap (λ (t : Bool). cond t (next (Bit left)) (cond (eqb k 4) (always (Bit left)) (until (Bit left) (Bit right)))) (ne-eqb k 3 n₃)
-    ∙ ap (λ (t : Bool). cond t (always (Bit left)) (until (Bit left) (Bit right))) (ne-eqb k 4 n₄)
 
 module _ (b : Block) (i left right : ℕ) (ranks : List ℕ) where
   told : (t : Objective) → objectiveBy (L.kind b i) left right ≡ t → RankFacts (arenaOf b i) t (λ p. rankIn ranks (number (arenaOf b i) p)) → RankFacts (arenaOf b i) (objectiveBy (L.kind b i) left right) (λ p. rankIn ranks (number (arenaOf b i) p))
@@ -31,7 +24,7 @@ module _ (b : Block) (i left right : ℕ) (ranks : List ℕ) where
   next-ranked e found = record { facts = told (next (Bit left)) (ap (λ (k : ℕ). objectiveBy k left right) e) (found .facts); outside = found .outside }
 
   pub until-ranked : (L.kind b i ≡ 3 → ⊥) → (L.kind b i ≡ 4 → ⊥) → Solved (arenaOf b i) true left right ranks → RanksOf b i left right ranks
-  until-ranked n₃ n₄ found = record { facts = told (until (Bit left) (Bit right)) (until-by (L.kind b i) left right n₃ n₄) (found .ranked); outside = found .outside }
+  until-ranked n₃ n₄ found = record { facts = told (until (Bit left) (Bit right)) (until-stands (L.kind b i) (next (Bit left)) (always (Bit left)) (until (Bit left) (Bit right)) n₃ n₄) (found .ranked); outside = found .outside }
 
   -- always: the opponents attack from every state, to come outside left
   pub always-ranked : L.kind b i ≡ 4 → (all fails : ℕ) → Says b all (λ s. Bit 0 s → ⊥) → Says b fails (λ s. Bit left s → ⊥) → Solved (arenaOf b i) false all fails ranks → RanksOf b i left right ranks

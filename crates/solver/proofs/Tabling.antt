@@ -2,22 +2,23 @@
 use mathlib.Core.List.{List}
 use mathlib.Core.Path.{_≡_}
 use Prim.Native.Nat.{ℕ, _<_}
-use lib.ListN.{length}
+use lib.ListN.{getD, length}
 use Rattle.block.specs.Layout as L
 use Rattle.block.specs.Layout.{Block, Strategic}
 use Rattle.block.specs.Valid.{Valid}
 use Rattle.game.specs.Facts.{Facts}
 use Rattle.game.specs.Model.{RowSet, arenaOf, objectiveBy}
 use Rattle.game.proofs.Blocks.Tables.{table-decided}
-use Rattle.solver.specs.Tables.{tableIn, RanksOf, MovesOf}
+use Rattle.choice.specs.Tables.{tableIn, RanksOf, MovesOf}
 use Rattle.turns.specs.Sizes.{roomBytes, movesBytes}
 use Rattle.solver.specs.Calls.{RowTable}
-use Rattle.solver.proofs.Labelling.{words-decided, facts-told}
+use Rattle.choice.proofs.ByKind.{words-decided}
+use Rattle.solver.proofs.Labelling.{facts-told}
 
 module _ (b : Block) (valid : Valid b) (i : ℕ) (inside : i < L.rows b) (strategic : Strategic (L.kind b i)) (left right : ℕ)
     (left-set : L.propKind < L.kind b i → RowSet b (L.left b i) left) (right-set : L.Binary (L.kind b i) → RowSet b (L.right b i) right) (ranks moves : List ℕ) where
   facts : RanksOf b i left right ranks → MovesOf b i left right ranks moves → Facts (arenaOf b i) (tableIn ranks moves) (objectiveBy (L.kind b i) left right)
-  facts ranked moved = record { ranks = ranked .facts; moves = moved .each; decided = words-decided b i left right }
+  facts ranked moved = record { ranks = ranked .facts; moves = λ p fits. moved .each p fits (λ n. getD moves n 0); decided = words-decided (arenaOf b i) (L.kind b i) left right }
 
   pub row-table : RanksOf b i left right ranks → MovesOf b i left right ranks moves → length ranks ≡ roomBytes → length moves ≡ movesBytes → RowTable b i ranks moves
   row-table ranked moved ranks-long moves-long = record {

@@ -10,10 +10,8 @@ use borrow.Author.Tests.{ne-eqb}
 use Rattle.block.specs.Decide.{Bit}
 use Rattle.block.specs.Layout as L
 use Rattle.block.specs.Layout.{Block}
-use Rattle.game.specs.Table.{never}
 use Rattle.game.specs.Model.{byKind, Says}
 use Rattle.game.proofs.Numbers.Decide.{eq?}
-use Rattle.solver.specs.Rows.{ClaimsBy}
 
 pub no-bits : (s : ℕ) → Bit 0 s → ⊥
 no-bits s h = omega (arith, h, ap (λ (x : ℕ). x % 2) (zero-div (2 ^ s)))
@@ -66,8 +64,3 @@ strategic-stands k A B C X n₀ n₁ n₂ =
     same true u = refl
     same false true = refl
     same false false = refl
-
-pub until-claims : (k rank : ℕ) → (k ≡ 3 → ⊥) → (k ≡ 4 → ⊥) → ClaimsBy k rank ≡ (rank < never)
-until-claims k rank n₃ n₄ =
-    ap (λ (t : Bool). cond t (rank ≡ 1) (cond (eqb k 4) (rank ≡ never) (rank < never))) (ne-eqb k 3 n₃)
-    ∙ ap (λ (t : Bool). cond t (rank ≡ never) (rank < never)) (ne-eqb k 4 n₄)

@@ -14,7 +14,7 @@ use Rattle.turns.specs.Sizes.{setsBytes, roomBytes, movesBytes}
 use Rattle.turns.specs.Buffers.{rankIn, wordIn}
 use Rattle.game.specs.Model.{RowSet, WonSet, arenaOf}
 use Rattle.game.specs.Demand.{TableOf}
-use Rattle.solver.specs.Tables.{tableIn}
+use Rattle.choice.specs.Tables.{tableIn}
 
 -- the block, then a row at or above F
 abbrev pub setRules : Block → ℕ → List Rule

@@ -9,7 +9,7 @@ use Rattle.block.specs.Layout.{Block}
 use Rattle.turns.specs.Buffers.{wordIn}
 use Rattle.game.specs.Model.{RowSet}
 use Rattle.solver.specs.Needs.{Names}
-use Rattle.solver.specs.Tables.{RanksOf}
+use Rattle.choice.specs.Tables.{RanksOf}
 
 -- the rows below row i have their sets
 abbrev pub LowerSets : Block → ℕ → List ℕ → Type 0

@@ -1,21 +1,14 @@
 -- When a row is true in a state, with lower rows told by their sets and a strategic row by its ranks.
-use mathlib.Core.Bool.{cond}
 use mathlib.Core.List.{List}
 use mathlib.Core.Logic.{_⊎_}
-use mathlib.Core.Path.{_≡_}
-use Prim.Native.Nat.{ℕ, _<_}
-use lib.Dec.{eqb}
+use Prim.Native.Nat.{ℕ}
 use Rattle.block.specs.Decide.{Bit}
 use Rattle.block.specs.Layout as L
 use Rattle.block.specs.Layout.{Block}
 use Rattle.game.specs.Position.{number, full}
-use Rattle.game.specs.Table.{never}
 use Rattle.turns.specs.Buffers.{rankIn}
 use Rattle.game.specs.Model.{byKind, arenaOf}
-
--- a rank says that the coalition wins, by the kind of the row
-abbrev pub ClaimsBy : ℕ → ℕ → Type 0
-ClaimsBy k rank = cond (eqb k L.nextKind) (rank ≡ 1) (cond (eqb k L.alwaysKind) (rank ≡ never) (rank < never))
+use Rattle.choice.specs.Kinds.{ClaimsBy}
 
 abbrev pub TrueBy : Block → ℕ → ℕ → ℕ → List ℕ → ℕ → Type 0
 TrueBy b i left right ranks s =

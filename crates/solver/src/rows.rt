@@ -1,10 +1,12 @@
 // The set of a row: where it is true, with lower rows told by their sets and a strategic row by its ranks.
-use crate::next;
 use block::layout;
+use choice::kinds;
+use choice::next;
 use sweeps::solve;
+use sweeps::sweep::Side;
 use turns::buffers;
 use turns::positions;
-use turns::sizes;
+use ways::rows;
 ghost use mathlib.Core.Path.{_≡_};
 ghost use Prim.Native.Nat.{ℕ, _≤_, _<_};
 ghost use lib.ListN.{length};
@@ -12,22 +14,9 @@ ghost use Rattle.block.specs.Decide.{Decides, Bit};
 ghost use Rattle.block.specs.Layout as L;
 ghost use Rattle.block.specs.Valid.{Valid};
 ghost use Rattle.game.specs.Model.{Says};
-ghost use Rattle.solver.specs.Rows.{ClaimsBy, TrueBy};
-ghost use Rattle.solver.specs.Tables.{RanksOf};
+ghost use Rattle.choice.specs.Tables.{RanksOf};
+ghost use Rattle.solver.specs.Rows.{TrueBy};
 ghost use Rattle.turns.specs.Sizes.{roomBytes};
-
-// Whether a rank says that the coalition wins.
-pub fn claims(kind: usize, rank: usize) -> bool
-    ensures { λ r. ⌜ Decides (ClaimsBy kind rank) r ⌝ }
-{
-    if kind == layout::NEXT_KIND {
-        return rank == 1;
-    }
-    if kind == layout::ALWAYS_KIND {
-        return rank == sizes::NEVER;
-    }
-    rank < sizes::NEVER
-}
 
 // Whether row i is true in state s.
 fn true_at(block: &[u8], i: usize, left: usize, right: usize, ranks: &[u8], s: usize) -> bool
@@ -45,7 +34,7 @@ fn true_at(block: &[u8], i: usize, left: usize, right: usize, ranks: &[u8], s: u
     if kind == layout::OR_KIND {
         return buffers::has_bit(left, s) || buffers::has_bit(right, s);
     }
-    claims(kind, buffers::rank_at(ranks, positions::full(block, i, s)))
+    kinds::claims(kind, buffers::rank_at(ranks, positions::full(block, i, s)))
 }
 
 // The set of row i.
@@ -94,11 +83,18 @@ pub fn rank_row(block: &[u8], i: usize, left: usize, right: usize, ranks: &mut [
         next::next_ranks(block, i, left, ranks);
         return;
     }
+    let row = rows::row_of(block, i, false, left);
     if kind == layout::ALWAYS_KIND {
-        let all = complement(block, 0);
-        let fails = complement(block, left);
-        solve::solve(block, i, all, fails, false, ranks);
+        let side = Side {
+            most: false,
+            safe: complement(block, 0),
+        };
+        solve::solve(block, row, side, complement(block, left), ranks);
         return;
     }
-    solve::solve(block, i, left, right, true, ranks);
+    let side = Side {
+        most: true,
+        safe: left,
+    };
+    solve::solve(block, row, side, right, ranks);
 }

@@ -1,10 +1,10 @@
 // The table of a strategic row: rank and move of every position.
 use crate::admit;
-use crate::choose;
 use crate::label;
 use crate::rows;
 use block::refusal::Answer;
 use block::refusal::Refusal;
+use choice::tables;
 use turns::sizes;
 ghost use mathlib.Core.Path.{_≡_};
 ghost use Prim.Native.Nat.{_<_};
@@ -26,7 +26,7 @@ fn fill_table(block: &[u8], i: usize, ranks: &mut [u8], moves: &mut [u8])
     let left = label::left_set(block, moves, i);
     let right = label::right_set(block, moves, i);
     rows::rank_row(block, i, left, right, ranks);
-    choose::fill_moves(block, i, left, ranks, moves);
+    tables::fill_moves(block, i, left, ranks, moves);
 }
 
 // The table of row i, a strategic row of a block that passes the check.

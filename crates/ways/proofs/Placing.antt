@@ -49,12 +49,16 @@ module _ (G : Arena) (s x : ℕ) (state : s < G .structure .states) (place : x <
       remainder : (q r : ℕ) → r < stockPlaces G → (q * stockPlaces G + r) % stockPlaces G ≡ r
       remainder q r h = mul-add-mod-self-right q (stockPlaces G) r ∙ mod-eq-of-lt h
 
+  -- a position with the number of a place of a state stands there
+  pub number-placed : (p : Position) → IsPosition G p → number G p ≡ s * stockPlaces G + x → PlacedAt G s x p
+  number-placed p fits e =
+      let (state, place) = one-way (p .state) (number G (stocksOf G p)) (stocks-below G p fits) (sym e ∙ state-and-stocks G p) in
+      record { fits = fits; state = state; place = place }
+
   pub place-position : (p : Position) × PlacedAt G s x p
   place-position =
       let p = positionOf G (s * stockPlaces G + x) in
-      let fits = position-fits G (s * stockPlaces G + x) inside in
-      let (state, place) = one-way (p .state) (number G (stocksOf G p)) (stocks-below G p fits) (sym (position-number G (s * stockPlaces G + x)) ∙ state-and-stocks G p) in
-      (p, record { fits = fits; state = state; place = place })
+      (p, number-placed p (position-fits G (s * stockPlaces G + x) inside) (position-number G (s * stockPlaces G + x)))
 
 -- and its number is that of the position
 pub placed-number : (G : Arena) (s x : ℕ) (p : Position) → PlacedAt G s x p → s * stockPlaces G + x ≡ number G p

@@ -9,7 +9,7 @@ use Rattle.turns.specs.Buffers.{rankIn}
 use Rattle.game.specs.Model.{arenaOf}
 use Rattle.game.proofs.Local.Same.{number-below}
 use Rattle.game.proofs.Blocks.Passing.{few-positions}
-use Rattle.solver.specs.Rows.{ClaimsBy}
+use Rattle.choice.specs.Kinds.{ClaimsBy}
 use Rattle.lookup.proofs.Answering.{side-told}
 use Rattle.lookup.proofs.place.look.Statement.{statement}
 use Rattle.lookup.proofs.place.look.Tie as tie

@@ -7,7 +7,7 @@ use lib.ListN.{length}
 use borrow.Author.Needs.{needs}
 use Rattle.block.specs.Layout as L
 use Rattle.game.specs.Model.{RowSet}
-use Rattle.solver.specs.Tables.{RanksOf}
+use Rattle.choice.specs.Tables.{RanksOf}
 use Rattle.solver.specs.Labels.{Prepared}
 use Rattle.solver.proofs.Labelling.{row-labelled}
 use Rattle.solver.proofs.label.label_row.Statement.{statement}

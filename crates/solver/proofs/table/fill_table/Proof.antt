@@ -25,8 +25,8 @@ rank-row-requires c κs = search needs
 fill-moves-requires : tie.Need-fill-moves-requires
 fill-moves-requires c κs =
     let pre = c .before .before .before .before .before .before .before .before .before .before .before .before .before .before .before .before .before .before .before .before .pre in
-    let ranks = c .before .before .before .before .rank-row in
-    (pre .0, (pre .1 .0, (omega (arith, c .before .before .before .before .rank-row .ensures .1, c .before .before .before .before .before .before .before .before .before .before .before .before .before .before .label-needed .ensures, pre .1 .1), omega (arith, c .before .before .before .before .before .before .before .before .before .before .before .before .before .before .label-needed .ensures, pre .1 .1), (c .before .before .before .before .before .before .right-set .result, ranks .ensures .0))))
+    let sets = c .before .before .before .before .before .before .before .before .before .before .before .before .before .before .label-needed .ensures in
+    (pre .0, (pre .1 .0, (omega (arith, c .before .before .before .before .rank-row .ensures .1, sets, pre .1 .1), omega (arith, sets, pre .1 .1))))
 
 same-length : tie.Need-same-length
 same-length c = search needs

@@ -1,0 +1,40 @@
+-- The rank of a position of a next row by the listed moves: those that lead into the set. Assumes nothing.
+use mathlib.Core.Bool.{true}
+use mathlib.Core.List.{List}
+use mathlib.Core.Path.{_≡_}
+use Prim.Native.Nat.{ℕ, _/_, _%_, _^_, _<_}
+use Rattle.block.specs.Decide.{Bit}
+use Rattle.block.specs.Layout as L
+use Rattle.block.specs.Layout.{Block}
+use Rattle.block.specs.Valid.{Valid}
+use Rattle.game.specs.Position.{Arena, Position, Affordable}
+use Rattle.game.specs.Facts.{CanForce, CanAnswer}
+use Rattle.game.specs.Model.{arenaOf}
+use Rattle.game.proofs.Numbers.Decide.{eq?}
+use Rattle.game.proofs.Solving.Sides.{unforced}
+use Rattle.ways.specs.Lines.{countIn, numberIn}
+use Rattle.ways.specs.Listing.{Useful, Listed}
+use Rattle.ways.specs.Places.{PlacedAt}
+use Rattle.ways.specs.Rows.{Playable}
+use Rattle.ways.specs.declared.rows.Row.{Row}
+use Rattle.ways.proofs.Leading.{ever-allowed, move-here}
+use Rattle.choice.proofs.Moving.{into-aimed, aimed-into}
+use Rattle.choice.proofs.Searching.{line-none}
+
+module _ (b : Block) (valid : Valid b) (row : Row) (playable : Playable b row) (soon : row .into ≡ true) (s x : ℕ) (p : Position) (placed : PlacedAt (arenaOf b (row .index)) s x p) where
+  abbrev G : Arena
+  G = arenaOf b (row .index)
+
+  -- a listed move that the place pays forces the set
+  pub way-forces : (m : ℕ) → Useful b row s m → Affordable G p m → CanForce G p (λ y. Bit (row .set) (y .state))
+  way-forces m useful paid =
+      let allowed = move-here b valid row playable s x m p placed (useful .0 .0) paid in
+      (m, allowed, into-aimed b valid row s m p (placed .state) (allowed .0) (useful .1 soon))
+
+  -- and where no listed move is paid, each can be answered
+  pub none-answers : (ways : List ℕ) → Listed b row ways → s < L.states b → ((k : ℕ) → k < countIn ways s true → Affordable G p (numberIn ways s true k) → ⊥) → CanAnswer G p (λ y. Bit (row .set) (y .state) → ⊥)
+  none-answers ways listed state none =
+      unforced G p (λ y. Bit (row .set) (y .state)) (λ y. eq? (row .set / 2 ^ y .state % 2) 1)
+      (λ (m, allowed, all).
+      line-none (Useful b row s) (λ n. Useful b row s n × Affordable G p n) (listed .states s state .lines true) (λ n h. h .0) (λ k small h. none k small (h .1)) m
+      ((ever-allowed b valid row playable s x m p placed allowed, λ _. aimed-into b valid row s m p (placed .state) (allowed .0) all), allowed .1))

@@ -1,0 +1,36 @@
+-- `list_moves` lists the row as its kind asks for it. Assumes nothing.
+use mathlib.Core.Path.{sym, _∙_, ap}
+use borrow.Author.Needs.{needs}
+use Rattle.block.specs.Layout as L
+use lib.Dec.{eqb}
+use Prim.Native.Nat.{ℕ}
+use Rattle.choice.proofs.moves.list_moves.Statement.{statement}
+use Rattle.choice.proofs.moves.list_moves.Tie as tie
+
+kind-requires : tie.Need-kind-requires
+kind-requires c κs = search needs
+
+row-of-requires : tie.Need-row-of-requires
+row-of-requires c κs = search needs
+
+list-row-requires : tie.Need-list-row-requires
+list-row-requires c κs = search needs
+
+same-length : tie.Need-same-length
+same-length c = search needs
+
+returns : tie.Need-returns
+returns c = (
+  record {
+    playable = c .before .before .before .before .row-of .ensures .0;
+    kind-is = ap (L.kind (c .before .before .before .before .before .before .before .before .args .block .now)) (sym (c .before .before .before .before .row-of .ensures .1));
+    into-is = c .before .before .before .before .row-of .ensures .2 ∙ ap (λ (k : ℕ). eqb k 3) (c .before .before .before .before .before .kind .ensures);
+  },
+  c .before .before .list-row .ensures,
+  c .before .before .before .before .row-of .ensures .1,
+  c .before .before .before .before .row-of .ensures .3,
+)
+
+pub list-moves-spec : {M : Type 1} → statement M
+list-moves-spec =
+    tie.close (tie.spec kind-requires row-of-requires list-row-requires same-length returns)

@@ -1,0 +1,82 @@
+// The ranks of a next row: 1 where some affordable move leads into the set whatever the reply.
+use block::fill;
+use block::layout;
+use turns::buffers;
+use turns::sizes;
+use ways::landing;
+use ways::landing::Landing;
+use ways::lines;
+use ways::listing;
+use ways::rows;
+use ways::rows::Row;
+use ways::rows::Spot;
+ghost use mathlib.Core.Bool.{true};
+ghost use mathlib.Core.Path.{_≡_};
+ghost use Prim.Native.Nat.{_+_, _*_, _<_};
+ghost use lib.ListN.{length};
+ghost use Rattle.block.specs.Layout as L;
+ghost use Rattle.block.specs.Valid.{Valid};
+ghost use Rattle.turns.specs.Buffers.{rankIn};
+ghost use Rattle.turns.specs.Sizes.{roomBytes};
+ghost use Rattle.ways.specs.Listing.{Listed};
+ghost use Rattle.ways.specs.Rows.{Playable};
+ghost use Rattle.choice.specs.Filling.{FilledTo, NextRight};
+ghost use Rattle.choice.specs.Tables.{NextRanks};
+
+// The rank of a position, where only moves into the set are listed: 1 where one of them can be paid.
+fn next_rank(block: &[u8], row: Row, ways: &[u8], spot: Spot) -> usize
+    requires { ⌜ Valid (now block) ⌝ }
+    requires { ⌜ Playable (now block) row × (row .into ≡ true) × Listed (now block) row (now ways) ⌝ }
+    requires { ⌜ (spot .state < L.states (now block)) × (spot .place < row .places) ⌝ }
+    ensures { λ v. ⌜ NextRight (now (block .entry)) (row .index) (row .set) (spot .state * row .places + spot .place) v × (v < 65536) ⌝ }
+{
+    let n = lines::count(ways, spot.state, true);
+    for k in 0..n {
+        if let Landing::At(_) = landing::lands(block, row, ways, spot, k) {
+            return 1;
+        }
+    }
+    sizes::NEVER
+}
+
+// Stores the ranks of state s, where those of the states before it are there.
+fn next_places(block: &[u8], row: Row, ways: &[u8], s: usize, ranks: &mut [u8])
+    requires { ⌜ Valid (now block) ⌝ }
+    requires { ⌜ Playable (now block) row × (row .into ≡ true) × Listed (now block) row (now ways) × (length (now ranks) ≡ roomBytes) ⌝ }
+    requires { ⌜ (s < L.states (now block)) × FilledTo rankIn (NextRight (now block) (row .index) (row .set)) (s * row .places) (now ranks) ⌝ }
+    ensures { λ _. ⌜ FilledTo rankIn (NextRight (now (block .entry)) (row .index) (row .set)) ((s + 1) * row .places) (now (ranks .exit)) ⌝ }
+    ensures { λ _. ⌜ length (now (ranks .exit)) ≡ length (now (ranks .entry)) ⌝ }
+{
+    let c = row.places;
+    for x in 0..c {
+        let spot = Spot { state: s, place: x };
+        buffers::set_rank(ranks, s * c + x, next_rank(block, row, ways, spot));
+    }
+}
+
+// Stores the ranks of all states in a buffer of zeros.
+fn next_states(block: &[u8], row: Row, ways: &[u8], ranks: &mut [u8])
+    requires { ⌜ Valid (now block) ⌝ }
+    requires { ⌜ Playable (now block) row × (row .into ≡ true) × Listed (now block) row (now ways) × (length (now ranks) ≡ roomBytes) ⌝ }
+    requires { ⌜ FilledTo rankIn (NextRight (now block) (row .index) (row .set)) 0 (now ranks) ⌝ }
+    ensures { λ _. ⌜ FilledTo rankIn (NextRight (now (block .entry)) (row .index) (row .set)) (L.states (now (block .entry)) * row .places) (now (ranks .exit)) ⌝ }
+    ensures { λ _. ⌜ length (now (ranks .exit)) ≡ length (now (ranks .entry)) ⌝ }
+{
+    let n = layout::states(block);
+    for s in 0..n {
+        next_places(block, row, ways, s, ranks);
+    }
+}
+
+// The ranks of a next row over the set: 1 where the coalition can, else 65535. Past the last position they are 0.
+pub fn next_ranks(block: &[u8], i: usize, set: usize, ranks: &mut [u8])
+    requires { ⌜ Valid (now block) ⌝ }
+    requires { ⌜ (i < L.rows (now block)) × L.Strategic (L.kind (now block) i) × (length (now ranks) ≡ roomBytes) ⌝ }
+    ensures { λ _. ⌜ NextRanks (now (block .entry)) i set (now (ranks .exit)) × (length (now (ranks .exit)) ≡ length (now (ranks .entry))) ⌝ }
+{
+    let row = rows::row_of(block, i, true, set);
+    let mut ways = [0u8; lines::WAYS_BYTES];
+    listing::list_row(block, row, &mut ways);
+    fill::zeros(ranks, 0);
+    next_states(block, row, &ways, ranks);
+}

@@ -1,0 +1,69 @@
+// The moves of a row's table, position by position.
+use crate::moves;
+use block::fill;
+use block::layout;
+use ways::lines;
+use ways::rows::Row;
+use ways::rows::Spot;
+ghost use mathlib.Core.Path.{_≡_};
+ghost use Prim.Native.Nat.{ℕ, _+_, _*_, _≤_, _<_};
+ghost use lib.ListN.{length};
+ghost use Rattle.block.specs.Layout as L;
+ghost use Rattle.block.specs.Valid.{Valid};
+ghost use Rattle.turns.specs.Sizes.{roomBytes, maxPositions};
+ghost use Rattle.ways.specs.Listing.{Listed};
+ghost use Rattle.choice.specs.Choices.{Sought};
+ghost use Rattle.choice.specs.Filling.{byteIn, FilledTo, MoveRight};
+ghost use Rattle.choice.specs.Tables.{RanksOf, MovesOf};
+
+// Stores the moves of state s, where those of the states before it are there.
+fn fill_places(
+    block: &[u8],
+    row: Row,
+    ways: &[u8],
+    ranks: &[u8],
+    kind: usize,
+    s: usize,
+    moves: &mut [u8],
+)
+    requires { ⌜ Valid (now block) ⌝ }
+    requires { ⌜ Sought (now block) row kind × Listed (now block) row (now ways) × (roomBytes ≤ length (now ranks)) × (length (now moves) ≡ maxPositions) ⌝ }
+    requires { ⌜ (s < L.states (now block)) × FilledTo byteIn (MoveRight (now block) (row .index) (row .set) (now ranks)) (s * row .places) (now moves) ⌝ }
+    ensures { λ _. ⌜ FilledTo byteIn (MoveRight (now (block .entry)) (row .index) (row .set) (now (ranks .entry))) ((s + 1) * row .places) (now (moves .exit)) ⌝ }
+    ensures { λ _. ⌜ length (now (moves .exit)) ≡ length (now (moves .entry)) ⌝ }
+{
+    let c = row.places;
+    for x in 0..c {
+        let spot = Spot { state: s, place: x };
+        moves[s * c + x] = moves::move_at(block, row, ways, ranks, spot, kind);
+    }
+}
+
+// Stores the moves of all states in a buffer of zeros.
+fn fill_states(block: &[u8], row: Row, ways: &[u8], ranks: &[u8], kind: usize, moves: &mut [u8])
+    requires { ⌜ Valid (now block) ⌝ }
+    requires { ⌜ Sought (now block) row kind × Listed (now block) row (now ways) × (roomBytes ≤ length (now ranks)) × (length (now moves) ≡ maxPositions) ⌝ }
+    requires { ⌜ FilledTo byteIn (MoveRight (now block) (row .index) (row .set) (now ranks)) 0 (now moves) ⌝ }
+    ensures { λ _. ⌜ FilledTo byteIn (MoveRight (now (block .entry)) (row .index) (row .set) (now (ranks .entry))) (L.states (now (block .entry)) * row .places) (now (moves .exit)) ⌝ }
+    ensures { λ _. ⌜ length (now (moves .exit)) ≡ length (now (moves .entry)) ⌝ }
+{
+    let n = layout::states(block);
+    for s in 0..n {
+        fill_places(block, row, ways, ranks, kind, s, moves);
+    }
+}
+
+// The moves of row i, whose left row has the set left, where its ranks are there: for the coalition the smallest good move where it wins.
+pub fn fill_moves(block: &[u8], i: usize, left: usize, ranks: &[u8], moves: &mut [u8])
+    requires { ⌜ Valid (now block) ⌝ }
+    requires { ⌜ (i < L.rows (now block)) × L.Strategic (L.kind (now block) i) ⌝ }
+    requires { ⌜ (roomBytes ≤ length (now ranks)) × (length (now moves) ≡ maxPositions) ⌝ }
+    ensures { λ _. ⌜ ((right : ℕ) → RanksOf (now (block .entry)) i left right (now (ranks .entry)) → MovesOf (now (block .entry)) i left right (now (ranks .entry)) (now (moves .exit))) ⌝ }
+    ensures { λ _. ⌜ length (now (moves .exit)) ≡ length (now (moves .entry)) ⌝ }
+{
+    let mut ways = [0u8; lines::WAYS_BYTES];
+    let row = moves::list_moves(block, i, left, &mut ways);
+    let kind = layout::kind(block, i);
+    fill::zeros(moves, 0);
+    fill_states(block, row, &ways, ranks, kind, moves);
+}
