@@ -10,8 +10,8 @@ use Rattle.block.proofs.Decide as D
 use Rattle.game.specs.Position.{Arena, Position}
 use Rattle.game.specs.Play.{Objective, next, always, until}
 use Rattle.game.specs.Table.{Table, never, rankAt, Aim, Met, Failed, CounterAim}
-use Rattle.game.specs.Facts.{Claims, RowsDecided}
-use Rattle.game.specs.Model.{objectiveBy}
+use Rattle.game.specs.Inner.Facts.{Claims, RowsDecided}
+use Rattle.game.specs.Inner.Words.{objectiveBy}
 use Rattle.game.proofs.Numbers.Decide.{eq?}
 use Rattle.choice.specs.Kinds.{byStrategy, ClaimsBy, MetBy, AimBy, CounterBy, FailedBy}
 

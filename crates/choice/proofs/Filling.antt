@@ -15,7 +15,8 @@ use Rattle.game.specs.Model.{arenaOf}
 use Rattle.game.proofs.Blocks.Passing.{states-times}
 use Rattle.game.proofs.Local.Same.{number-below}
 use Rattle.game.proofs.Numbers.Decide.{eq?}
-use Rattle.turns.specs.Buffers.{rankIn, Stored}
+use Rattle.turns.specs.Buffers.{rankIn}
+use Rattle.turns.specs.Inner.Stores.{Stored}
 use Rattle.turns.proofs.Bytes.{cleared, zero-byte}
 use Rattle.ways.specs.Rows.{Playable}
 use Rattle.ways.specs.declared.rows.Row.{Row}

@@ -8,7 +8,7 @@ use Rattle.block.specs.Layout as L
 use Rattle.block.specs.Layout.{Block}
 use Rattle.block.specs.Valid.{Valid}
 use Rattle.game.specs.Position.{Arena, Position, Affordable}
-use Rattle.game.specs.Facts.{CanForce, CanAnswer}
+use Rattle.game.specs.Inner.Facts.{CanForce, CanAnswer}
 use Rattle.game.specs.Model.{arenaOf}
 use Rattle.game.proofs.Numbers.Decide.{eq?}
 use Rattle.game.proofs.Solving.Sides.{unforced}

@@ -17,13 +17,15 @@ use Rattle.block.proofs.Decide as D
 use Rattle.game.specs.Position.{Arena, Position, IsPosition, MoveOf, number, Reply, outcome}
 use Rattle.game.specs.Play.{Objective}
 use Rattle.game.specs.Table.{Table, never, Aim, Good, Met, Smallest}
-use Rattle.game.specs.Facts.{Claims}
-use Rattle.game.specs.Model.{structureOf, coalitionOf, arenaOf, objectiveBy}
+use Rattle.game.specs.Inner.Facts.{Claims}
+use Rattle.game.specs.Model.{structureOf, coalitionOf, arenaOf}
+use Rattle.game.specs.Inner.Words.{objectiveBy}
 use Rattle.game.proofs.Blocks.Passing.{valid-proper}
 use Rattle.game.proofs.Blocks.Reading.{outcome-state}
 use Rattle.game.proofs.Local.Exist.{good-exists}
 use Rattle.turns.specs.Buffers.{rankIn}
-use Rattle.turns.specs.Rules.{ReplyTo}
+use Rattle.choice.specs.Tables.{tableWith, RanksOf, MoveFor}
+use Rattle.turns.specs.Inner.Rules.{ReplyTo}
 use Rattle.ways.specs.Extremes.{Further, Worst}
 use Rattle.ways.specs.Listing.{LeadsInto, Useful}
 use Rattle.ways.specs.Places.{PlacedAt}
@@ -33,7 +35,6 @@ use Rattle.ways.proofs.Leading.{ever-allowed}
 use Rattle.ways.proofs.Placing.{number-placed}
 use Rattle.choice.specs.Choices.{Sought, GoodBy}
 use Rattle.choice.specs.Kinds.{ClaimsBy, MetBy, AimBy}
-use Rattle.choice.specs.Tables.{tableWith, RanksOf, MoveFor}
 use Rattle.choice.proofs.ByKind.{claims-by, met-by, aim-by, zero-met, met-zero}
 
 -- the worst of a move's outcomes, cut off at a limit, tells of all of them

@@ -10,11 +10,13 @@ use Rattle.block.specs.Valid.{Valid}
 use Rattle.game.specs.Position.{Arena, Position, IsPosition, MoveOf, number, Reply, Allowed, outcome}
 use Rattle.game.specs.Play.{Objective}
 use Rattle.game.specs.Table.{Table, Failed, CounterAim, Smallest}
-use Rattle.game.specs.Facts.{Claims}
-use Rattle.game.specs.Model.{structureOf, coalitionOf, arenaOf, objectiveBy}
+use Rattle.game.specs.Inner.Facts.{Claims}
+use Rattle.game.specs.Model.{structureOf, coalitionOf, arenaOf}
+use Rattle.game.specs.Inner.Words.{objectiveBy}
 use Rattle.game.proofs.Local.Exist.{counter-exists}
 use Rattle.turns.specs.Buffers.{rankIn}
-use Rattle.turns.specs.Rules.{ReplyTo}
+use Rattle.choice.specs.Tables.{tableWith, RanksOf, ReplyFor}
+use Rattle.turns.specs.Inner.Rules.{ReplyTo}
 use Rattle.ways.specs.Landing.{Leaves, Lands, Made}
 use Rattle.ways.specs.Listing.{Useful}
 use Rattle.ways.specs.Places.{PlacedAt}
@@ -25,7 +27,6 @@ use Rattle.ways.specs.declared.landing.Landing.the-variants.{At, Unpaid}
 use Rattle.ways.proofs.Leading.{ever-allowed, reply-leads}
 use Rattle.choice.specs.Choices.{CountersBy, Makes}
 use Rattle.choice.specs.Kinds.{ClaimsBy, CounterBy, FailedBy}
-use Rattle.choice.specs.Tables.{tableWith, RanksOf, ReplyFor}
 use Rattle.choice.proofs.ByKind.{claims-by, failed-by, counter-by, words-decided}
 use Rattle.choice.proofs.Moving.{outcome-next}
 

@@ -8,7 +8,7 @@ use Rattle.block.specs.Decide.{Bit}
 use Rattle.block.specs.Layout.{Block}
 use Rattle.game.specs.Position.{Position, IsPosition, number}
 use Rattle.game.specs.Table.{never}
-use Rattle.game.specs.Facts.{CanForce, CanAnswer}
+use Rattle.game.specs.Inner.Facts.{CanForce, CanAnswer}
 use Rattle.game.specs.Model.{arenaOf}
 use Rattle.choice.specs.Tables.{RanksOf, MoveFor}
 

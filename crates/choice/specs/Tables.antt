@@ -1,4 +1,4 @@
--- The table of a row as it stands in two lent buffers, and what its ranks and moves have to be while lower rows are told by their sets.
+-- What the ranks and moves of a row's table have to be while lower rows are told by their sets.
 use mathlib.Core.List.{List}
 use mathlib.Core.Path.{_≡_}
 use Prim.Native.Nat.{ℕ, _≤_, _<_}
@@ -9,17 +9,15 @@ use Rattle.block.specs.Layout.{Block}
 use Rattle.game.specs.Position.{Position, IsPosition, number, positions}
 use Rattle.game.specs.Play.{next}
 use Rattle.game.specs.Table.{Table, MoveIs, ReplyIs}
-use Rattle.game.specs.Facts.{RankFacts, Claims}
+use Rattle.game.specs.Inner.Facts.{RankFacts, Claims}
 use Rattle.turns.specs.Buffers.{rankIn}
-use Rattle.game.specs.Model.{arenaOf, objectiveBy}
+use Rattle.game.specs.Model.{arenaOf}
+use Rattle.game.specs.Inner.Words.{objectiveBy}
 use Rattle.turns.specs.Sizes.{maxPositions}
 
--- the ranks of a buffer, with any moves; and with those of another buffer
+-- the ranks of a buffer, with any moves
 abbrev pub tableWith : List ℕ → (ℕ → ℕ) → Table
 tableWith ranks move = record { rank = rankIn ranks; move = move }
-
-abbrev pub tableIn : List ℕ → List ℕ → Table
-tableIn ranks moves = tableWith ranks (λ n. getD moves n 0)
 
 -- the ranks of row i, whose lower rows' sets are the words left and right; past the last position they are 0
 pub record RanksOf (b : Block) (i left right : ℕ) (ranks : List ℕ) : Type 0 where

@@ -10,7 +10,7 @@ use Rattle.block.specs.Valid.{RowFits}
 use Rattle.game.specs.Position.{Position, IsPosition, positions, Allowed}
 use Rattle.game.specs.Play.{CoalitionWins, OpponentsWin}
 use Rattle.game.specs.Table.{Table, never, RankIs, rankAt, ReplyIs, Decided}
-use Rattle.game.specs.Facts.{RowsDecided, Facts}
+use Rattle.game.specs.Inner.Facts.{RowsDecided, Facts}
 use Rattle.game.specs.Model.{structureOf, RowSet, arenaOf, objectiveOf}
 use Rattle.game.specs.Catch.{catch, catch7, at, starred, AllHold}
 use Rattle.game.proofs.Numbers.Decide.{from-yes, isYes, not?}

@@ -72,10 +72,6 @@ RowTrue b i q = Sat (structureOf b) (formulaOf b i) q
 abbrev pub RowSet : Block → ℕ → ℕ → Type 0
 RowSet b i w = (w < 2 ^ 32) × ((s : ℕ) → Bit w s ↔ ((s < L.states b) × RowTrue b i s))
 
--- a word that says of each state whether Q holds there, and has no other bits
-abbrev pub Says : Block → ℕ → (ℕ → Type 0) → Type 0
-Says b w Q = (w < 2 ^ 32) × ((w < 2 ^ L.states b) × ((s : ℕ) → s < L.states b → (Bit w s → Q s) × (Q s → Bit w s)))
-
 -- where a strategic row i is played, and what it asks of a play
 abbrev pub arenaOf : Block → ℕ → Arena
 arenaOf b i = record { structure = structureOf b; coalition = coalitionOf b i; bounds = boundsOf b i }
@@ -91,6 +87,3 @@ abbrev pub WonSet : Block → ℕ → ℕ → Type 0
 WonSet b i w =
     (w < 2 ^ 32) × ((s : ℕ) → Bit w s ↔ ((s < L.states b) × CoalitionWins (arenaOf b i) (objectiveOf b i) (full (arenaOf b i) s)))
 
--- what the row asks of a play, with lower rows told by their sets
-abbrev pub objectiveBy : ℕ → ℕ → ℕ → Objective
-objectiveBy k left right = cond (eqb k L.nextKind) (P.next (Bit left)) (cond (eqb k L.alwaysKind) (P.always (Bit left)) (P.until (Bit left) (Bit right)))

@@ -5,7 +5,7 @@ use mathlib.Core.List.{List}
 use mathlib.Core.Path.{_≡_}
 use Prim.Native.Nat.{ℕ, zero, suc, _+_, _*_, _-_, _^_, _<_}
 use lib.ListN.{getD}
-use Rattle.block.specs.Layout.{digit, maxAgents}
+use Rattle.block.specs.Layout.{digit}
 use Rattle.game.specs.Rbatl.{Bound, limit, unlimited, Fits, Coalition, Bounds, Joint, Structure, moveCost}
 
 -- where a strategic row is played: by whom and with what bound
@@ -43,11 +43,6 @@ abbrev pub remaining : Bound → ℕ → ℕ → ℕ
 remaining (limit n) s c = s - c
 remaining unlimited s c = 0
 
--- what a cost takes of a stock
-abbrev pub taken : Bound → ℕ → ℕ
-taken (limit n) c = c
-taken unlimited c = 0
-
 -- the number a0 + 4·a1 + 16·a2 of a joint action of n agents
 abbrev pub joint : ℕ → Joint → ℕ
 joint zero σ = 0
@@ -55,14 +50,6 @@ joint (suc n) σ = σ 0 + 4 * joint n (λ a. σ (suc a))
 
 abbrev pub opponents : Coalition → Coalition
 opponents A a = not (A a)
-
--- a joint action with 0 for the agents outside A
-abbrev pub part : Coalition → Joint → Joint
-part A σ a = cond (A a) (σ a) 0
-
--- A's part of the joint action with number m: the digits of A's agents, and 0 for the others
-abbrev pub partOf : Coalition → ℕ → ℕ
-partOf A m = joint maxAgents (part A (digit m))
 
 -- an action of agent a for an agent of A, and 0 for another
 abbrev pub ActsFor : Structure → Coalition → ℕ → ℕ → ℕ → Type 0
@@ -83,18 +70,6 @@ module _ (G : Arena) where
 
   abbrev pub number : Position → ℕ
   number p = numberUpTo (G .structure .resources) p
-
-  -- a position's stocks, which have a number of their own among the stock places of a state
-  abbrev pub stocksOf : Position → Position
-  stocksOf p = record { state = 0; stock = p .stock }
-
-  -- how many stock places there are in each state
-  abbrev pub stockPlacesUpTo : ℕ → ℕ
-  stockPlacesUpTo zero = 1
-  stockPlacesUpTo (suc n) = stockPlacesUpTo n * places (G .bounds n)
-
-  abbrev pub stockPlaces : ℕ
-  stockPlaces = stockPlacesUpTo (G .structure .resources)
 
   -- how many positions there are
   abbrev pub positionsUpTo : ℕ → ℕ
@@ -122,10 +97,6 @@ module _ (G : Arena) where
   -- what a move of the coalition takes of a resource: the costs of its own agents alone
   abbrev pub cost : Position → ℕ → ℕ → ℕ
   cost p m r = moveCost (G .structure) (G .coalition) (p .state) (digit m) r
-
-  -- the number of what a move takes of the stocks
-  abbrev pub offset : Position → ℕ → ℕ
-  offset p m = number (record { state = 0; stock = λ r. taken (G .bounds r) (cost p m r) })
 
   abbrev pub Affordable : Position → ℕ → Type 0
   Affordable p m = (r : ℕ) → r < G .structure .resources → Fits (cost p m r) (budget p r)

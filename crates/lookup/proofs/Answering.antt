@@ -17,9 +17,10 @@ use Rattle.block.proofs.Decide as D
 use Rattle.game.specs.Position.{Position, IsPosition, number, outcome}
 use Rattle.game.specs.Play.{Objective, next, always, until, CoalitionWins}
 use Rattle.game.specs.Table.{Table, never, rankAt, moveAt, Aim, Good, Met}
-use Rattle.game.specs.Facts.{Claims, Facts}
+use Rattle.game.specs.Inner.Facts.{Claims, Facts}
 use Rattle.turns.specs.Buffers.{rankIn}
-use Rattle.game.specs.Model.{arenaOf, objectiveOf, objectiveBy}
+use Rattle.game.specs.Model.{arenaOf, objectiveOf}
+use Rattle.game.specs.Inner.Words.{objectiveBy}
 use Rattle.game.proofs.Blocks.Passing.{valid-proper}
 use Rattle.game.proofs.Blocks.Tables.{table-decided}
 use Rattle.game.proofs.Solving.Determined.{foundMoves, moves-found}
@@ -29,7 +30,7 @@ use Rattle.game.proofs.Whole.Unique.{smallest-unique}
 use Rattle.choice.specs.Kinds.{ClaimsBy}
 use Rattle.solver.proofs.Labelling.{words-decided, claims-by, retold-claims, row-retold, facts-told}
 use Rattle.lookup.specs.Aims.{Stands, AimBy, Aimed, GoodBy, FoundBelow}
-use Rattle.solver.specs.Labels.{Prepared}
+use Rattle.solver.specs.Inner.Labels.{Prepared}
 use Rattle.game.specs.Demand.{TableOf, RowMove}
 
 -- until at rank 0, by the kind of the row

@@ -14,8 +14,9 @@ use Rattle.block.specs.Valid.{Valid}
 use Rattle.game.specs.Position.{Arena, Position, IsPosition, Reply, Allowed, outcome}
 use Rattle.game.specs.Play.{Objective, next, always, until, CoalitionWins, OpponentsWin}
 use Rattle.game.specs.Table.{Table, never, rankAt, Failed, CounterAim, ReplyIs}
-use Rattle.game.specs.Facts.{Claims, Facts}
-use Rattle.game.specs.Model.{arenaOf, objectiveOf, objectiveBy}
+use Rattle.game.specs.Inner.Facts.{Claims, Facts}
+use Rattle.game.specs.Model.{arenaOf, objectiveOf}
+use Rattle.game.specs.Inner.Words.{objectiveBy}
 use Rattle.game.proofs.Bridge.Proper.{Proper}
 use Rattle.game.proofs.Bridge.Plays.{outcome-fits}
 use Rattle.game.proofs.Local.Lower.{Retold, same-next, same-always, same-until}

@@ -14,7 +14,7 @@ use Rattle.game.specs.Play.{CoalitionWins}
 use Rattle.game.specs.Table.{never, Smallest}
 use Rattle.turns.specs.Buffers.{rankIn}
 use Rattle.game.specs.Model.{boundsOf, arenaOf, objectiveOf}
-use Rattle.solver.specs.Labels.{Prepared}
+use Rattle.solver.specs.Inner.Labels.{Prepared}
 
 -- a state at or above M, a stock above its bound, or one that is not 0 where it must be
 pub data NoPosition (b : Block) (i s : ℕ) (stocks : List ℕ) : Type 0 where

@@ -14,7 +14,7 @@ ghost use Rattle.block.specs.Layout as L;
 ghost use Rattle.block.specs.Valid.{Valid};
 ghost use Rattle.game.specs.Position as P;
 ghost use Rattle.game.specs.Model.{boundsOf, arenaOf};
-ghost use Rattle.solver.specs.Labels.{Prepared};
+ghost use Rattle.solver.specs.Inner.Labels.{Prepared};
 ghost use Rattle.lookup.specs.Aims.{NoPosition, Stands};
 ghost use Rattle.turns.specs.Sizes.{roomBytes};
 

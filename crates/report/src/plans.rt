@@ -10,7 +10,7 @@ ghost use Rattle.block.specs.Decide.{Bit};
 ghost use Rattle.block.specs.Layout as L;
 ghost use Rattle.block.specs.Valid.{Valid};
 ghost use Rattle.text.specs.Inner.Adding.{Adds};
-ghost use Rattle.choice.specs.Tables.{tableIn};
+ghost use Rattle.turns.specs.Buffers.{tableIn};
 ghost use Rattle.report.specs.Listing.{planAt, planLines};
 ghost use Rattle.turns.specs.Sizes.{roomBytes, maxPositions};
 

@@ -16,7 +16,7 @@ ghost use Rattle.block.specs.Valid.{Valid};
 ghost use Rattle.text.specs.Inner.Adding.{Adds};
 ghost use Rattle.turns.specs.Sizes.{setsBytes, roomBytes, movesBytes};
 ghost use Rattle.solver.specs.Calls.{RowTable};
-ghost use Rattle.solver.specs.Labels.{LowerSets, RowLabelled, Ranked};
+ghost use Rattle.solver.specs.Inner.Labels.{LowerSets, RowLabelled, Ranked};
 ghost use Rattle.report.specs.Call.{listingBytes};
 ghost use Rattle.report.specs.Listing.{RowListed, Listed};
 

@@ -16,7 +16,7 @@ use Rattle.turns.specs.Buffers.{wordIn}
 use Rattle.turns.specs.Sizes.{setsBytes}
 use Rattle.game.proofs.Blocks.Tables.{set-won}
 use Rattle.solver.specs.Calls.{setRules, rowRules, SetsIn}
-use Rattle.solver.specs.Labels.{LowerSets}
+use Rattle.solver.specs.Inner.Labels.{LowerSets}
 
 -- a row that is admitted exists
 pub set-admitted : (b : Block) (i : ℕ) → Fails (setRules b i) → Valid b × (i < L.rows b)

@@ -13,19 +13,20 @@ use Rattle.block.specs.Valid.{Valid}
 use Rattle.game.specs.Position.{Position, number, full}
 use Rattle.game.specs.Play.{Objective, next, always, until}
 use Rattle.game.specs.Table.{Table}
-use Rattle.game.specs.Facts.{Claims, Facts}
+use Rattle.game.specs.Inner.Facts.{Claims, Facts}
 use Rattle.turns.specs.Buffers.{rankIn, wordIn}
-use Rattle.game.specs.Model.{bit, byKind, RowTrue, RowSet, Says, arenaOf, objectiveOf, objectiveBy}
+use Rattle.game.specs.Model.{bit, byKind, RowTrue, RowSet, arenaOf, objectiveOf}
+use Rattle.game.specs.Inner.Words.{Says, objectiveBy}
 use Rattle.game.proofs.Numbers.Decide.{eq?, eq-test}
 use Rattle.game.proofs.Local.Lower.{Retold, same-next, same-always, same-until, retold}
 use Rattle.game.proofs.Blocks.Passing.{valid-proper}
 use Rattle.game.proofs.Blocks.Formulas.{next-objective, always-objective, until-objective}
 use Rattle.game.proofs.Blocks.Labels.{set-tells, prop-set, not-set, or-set, table-says-set}
 use Rattle.game.proofs.Solving.Determined.{foundMoves, moves-found}
-use Rattle.solver.specs.Labels.{LowerSets, RowLabelled}
+use Rattle.solver.specs.Inner.Labels.{LowerSets, RowLabelled}
 use Rattle.choice.specs.Tables.{RanksOf}
 use Rattle.choice.specs.Kinds.{ClaimsBy}
-use Rattle.solver.specs.Rows.{TrueBy}
+use Rattle.solver.specs.Inner.Rows.{TrueBy}
 use Rattle.solver.proofs.Words.{strategic-stands}
 use Rattle.choice.proofs.ByKind.{until-stands, claims-by, words-decided}
 

@@ -13,8 +13,8 @@ use Rattle.block.specs.Valid.{Valid}
 use Rattle.turns.specs.Buffers.{wordIn}
 use Rattle.game.specs.Model.{RowSet}
 use Rattle.game.proofs.Numbers.Decide.{eq?}
-use Rattle.solver.specs.Labels.{LowerSets, NamedSets, InWord, Closed, RowsLabelled, RowLabelled}
-use Rattle.solver.specs.Needs.{Names, Needs, directly, through}
+use Rattle.solver.specs.Inner.Labels.{LowerSets, NamedSets, InWord, Closed, RowsLabelled, RowLabelled}
+use Rattle.solver.specs.Inner.Needs.{Names, Needs, directly, through}
 use Rattle.solver.proofs.Words.{no-bits}
 use Rattle.solver.proofs.Labelling.{set-more}
 

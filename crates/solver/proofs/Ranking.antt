@@ -8,9 +8,10 @@ use Rattle.block.specs.Layout as L
 use Rattle.block.specs.Layout.{Block}
 use Rattle.game.specs.Position.{number}
 use Rattle.game.specs.Play.{Objective, next, always, until}
-use Rattle.game.specs.Facts.{RankFacts}
+use Rattle.game.specs.Inner.Facts.{RankFacts}
 use Rattle.turns.specs.Buffers.{rankIn}
-use Rattle.game.specs.Model.{arenaOf, objectiveBy, Says}
+use Rattle.game.specs.Model.{arenaOf}
+use Rattle.game.specs.Inner.Words.{objectiveBy, Says}
 use Rattle.sweeps.specs.Solving.{Solved}
 use Rattle.choice.specs.Tables.{RanksOf, NextRanks}
 use Rattle.choice.proofs.ByKind.{until-stands}

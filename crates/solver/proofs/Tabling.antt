@@ -6,10 +6,12 @@ use lib.ListN.{getD, length}
 use Rattle.block.specs.Layout as L
 use Rattle.block.specs.Layout.{Block, Strategic}
 use Rattle.block.specs.Valid.{Valid}
-use Rattle.game.specs.Facts.{Facts}
-use Rattle.game.specs.Model.{RowSet, arenaOf, objectiveBy}
+use Rattle.game.specs.Inner.Facts.{Facts}
+use Rattle.game.specs.Model.{RowSet, arenaOf}
+use Rattle.game.specs.Inner.Words.{objectiveBy}
 use Rattle.game.proofs.Blocks.Tables.{table-decided}
-use Rattle.choice.specs.Tables.{tableIn, RanksOf, MovesOf}
+use Rattle.choice.specs.Tables.{RanksOf, MovesOf}
+use Rattle.turns.specs.Buffers.{tableIn}
 use Rattle.turns.specs.Sizes.{roomBytes, movesBytes}
 use Rattle.solver.specs.Calls.{RowTable}
 use Rattle.choice.proofs.ByKind.{words-decided}

@@ -10,7 +10,8 @@ use borrow.Author.Tests.{ne-eqb}
 use Rattle.block.specs.Decide.{Bit}
 use Rattle.block.specs.Layout as L
 use Rattle.block.specs.Layout.{Block}
-use Rattle.game.specs.Model.{byKind, Says}
+use Rattle.game.specs.Model.{byKind}
+use Rattle.game.specs.Inner.Words.{Says}
 use Rattle.game.proofs.Numbers.Decide.{eq?}
 
 pub no-bits : (s : ℕ) → Bit 0 s → ⊥

@@ -11,10 +11,9 @@ use Rattle.block.specs.declared.refusal.Refusal.the-variants.{Length, RowChoice
 use Rattle.block.specs.declared.refusal.Answer.{Answer}
 use Rattle.game.specs.Position.{positions}
 use Rattle.turns.specs.Sizes.{setsBytes, roomBytes, movesBytes}
-use Rattle.turns.specs.Buffers.{rankIn, wordIn}
+use Rattle.turns.specs.Buffers.{rankIn, wordIn, tableIn}
 use Rattle.game.specs.Model.{RowSet, WonSet, arenaOf}
 use Rattle.game.specs.Demand.{TableOf}
-use Rattle.choice.specs.Tables.{tableIn}
 
 -- the block, then a row at or above F
 abbrev pub setRules : Block → ℕ → List Rule

@@ -1,5 +1,3 @@
--- What the parts of the solver do.
-pub mod Rows
+-- To believe: Calls, what the label and the table calls promise. Inner serves contracts of inner functions and proofs only.
 pub mod Calls
-pub mod Needs
-pub mod Labels
+pub mod Inner

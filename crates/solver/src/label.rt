@@ -14,8 +14,8 @@ ghost use Rattle.block.specs.Layout as L;
 ghost use Rattle.block.specs.Valid.{Valid};
 ghost use Rattle.turns.specs.Buffers.{wordIn};
 ghost use Rattle.solver.specs.Calls.{LabelCall};
-ghost use Rattle.solver.specs.Labels.{NamedSets, InWord, Closed, RowsLabelled, RowLabelled, Ranked};
-ghost use Rattle.solver.specs.Needs.{Needs};
+ghost use Rattle.solver.specs.Inner.Labels.{NamedSets, InWord, Closed, RowsLabelled, RowLabelled, Ranked};
+ghost use Rattle.solver.specs.Inner.Needs.{Needs};
 ghost use Rattle.turns.specs.Sizes.{setsBytes, roomBytes};
 
 // The word of all rows.

@@ -6,7 +6,7 @@ ghost use Prim.Native.Nat.{ℕ, _^_, _<_};
 ghost use Rattle.block.specs.Decide.{Decides, Bit};
 ghost use Rattle.block.specs.Layout as L;
 ghost use Rattle.block.specs.Valid.{Valid};
-ghost use Rattle.solver.specs.Needs.{Names, Needs};
+ghost use Rattle.solver.specs.Inner.Needs.{Names, Needs};
 
 // Whether row i names a row right.
 pub fn names_right(block: &[u8], i: usize) -> bool

@@ -13,9 +13,9 @@ ghost use lib.ListN.{length};
 ghost use Rattle.block.specs.Decide.{Decides, Bit};
 ghost use Rattle.block.specs.Layout as L;
 ghost use Rattle.block.specs.Valid.{Valid};
-ghost use Rattle.game.specs.Model.{Says};
+ghost use Rattle.game.specs.Inner.Words.{Says};
 ghost use Rattle.choice.specs.Tables.{RanksOf};
-ghost use Rattle.solver.specs.Rows.{TrueBy};
+ghost use Rattle.solver.specs.Inner.Rows.{TrueBy};
 ghost use Rattle.turns.specs.Sizes.{roomBytes};
 
 // Whether row i is true in state s.

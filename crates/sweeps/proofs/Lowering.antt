@@ -7,10 +7,12 @@ use Prim.Native.Nat.{ℕ, suc, _+_, _*_, _≤_, _<_}
 use native.Mathlib.Numerals.{add-one}
 use native.Mathlib.Omega.{arith}
 use Rattle.block.specs.Decide.{Bit}
-use Rattle.game.specs.Position.{Arena, Position, IsPosition, number, stocksOf, stockPlaces, positions, outcome}
+use Rattle.game.specs.Position.{Arena, Position, IsPosition, number, positions, outcome}
+use Rattle.game.specs.Inner.Stocks.{stocksOf, stockPlaces}
 use Rattle.game.specs.Table.{never}
-use Rattle.turns.specs.Buffers.{rankIn, Stored, Lowered}
-use Rattle.game.specs.Sweep.{countBelow, Crowded, total}
+use Rattle.turns.specs.Buffers.{rankIn}
+use Rattle.turns.specs.Inner.Stores.{Stored, Lowered}
+use Rattle.game.specs.Inner.Sweep.{countBelow, Crowded, total}
 use Rattle.game.proofs.Numbers.Decide.{eq?}
 use Rattle.game.proofs.Numbers.Counting.{count-more, count-grows, lower-everywhere, total-falls}
 use Rattle.game.proofs.Bridge.Proper.{Proper}

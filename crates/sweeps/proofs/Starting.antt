@@ -6,7 +6,8 @@ use Prim.Native.Nat.{ℕ, _+_, _/_, _%_, _^_, _≤_, _<_}
 use native.Mathlib.Nat.{mul-add-div-right, div-eq-of-lt}
 use native.Mathlib.Omega.{arith}
 use Rattle.block.specs.Decide.{Bit}
-use Rattle.game.specs.Position.{Arena, Position, IsPosition, number, stocksOf, stockPlaces, positions}
+use Rattle.game.specs.Position.{Arena, Position, IsPosition, number, positions}
+use Rattle.game.specs.Inner.Stocks.{stocksOf, stockPlaces}
 use Rattle.game.specs.Table.{never}
 use Rattle.turns.specs.Buffers.{rankIn}
 use Rattle.game.proofs.Numbers.Decide.{eq?}

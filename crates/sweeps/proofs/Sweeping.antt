@@ -6,10 +6,11 @@ use Prim.Native.Nat.{ℕ, suc, _+_, _*_, _≤_, _<_}
 use native.Mathlib.Omega.{arith}
 use lib.ListN.{length}
 use Rattle.block.specs.Decide.{Bit}
-use Rattle.game.specs.Position.{Arena, Position, number, stocksOf, stockPlaces, positions, Allowed, Reply, outcome}
+use Rattle.game.specs.Position.{Arena, Position, number, positions, Allowed, Reply, outcome}
+use Rattle.game.specs.Inner.Stocks.{stocksOf, stockPlaces}
 use Rattle.game.specs.Table.{never}
 use Rattle.turns.specs.Buffers.{rankIn}
-use Rattle.game.specs.Sweep.{total}
+use Rattle.game.specs.Inner.Sweep.{total}
 use Rattle.game.proofs.Numbers.Decide.{eq?}
 use Rattle.game.proofs.Bridge.Proper.{Proper}
 use Rattle.game.proofs.Bridge.Plays.{outcome-fits}

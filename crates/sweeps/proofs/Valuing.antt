@@ -7,9 +7,8 @@ use Prim.Native.Nat.{ℕ, zero, suc, _+_, _^_, _≤_, _<_}
 use native.Mathlib.Nat.{pow-le-pow-right}
 use native.Mathlib.Omega.{arith}
 use Rattle.game.specs.Position.{Arena, Position, IsPosition, number, Reply, Allowed, outcome}
-use Rattle.game.specs.Facts.{CanForce}
-use Rattle.ways.specs.Extremes.{Beyond, Further}
-use Rattle.ways.specs.Extremes.{Worst}
+use Rattle.game.specs.Inner.Facts.{CanForce}
+use Rattle.ways.specs.Extremes.{Beyond, Further, Worst}
 use Rattle.game.proofs.Numbers.Decide.{eq?}
 use Rattle.ways.proofs.Largest.{beyond-equal, beyond-trans, further-some}
 use Rattle.game.proofs.Bridge.Proper.{Proper}

@@ -6,7 +6,7 @@ use Prim.Native.Nat.{ℕ, _/_, _≤_, _<_}
 use Rattle.block.specs.Decide.{Bit}
 use Rattle.game.specs.Position.{Arena, number, positions}
 use Rattle.game.specs.Table.{never}
-use Rattle.game.specs.Facts.{Ranked}
+use Rattle.game.specs.Inner.Facts.{Ranked}
 use Rattle.turns.specs.Buffers.{rankIn}
 use Rattle.sweeps.specs.Values.{Attacks, Defends}
 use Rattle.turns.specs.Sizes.{maxPositions}

@@ -6,10 +6,11 @@ use mathlib.Core.Path.{_≡_}
 use Prim.Native.Nat.{ℕ, suc, _-_, _≤_, _<_}
 use lib.ListN.{length}
 use Rattle.block.specs.Decide.{Bit}
-use Rattle.game.specs.Position.{Arena, Position, IsPosition, number, stocksOf, positions}
-use Rattle.game.specs.Facts.{Ranked}
+use Rattle.game.specs.Position.{Arena, Position, IsPosition, number, positions}
+use Rattle.game.specs.Inner.Stocks.{stocksOf}
+use Rattle.game.specs.Inner.Facts.{Ranked}
 use Rattle.turns.specs.Buffers.{rankIn}
-use Rattle.game.specs.Sweep.{Kept, total}
+use Rattle.game.specs.Inner.Sweep.{Kept, total}
 use Rattle.ways.specs.Places.{PlacedAt}
 use Rattle.sweeps.specs.Values.{Attacks, Defends}
 

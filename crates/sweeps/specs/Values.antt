@@ -5,9 +5,8 @@ use mathlib.Core.Logic.{_⊎_}
 use mathlib.Core.Path.{_≡_}
 use Prim.Native.Nat.{ℕ, _+_, _≤_, _<_}
 use Rattle.game.specs.Position.{Arena, Position, IsPosition, number, Allowed}
-use Rattle.game.specs.Facts.{CanForce, CanAnswer}
-use Rattle.ways.specs.Extremes.{Beyond}
-use Rattle.ways.specs.Extremes.{Worst}
+use Rattle.game.specs.Inner.Facts.{CanForce, CanAnswer}
+use Rattle.ways.specs.Extremes.{Beyond, Worst}
 use Rattle.ways.specs.Places.{PlacedAt}
 
 -- v is the most extreme of what was first and what was offered

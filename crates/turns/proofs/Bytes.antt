@@ -10,7 +10,8 @@ use lib.ListN.{getD, length, take, set, replicate, length-set, length-replicate,
 use lib.Seq.{getD-set-same, getD-set-other, lt-length-set}
 use Rattle.block.specs.Decide.{Bit}
 use Rattle.block.proofs.Masks.{bit-above, no-bit-above}
-use Rattle.turns.specs.Buffers.{rankIn, wordIn, Stored}
+use Rattle.turns.specs.Buffers.{rankIn, wordIn}
+use Rattle.turns.specs.Inner.Stores.{Stored}
 use Rattle.game.proofs.Numbers.Decide.{eq?, lt?}
 
 -- a buffer of zeros

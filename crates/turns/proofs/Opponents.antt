@@ -12,7 +12,7 @@ use Rattle.block.specs.Layout.{Block, digit}
 use Rattle.block.specs.Valid.{Valid}
 use Rattle.game.specs.Position.{full, MoveOf}
 use Rattle.game.specs.Model.{bit, structureOf, coalitionOf, arenaOf}
-use Rattle.turns.specs.Rules.{ReplyTo}
+use Rattle.turns.specs.Inner.Rules.{ReplyTo}
 use Rattle.game.proofs.Numbers.Decide.{eq?}
 use Rattle.game.proofs.Bridge.Plays.{outcome-fits}
 use Rattle.game.proofs.Bridge.Truth.{full-fits}

@@ -10,7 +10,8 @@ use Rattle.block.specs.Layout.{Block, digit, Acts, Available}
 use Rattle.block.specs.Valid.{Valid}
 use Rattle.block.proofs.Digits.{each-agent}
 use Rattle.game.specs.Rbatl.{Coalition}
-use Rattle.game.specs.Position.{partOf, ActsFor, MoveOf}
+use Rattle.game.specs.Position.{ActsFor, MoveOf}
+use Rattle.game.specs.Inner.Parts.{partOf}
 use Rattle.game.specs.Model.{structureOf}
 use Rattle.game.proofs.Numbers.Decide.{lt?}
 

@@ -1,6 +1,6 @@
--- What the code of a turn is held to: words in lent buffers, listed numbers and their extremes, what a stock pays, which replies there
--- are, and the states of a set.
+-- Lengths of lent buffers, the words and tables that stand in them, and the states of a set as they are listed. All but Inner is to be
+-- believed; Inner serves contracts of inner functions and proofs only.
 pub mod Sizes
 pub mod Buffers
-pub mod Rules
 pub mod Listed
+pub mod Inner

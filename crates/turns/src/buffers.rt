@@ -5,7 +5,8 @@ ghost use mathlib.Core.Logic.{_↔_, _⊎_};
 ghost use Prim.Native.Nat.{ℕ, _+_, _*_, _^_, _≤_, _<_};
 ghost use lib.ListN.{length};
 ghost use Rattle.block.specs.Decide.{Decides, Bit};
-ghost use Rattle.turns.specs.Buffers.{rankIn, wordIn, Stored, Lowered};
+ghost use Rattle.turns.specs.Buffers.{rankIn, wordIn};
+ghost use Rattle.turns.specs.Inner.Stores.{Stored, Lowered};
 
 // The rank of position p.
 pub fn rank_at(ranks: &[u8], p: usize) -> usize

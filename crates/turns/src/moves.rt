@@ -7,9 +7,10 @@ ghost use Rattle.block.specs.Decide.{Decides};
 ghost use Rattle.block.specs.Layout.{maxJoint, rows, states, resources, agents, kind, Strategic, digit};
 ghost use Rattle.block.specs.Valid.{Valid};
 ghost use Rattle.game.specs.Rbatl.{moveCost};
-ghost use Rattle.game.specs.Position.{partOf, MoveOf};
+ghost use Rattle.game.specs.Position.{MoveOf};
+ghost use Rattle.game.specs.Inner.Parts.{partOf};
 ghost use Rattle.game.specs.Model.{bit, structureOf};
-ghost use Rattle.turns.specs.Rules.{ReplyTo};
+ghost use Rattle.turns.specs.Inner.Rules.{ReplyTo};
 
 // A team's part of a joint action: the digits of its agents, and 0 for the others.
 fn part(team: usize, joint: usize) -> usize

@@ -9,6 +9,7 @@ ghost use Rattle.block.specs.Layout as L;
 ghost use Rattle.block.specs.Valid.{Valid};
 ghost use Rattle.game.specs.Rbatl.{moveCost};
 ghost use Rattle.game.specs.Position as P;
+ghost use Rattle.game.specs.Inner.Stocks as S;
 ghost use Rattle.game.specs.Model.{structureOf, coalitionOf, boundsOf, arenaOf};
 ghost use Rattle.turns.specs.Sizes.{maxPositions};
 
@@ -29,7 +30,7 @@ pub fn places(block: &[u8], i: usize, j: usize) -> usize
 pub fn stock_places(block: &[u8], i: usize) -> usize
     requires { ⌜ Valid (now block) ⌝ }
     requires { ⌜ (i < L.rows (now block)) × L.Strategic (L.kind (now block) i) ⌝ }
-    ensures { λ r. ⌜ (r ≡ P.stockPlaces (arenaOf (now (block .entry)) i)) × (r ≤ 256) ⌝ }
+    ensures { λ r. ⌜ (r ≡ S.stockPlaces (arenaOf (now (block .entry)) i)) × (r ≤ 256) ⌝ }
 {
     let n = layout::resources(block);
     let mut c = 1;
@@ -68,7 +69,7 @@ pub fn taken(block: &[u8], i: usize, s: usize, m: usize, j: usize) -> usize
     requires { ⌜ Valid (now block) ⌝ }
     requires { ⌜ (i < L.rows (now block)) × (s < L.states (now block)) × (j < L.resources (now block)) ⌝ }
     requires { ⌜ P.MoveOf (structureOf (now block)) (coalitionOf (now block) i) s m ⌝ }
-    ensures { λ r. ⌜ (r ≡ P.taken (boundsOf (now (block .entry)) i j) (moveCost (structureOf (now (block .entry))) (coalitionOf (now (block .entry)) i) s (L.digit m) j)) × (r ≤ 45) ⌝ }
+    ensures { λ r. ⌜ (r ≡ S.taken (boundsOf (now (block .entry)) i j) (moveCost (structureOf (now (block .entry))) (coalitionOf (now (block .entry)) i) s (L.digit m) j)) × (r ≤ 45) ⌝ }
 {
     if layout::bound(block, i, j) == layout::UNLIMITED {
         return 0;
@@ -81,7 +82,7 @@ pub fn offset(block: &[u8], i: usize, s: usize, m: usize) -> usize
     requires { ⌜ Valid (now block) ⌝ }
     requires { ⌜ (i < L.rows (now block)) × L.Strategic (L.kind (now block) i) × (s < L.states (now block)) ⌝ }
     requires { ⌜ P.MoveOf (structureOf (now block)) (coalitionOf (now block) i) s m ⌝ }
-    ensures { λ r. ⌜ r ≡ P.offset (arenaOf (now (block .entry)) i) (P.full (arenaOf (now (block .entry)) i) s) m ⌝ }
+    ensures { λ r. ⌜ r ≡ S.offset (arenaOf (now (block .entry)) i) (P.full (arenaOf (now (block .entry)) i) s) m ⌝ }
 {
     let n = layout::resources(block);
     let mut x = 0;

@@ -9,7 +9,8 @@ use lib.ListN.{getD, length, set, length-set}
 use lib.Seq.{getD-set-same, getD-set-other}
 use Rattle.block.specs.Layout as L
 use Rattle.block.specs.Layout.{Block}
-use Rattle.game.specs.Position.{full, offset}
+use Rattle.game.specs.Position.{full}
+use Rattle.game.specs.Inner.Stocks.{offset}
 use Rattle.game.specs.Model.{arenaOf}
 use Rattle.game.proofs.Numbers.Decide.{eq?}
 use Rattle.ways.specs.Lines.{waysBytes, fieldPlace, fieldIn, countAt, lineAt, takesAt, countIn, numberIn, takenIn}

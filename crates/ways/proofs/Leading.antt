@@ -10,7 +10,8 @@ use Rattle.block.specs.Layout as L
 use Rattle.block.specs.Layout.{Block}
 use Rattle.block.specs.Valid.{Valid}
 use Rattle.game.specs.Rbatl.{Fits}
-use Rattle.game.specs.Position.{Arena, Position, IsPosition, stockBound, fullStock, number, stocksOf, stockPlaces, positions, full, cost, opponents, MoveOf, Affordable, Allowed, Reply, offset, outcome}
+use Rattle.game.specs.Position.{Arena, Position, IsPosition, stockBound, fullStock, number, positions, full, cost, opponents, MoveOf, Affordable, Allowed, Reply, outcome}
+use Rattle.game.specs.Inner.Stocks.{stocksOf, stockPlaces, offset}
 use Rattle.game.specs.Model.{structureOf, coalitionOf, arenaOf}
 use Rattle.game.proofs.Blocks.Passing.{valid-proper, few-stocks}
 use Rattle.game.proofs.Blocks.Reading.{outcome-state}
@@ -19,7 +20,7 @@ use Rattle.game.proofs.Bridge.Plays.{outcome-fits}
 use Rattle.game.proofs.Bridge.Truth.{full-fits}
 use Rattle.game.proofs.Numbers.Decide.{eq?}
 use Rattle.turns.specs.Buffers.{rankIn}
-use Rattle.turns.specs.Rules.{ReplyTo}
+use Rattle.turns.specs.Inner.Rules.{ReplyTo}
 use Rattle.turns.proofs.Opponents.{joint-small, next-state}
 use Rattle.ways.specs.Extremes.{Beyond, Extreme, BestOf, Worst}
 use Rattle.ways.specs.Landing.{Leaves, Lands, Made, rankAfter, WorstWithin}

@@ -5,7 +5,8 @@ use Prim.Native.Nat.{ℕ, zero, suc, _+_, _*_, _<_}
 use native.Mathlib.Nat.{mul-assoc}
 use native.Mathlib.Omega.{arith}
 use Rattle.game.specs.Rbatl.{Bound, limit, unlimited, Fits}
-use Rattle.game.specs.Position.{Arena, Position, places, stockBound, taken, remaining, IsPosition, numberUpTo, number, stocksOf, stockPlacesUpTo, stockPlaces, cost, offset, Affordable, outcome}
+use Rattle.game.specs.Position.{Arena, Position, places, stockBound, remaining, IsPosition, numberUpTo, number, cost, Affordable, outcome}
+use Rattle.game.specs.Inner.Stocks.{taken, stocksOf, stockPlacesUpTo, stockPlaces, offset}
 
 pub taken-back : (b : Bound) (s c : ℕ) → s < places b → Fits c (stockBound b s) → remaining b s c + taken b c ≡ s
 taken-back (limit n) s c l fits = omega arith

@@ -4,13 +4,15 @@ use mathlib.Core.Path.{_≡_, refl, sym, _∙_, ap, ap₂, subst}
 use Prim.Native.Nat.{ℕ, zero, suc, _+_, _*_, _-_, _/_, _%_, _≤_, _<_}
 use native.Mathlib.Nat.{mul-add-div-right, mul-add-mod-self-right, mod-eq-of-lt, mod-lt, div-eq-of-lt}
 use native.Mathlib.Omega.{arith}
-use Rattle.turns.specs.Buffers.{rankIn, Stored}
+use Rattle.turns.specs.Buffers.{rankIn}
+use Rattle.turns.specs.Inner.Stores.{Stored}
 use Rattle.ways.specs.Lines.{packedIn}
 use Rattle.block.specs.Layout as L
 use Rattle.block.specs.Layout.{Block}
 use Rattle.block.specs.Valid.{Valid}
 use Rattle.game.specs.Rbatl.{Bound, limit, unlimited, Fits}
-use Rattle.game.specs.Position.{Arena, Position, IsPosition, places, fullStock, stockBound, remaining, taken, number, numberUpTo, stocksOf, full, cost, Affordable, offset}
+use Rattle.game.specs.Position.{Arena, Position, IsPosition, places, fullStock, stockBound, remaining, number, numberUpTo, full, cost, Affordable}
+use Rattle.game.specs.Inner.Stocks.{taken, stocksOf, offset}
 use Rattle.game.specs.Model.{boundsOf, arenaOf}
 use Rattle.game.proofs.Numbers.Decide.{eq?}
 use Rattle.game.proofs.Numbers.Stocks.{remaining-fits, taken-fits}

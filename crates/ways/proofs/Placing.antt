@@ -8,9 +8,10 @@ use lib.ListN.{getD}
 use Rattle.block.specs.Layout as L
 use Rattle.block.specs.Layout.{Block}
 use Rattle.block.specs.Valid.{Valid}
-use Rattle.game.specs.Position.{Arena, Position, places, IsPosition, number, numberUpTo, stocksOf, stockPlacesUpTo, stockPlaces, positionsUpTo, positions, full, opponents, MoveOf, Affordable, Allowed, Reply, offset, outcome}
+use Rattle.game.specs.Position.{Arena, Position, places, IsPosition, number, numberUpTo, positionsUpTo, positions, full, opponents, MoveOf, Affordable, Allowed, Reply, outcome}
+use Rattle.game.specs.Inner.Stocks.{stocksOf, stockPlacesUpTo, stockPlaces, offset}
 use Rattle.game.specs.Model.{structureOf, coalitionOf, arenaOf}
-use Rattle.turns.specs.Rules.{ReplyTo}
+use Rattle.turns.specs.Inner.Rules.{ReplyTo}
 use Rattle.game.proofs.Bridge.Plays.{outcome-fits}
 use Rattle.game.proofs.Bridge.Moves.{idle-move}
 use Rattle.game.proofs.Local.Same.{number-below, positionOf, position-fits, position-number}

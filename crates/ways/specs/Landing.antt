@@ -5,7 +5,8 @@ use mathlib.Core.Path.{_≡_}
 use Prim.Native.Nat.{ℕ, _+_, _*_, _<_}
 use Rattle.block.specs.Layout as L
 use Rattle.block.specs.Layout.{Block}
-use Rattle.game.specs.Position.{Arena, Position, IsPosition, MoveOf, number, stocksOf, stockPlaces, Affordable, outcome}
+use Rattle.game.specs.Position.{Arena, Position, IsPosition, MoveOf, number, Affordable, outcome}
+use Rattle.game.specs.Inner.Stocks.{stocksOf, stockPlaces}
 use Rattle.game.specs.Model.{structureOf, coalitionOf, arenaOf}
 use Rattle.turns.specs.Buffers.{rankIn}
 use Rattle.ways.specs.Lines.{numberIn}

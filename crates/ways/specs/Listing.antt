@@ -8,9 +8,10 @@ use lib.ListN.{getD, length}
 use Rattle.block.specs.Decide.{Bit}
 use Rattle.block.specs.Layout as L
 use Rattle.block.specs.Layout.{Block}
-use Rattle.game.specs.Position.{Allowed, full, offset}
+use Rattle.game.specs.Position.{Allowed, full}
+use Rattle.game.specs.Inner.Stocks.{offset}
 use Rattle.game.specs.Model.{arenaOf}
-use Rattle.turns.specs.Rules.{ReplyTo}
+use Rattle.turns.specs.Inner.Rules.{ReplyTo}
 use Rattle.ways.specs.Lines.{waysBytes, countIn, numberIn, takenIn}
 use Rattle.ways.specs.Packed.{Packs}
 use Rattle.ways.specs.declared.rows.Row.{Row}

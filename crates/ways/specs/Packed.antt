@@ -2,7 +2,8 @@
 use mathlib.Core.List.{List}
 use mathlib.Core.Path.{_≡_}
 use Prim.Native.Nat.{ℕ, zero, suc, _+_, _*_, _-_, _≤_}
-use Rattle.game.specs.Position.{Arena, Position, IsPosition, number, stocksOf}
+use Rattle.game.specs.Position.{Arena, Position, IsPosition, number}
+use Rattle.game.specs.Inner.Stocks.{stocksOf}
 use Rattle.ways.specs.Lines.{packedIn}
 
 -- the first n stocks, the last of them first, after what stands before

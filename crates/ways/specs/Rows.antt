@@ -3,7 +3,7 @@ use mathlib.Core.Path.{_≡_}
 use Prim.Native.Nat.{_<_}
 use Rattle.block.specs.Layout as L
 use Rattle.block.specs.Layout.{Block}
-use Rattle.game.specs.Position.{stockPlaces}
+use Rattle.game.specs.Inner.Stocks.{stockPlaces}
 use Rattle.game.specs.Model.{arenaOf}
 use Rattle.ways.specs.declared.rows.Row.{Row}
 

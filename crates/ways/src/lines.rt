@@ -9,7 +9,8 @@ ghost use Prim.Native.Nat.{_+_, _*_, _≤_, _<_};
 ghost use lib.ListN.{length, set};
 ghost use Rattle.block.specs.Layout.{maxStates, maxJoint};
 ghost use Rattle.turns.specs.Sizes.{maxStockPlaces};
-ghost use Rattle.turns.specs.Buffers.{Stored, rankIn};
+ghost use Rattle.turns.specs.Buffers.{rankIn};
+ghost use Rattle.turns.specs.Inner.Stores.{Stored};
 ghost use Rattle.ways.specs.Lines.{stateBytes, waysBytes, fieldPlace, fieldIn, countAt, lineAt, takesAt, packedIn, countIn, numberIn, takenIn};
 
 // Where the states begin, and how many bytes each has: two counts, and three lines with a byte for each joint action.

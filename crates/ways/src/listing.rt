@@ -15,7 +15,7 @@ ghost use Rattle.block.specs.Layout as L;
 ghost use Rattle.block.specs.Valid.{Valid};
 ghost use Rattle.game.specs.Position.{MoveOf, Affordable, Allowed, full};
 ghost use Rattle.game.specs.Model.{structureOf, coalitionOf, arenaOf};
-ghost use Rattle.turns.specs.Rules.{ReplyTo};
+ghost use Rattle.turns.specs.Inner.Rules.{ReplyTo};
 ghost use Rattle.ways.specs.Lines.{waysBytes, fieldPlace, countIn, numberIn, countAt, lineAt, takesAt};
 ghost use Rattle.ways.specs.Listing.{LeadsInto, Useful, Listable, LineOf, TakesOf, StateListed, Listed, SameOutside};
 ghost use Rattle.ways.specs.Rows.{Playable};

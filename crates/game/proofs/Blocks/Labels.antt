@@ -15,8 +15,9 @@ use Rattle.game.specs.Rbatl.{Formula, Sat}
 use Rattle.game.specs.Position.{full}
 use Rattle.game.specs.Play.{next, always, until}
 use Rattle.game.specs.Table.{Table}
-use Rattle.game.specs.Facts.{RowsDecided, Claims, Facts}
-use Rattle.game.specs.Model.{bit, structureOf, RowTrue, RowSet, Says, arenaOf, objectiveOf}
+use Rattle.game.specs.Inner.Facts.{RowsDecided, Claims, Facts}
+use Rattle.game.specs.Model.{bit, structureOf, RowTrue, RowSet, arenaOf, objectiveOf}
+use Rattle.game.specs.Inner.Words.{Says}
 use Rattle.game.proofs.Numbers.Decide.{all-below, both?, by-test, either?, eq?, from-yes, implies?, isYes, lt?, not?}
 use Rattle.game.proofs.Bridge.Proper.{Proper}
 use Rattle.game.proofs.Local.Decidable.{claims?}

@@ -10,7 +10,8 @@ use Rattle.block.specs.Layout as L
 use Rattle.block.specs.Layout.{Block, digit, Strategic}
 use Rattle.block.specs.Valid.{Valid, RowFits}
 use Rattle.game.specs.Rbatl.{Bound, limit, unlimited, costUpTo}
-use Rattle.game.specs.Position.{Position, remaining, taken, MoveOf, Move, Reply, outcome}
+use Rattle.game.specs.Position.{Position, remaining, MoveOf, Move, Reply, outcome}
+use Rattle.game.specs.Inner.Stocks.{taken}
 use Rattle.game.specs.Model.{bit, structureOf, boundOf, coalitionOf, boundsOf, arenaOf}
 use Rattle.game.proofs.Numbers.Decide.{lt?}
 use Rattle.game.proofs.Numbers.Joint.{joint-below, joint-digit}

@@ -12,7 +12,7 @@ use Rattle.game.specs.Rbatl.{Formula, Sat}
 use Rattle.game.specs.Position.{full}
 use Rattle.game.specs.Play.{Objective}
 use Rattle.game.specs.Table.{Table}
-use Rattle.game.specs.Facts.{RowsDecided, Facts}
+use Rattle.game.specs.Inner.Facts.{RowsDecided, Facts}
 use Rattle.game.specs.Model.{bit, structureOf, formulaOf, RowTrue, arenaOf, objectiveOf}
 use Rattle.game.specs.Demand.{TableOf, Demand3}
 use Rattle.game.proofs.Numbers.Decide.{by-test, either?, eq?, not?}

@@ -10,7 +10,7 @@ use Rattle.block.proofs.Masks.{bit-above}
 use Rattle.game.specs.Position.{full}
 use Rattle.game.specs.Play.{CoalitionWins}
 use Rattle.game.specs.Table.{Table}
-use Rattle.game.specs.Facts.{Claims, Facts}
+use Rattle.game.specs.Inner.Facts.{Claims, Facts}
 use Rattle.game.specs.Model.{RowTrue, RowSet, WonSet, arenaOf, objectiveOf}
 use Rattle.game.specs.Demand.{TableOf}
 use Rattle.game.proofs.Numbers.Decide.{lt?}

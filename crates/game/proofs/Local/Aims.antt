@@ -5,7 +5,7 @@ use Prim.Native.Nat.{ℕ}
 use Rattle.game.specs.Position.{Arena, Position, IsPosition, Reply, Allowed, outcome}
 use Rattle.game.specs.Play.{Objective, next, always, until}
 use Rattle.game.specs.Table.{Table, never, rankAt, Aim, Good, Met, Smallest, Failed, CounterAim, ReplyIs}
-use Rattle.game.specs.Facts.{RowsDecided, Claims}
+use Rattle.game.specs.Inner.Facts.{RowsDecided, Claims}
 use Rattle.game.proofs.Numbers.Decide.{all-below, both?, eq?, implies?, lt?, not?}
 use Rattle.game.proofs.Bridge.Proper.{Proper}
 use Rattle.game.proofs.Bridge.Plays.{outcome-fits}

@@ -4,7 +4,7 @@ use Prim.Native.Nat.{ℕ, _<_}
 use Rattle.game.specs.Position.{Arena, Position, number, Reply, outcome}
 use Rattle.game.specs.Play.{Objective, next, always, until}
 use Rattle.game.specs.Table.{Table, never, rankAt, moveAt, Good, Met, MoveIs}
-use Rattle.game.specs.Facts.{CanForce, CanAnswer, Claims}
+use Rattle.game.specs.Inner.Facts.{CanForce, CanAnswer, Claims}
 use Rattle.game.proofs.Local.Same.{Same, same-sym, same-number, same-allowed, same-reply, same-outcome}
 
 module _ (G : Arena) where

@@ -8,7 +8,7 @@ use Rattle.game.specs.Rbatl.{Bound, limit, unlimited, Fits, Coalition, S
 use Rattle.game.specs.Position.{Arena, Position, places, opponents, MoveOf, IsPosition, budget, Reply, cost, Allowed, outcome}
 use Rattle.game.specs.Play.{Objective, next, always, until}
 use Rattle.game.specs.Table.{Table, never, rankAt}
-use Rattle.game.specs.Facts.{Claims}
+use Rattle.game.specs.Inner.Facts.{Claims}
 use Rattle.game.proofs.Numbers.Decide.{all-below, both?, eq?, implies?, le?, lt?, some-below}
 
 abbrev pub fits? : (n : ℕ) (b : Bound) → Dec (Fits n b)

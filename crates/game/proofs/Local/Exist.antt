@@ -7,7 +7,7 @@ use native.Mathlib.Omega.{arith}
 use Rattle.game.specs.Position.{Arena, Position, IsPosition, Reply, Allowed, outcome}
 use Rattle.game.specs.Play.{Objective, next, always, until}
 use Rattle.game.specs.Table.{Table, never, rankAt, Good, Met, Failed, CounterAim, Smallest, ReplyIs}
-use Rattle.game.specs.Facts.{CanForce, CanAnswer, RankFacts, RowsDecided, Claims, Facts}
+use Rattle.game.specs.Inner.Facts.{CanForce, CanAnswer, RankFacts, RowsDecided, Claims, Facts}
 use Rattle.game.proofs.Numbers.Decide.{both?}
 use Rattle.game.proofs.Bridge.Proper.{Proper}
 use Rattle.game.proofs.Numbers.Ranks.{below-suc}

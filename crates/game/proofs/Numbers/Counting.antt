@@ -6,7 +6,7 @@ use native.Mathlib.Omega.{arith}
 use lib.Dec.{ltb}
 use borrow.Author.Tests.{lt-ltb, le-ltb}
 use Rattle.game.specs.Table.{never}
-use Rattle.game.specs.Sweep.{countBelow, Crowded, total}
+use Rattle.game.specs.Inner.Sweep.{countBelow, Crowded, total}
 use Rattle.game.proofs.Numbers.Decide.{eq?, lt?}
 
 one-below : (a k : ℕ) → a < k → cond {A = ℕ} (ltb a k) 1 0 ≡ 1

@@ -5,7 +5,8 @@ use mathlib.Core.Path.{_≡_}
 use Prim.Native.Nat.{ℕ, zero, suc, _+_, _-_, _≤_, _<_}
 use native.Mathlib.Omega.{arith}
 use Rattle.game.specs.Rbatl.{Bound, limit, unlimited, Fits}
-use Rattle.game.specs.Position.{stockBound, remaining, taken, places}
+use Rattle.game.specs.Position.{stockBound, remaining, places}
+use Rattle.game.specs.Inner.Stocks.{taken}
 
 -- stock, cost and total of one resource at each moment
 pub record Ledger (bound : Bound) (stock cost total : ℕ → ℕ) : Type 0 where

@@ -9,7 +9,7 @@ use lib.ListN.{getD}
 use Rattle.game.specs.Position.{Arena, Position, IsPosition, number, positions}
 use Rattle.game.specs.Play.{Objective, next, always, until}
 use Rattle.game.specs.Table.{Table, never, noMove, moveAt, Smallest, Good, Met, MoveIs}
-use Rattle.game.specs.Facts.{CanForce, CanAnswer, RankFacts, RowsDecided, Claims, Facts}
+use Rattle.game.specs.Inner.Facts.{CanForce, CanAnswer, RankFacts, RowsDecided, Claims, Facts}
 use Rattle.game.proofs.Numbers.Decide.{lt?, not?}
 use Rattle.game.proofs.Numbers.Values.{values, value-at}
 use Rattle.game.proofs.Bridge.Proper.{Proper}

@@ -4,7 +4,7 @@ use Prim.Native.Nat.{ℕ, _^_, _≤_, _<_}
 use native.Mathlib.Omega.{arith}
 use Rattle.game.specs.Position.{Arena, Position, IsPosition, number, Reply, outcome}
 use Rattle.game.specs.Table.{never}
-use Rattle.game.specs.Facts.{CanForce, CanAnswer}
+use Rattle.game.specs.Inner.Facts.{CanForce, CanAnswer}
 use Rattle.game.proofs.Numbers.Decide.{not-not, not?}
 use Rattle.game.proofs.Numbers.Values.{largest, least, largest-each, largest-some, least-each, least-some}
 use Rattle.game.proofs.Bridge.Proper.{Proper}

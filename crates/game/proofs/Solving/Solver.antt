@@ -9,8 +9,8 @@ use lib.ListN.{length, length-set, getD, set}
 use lib.Seq.{getD-set-same, getD-set-other}
 use Rattle.game.specs.Position.{Arena, Position, IsPosition, number, positions}
 use Rattle.game.specs.Table.{never}
-use Rattle.game.specs.Facts.{Ranked}
-use Rattle.game.specs.Sweep.{Kept, total}
+use Rattle.game.specs.Inner.Facts.{Ranked}
+use Rattle.game.specs.Inner.Sweep.{Kept, total}
 use Rattle.game.proofs.Numbers.Decide.{both?, le?, lt?}
 use Rattle.game.proofs.Numbers.Ranks.{below-suc}
 use Rattle.game.proofs.Numbers.Values.{values, values-length, value-at}

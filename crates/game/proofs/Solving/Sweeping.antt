@@ -5,8 +5,8 @@ use Prim.Native.Nat.{ℕ, suc, _≤_, _<_}
 use native.Mathlib.Omega.{arith}
 use Rattle.game.specs.Position.{Arena, Position, IsPosition, number, positions, outcome}
 use Rattle.game.specs.Table.{never}
-use Rattle.game.specs.Facts.{CanForce, CanAnswer, Sound, Ranked}
-use Rattle.game.specs.Sweep.{Crowded}
+use Rattle.game.specs.Inner.Facts.{CanForce, CanAnswer, Sound, Ranked}
+use Rattle.game.specs.Inner.Sweep.{Crowded}
 use Rattle.game.proofs.Numbers.Decide.{eq?, lt?}
 use Rattle.game.proofs.Bridge.Proper.{Proper}
 use Rattle.game.proofs.Bridge.Plays.{outcome-fits}

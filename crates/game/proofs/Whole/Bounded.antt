@@ -5,7 +5,7 @@ use native.Mathlib.Decide.{ℕ-discrete}
 use native.Mathlib.Omega.{arith}
 use Rattle.game.specs.Position.{Arena, Position, IsPosition, number, positions}
 use Rattle.game.specs.Table.{never}
-use Rattle.game.specs.Facts.{CanForce, CanAnswer, Ranked}
+use Rattle.game.specs.Inner.Facts.{CanForce, CanAnswer, Ranked}
 use Rattle.game.proofs.Numbers.Pigeonhole.{pigeonhole}
 use Rattle.game.proofs.Bridge.Proper.{Proper}
 use Rattle.game.proofs.Local.Same.{number-below}

@@ -4,7 +4,7 @@ use native.Mathlib.Omega.{arith}
 use mathlib.Core.Path.{_≡_}
 use Rattle.game.specs.Rbatl.{Bound, limit, unlimited, Fits}
 use Rattle.game.specs.Position.{Arena, Position, opponents, stockBound, IsPosition, Reply, Allowed, outcome}
-use Rattle.game.specs.Facts.{CanForce, CanAnswer}
+use Rattle.game.specs.Inner.Facts.{CanForce, CanAnswer}
 use Rattle.game.proofs.Bridge.Proper.{Proper}
 use Rattle.game.proofs.Bridge.Moves.{idle-move, idle-costs-nothing}
 use Rattle.game.proofs.Local.Decidable.{position?, allowed?}

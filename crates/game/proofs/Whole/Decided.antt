@@ -9,7 +9,7 @@ use Rattle.game.specs.Rbatl.{Computation, Strategy}
 use Rattle.game.specs.Position.{Arena, Position, IsPosition, Reply, Allowed, outcome}
 use Rattle.game.specs.Play.{Objective, next, always, until, True, MetWithin, FalseWithin, Settled, Play, CounterStrategy, states, From, Answers, IsCounterStrategy, Afforded, KeepsWithin, Enforces, Forces, CoalitionWins, OpponentsWin}
 use Rattle.game.specs.Table.{Table, never, rankAt, moveAt, RankIs, RankBelow, MoveIs, Failed, CounterAim, ReplyIs, ReplyRule, WonOn, LostOn, Decided}
-use Rattle.game.specs.Facts.{CanForce, CanAnswer, RankFacts, Claims, Backed, WinningFacts, Facts}
+use Rattle.game.specs.Inner.Facts.{CanForce, CanAnswer, RankFacts, Claims, Backed, WinningFacts, Facts}
 use Rattle.game.proofs.Bridge.Proper.{Proper}
 use Rattle.game.proofs.Bridge.Plays.{outcome-fits, strategy-paid, play-against}
 use Rattle.game.proofs.Bridge.Strategies.{asStrategy, keeps}

@@ -9,7 +9,7 @@ use Rattle.game.specs.Rbatl.{Computation, Strategy}
 use Rattle.game.specs.Position.{Arena, Position, IsPosition}
 use Rattle.game.specs.Play.{Objective, next, always, until, Play, CounterStrategy, states, From, Follows, Answers, IsCounterStrategy, Afforded, KeepsWithin, Forces, ForcesAll}
 use Rattle.game.specs.Table.{Table, never, rankAt, LostOn, Unmet, NoSooner}
-use Rattle.game.specs.Facts.{CanForce, CanAnswer, Claims, RankFacts, RowsDecided}
+use Rattle.game.specs.Inner.Facts.{CanForce, CanAnswer, Claims, RankFacts, RowsDecided}
 use Rattle.game.proofs.Bridge.Proper.{Proper}
 use Rattle.game.proofs.Numbers.Decide.{not?}
 use Rattle.game.proofs.Numbers.Ranks.{reaches, puts-off, never-reaches}

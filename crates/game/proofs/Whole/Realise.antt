@@ -5,7 +5,7 @@ use Prim.Native.Nat.{ℕ, suc}
 use Rattle.game.specs.Rbatl.{Strategy}
 use Rattle.game.specs.Position.{Arena, Position, IsPosition, Allowed, outcome}
 use Rattle.game.specs.Play.{Play, CounterStrategy, From, Follows, Answers, IsCounterStrategy, Afforded, KeepsWithin}
-use Rattle.game.specs.Facts.{CanForce, CanAnswer}
+use Rattle.game.specs.Inner.Facts.{CanForce, CanAnswer}
 use Rattle.game.proofs.Bridge.Proper.{Proper}
 use Rattle.game.proofs.Bridge.Plays.{at-fits}
 use Rattle.game.proofs.Bridge.Strategies.{asStrategy, keeps, picks}

@@ -8,7 +8,7 @@ use Rattle.game.specs.Rbatl.{Strategy}
 use Rattle.game.specs.Position.{Arena, Position, IsPosition, Reply, Allowed, outcome}
 use Rattle.game.specs.Play.{Objective, next, always, until, Settled, Play, CounterStrategy, RecallStrategy, states, From, Follows, Answers, IsCounterStrategy, past, FollowsRecall, IsRecallStrategy, Afforded, KeepsWithin}
 use Rattle.game.specs.Table.{Table, never, rankAt, Failed, CounterAim, ReplyRule, LostOn}
-use Rattle.game.specs.Facts.{Claims, RankFacts, RowsDecided}
+use Rattle.game.specs.Inner.Facts.{Claims, RankFacts, RowsDecided}
 use Rattle.game.proofs.Bridge.Proper.{Proper}
 use Rattle.game.proofs.Numbers.Ranks.{reaches, unranked-reached, never-reaches, ranked-spoilt}
 use Rattle.game.proofs.Whole.Settled.{spoilt-settled, false-settled, next-false-settled}

@@ -11,7 +11,7 @@ use Rattle.game.specs.Rbatl.{Computation, Strategy, Coalition, Structure
 use Rattle.game.specs.Position.{Arena, Position, MoveOf, IsPosition, Allowed, outcome}
 use Rattle.game.specs.Play.{Objective, next, always, until, True, Settled, Play, RecallCounter, states, From, Follows, AnswersRecall, IsRecallCounter, Afforded, Paid, KeepsWithin, Enforces}
 use Rattle.game.specs.Table.{Table, never, noMove, shown, rankAt, moveAt, Aim, Good, ByTable, WonOn}
-use Rattle.game.specs.Facts.{Claims, Backed, WinningFacts}
+use Rattle.game.specs.Inner.Facts.{Claims, Backed, WinningFacts}
 use Rattle.game.proofs.Bridge.Proper.{Proper}
 use Rattle.game.proofs.Numbers.Ranks.{reaches, unranked-reached}
 use Rattle.game.proofs.Whole.Settled.{met-settled, next-true-settled}

@@ -3,7 +3,7 @@ use mathlib.Core.Path.{_≡_, sym, _∙_, ap, subst, subst₂}
 use Prim.Native.Nat.{ℕ, _+_, _*_}
 use native.Mathlib.Omega.{arith}
 use borrow.Author.Needs.{needs}
-use Rattle.game.specs.Position.{stockPlaces}
+use Rattle.game.specs.Inner.Stocks.{stockPlaces}
 use Rattle.game.specs.Model.{arenaOf}
 use Rattle.choice.specs.Choices.{Sought}
 use Rattle.choice.specs.Filling.{MoveRight}

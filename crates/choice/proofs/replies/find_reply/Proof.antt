@@ -9,7 +9,7 @@ use Rattle.game.specs.Position.{Position}
 use Rattle.game.specs.Table.{Smallest}
 use Rattle.game.specs.Model.{arenaOf}
 use Rattle.turns.specs.Buffers.{rankIn}
-use Rattle.turns.specs.Rules.{ReplyTo}
+use Rattle.turns.specs.Inner.Rules.{ReplyTo}
 use Rattle.turns.proofs.Opponents.{next-small}
 use Rattle.ways.specs.Landing.{Leaves}
 use Rattle.ways.specs.Lines.{countIn, numberIn}

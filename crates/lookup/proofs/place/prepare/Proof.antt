@@ -5,7 +5,7 @@ use native.Mathlib.Omega.{arith}
 use borrow.Author.Needs.{needs}
 use Rattle.block.specs.Layout as L
 use Rattle.game.specs.Model.{RowSet}
-use Rattle.solver.specs.Needs.{directly}
+use Rattle.solver.specs.Inner.Needs.{directly}
 use Rattle.lookup.proofs.place.prepare.Statement.{statement}
 use Rattle.lookup.proofs.place.prepare.Tie as tie
 

@@ -3,7 +3,7 @@ use mathlib.Core.Path.{sym, _∙_, subst}
 use native.Mathlib.Omega.{arith}
 use Rattle.game.specs.Model.{RowSet}
 use Rattle.game.proofs.Blocks.Tables.{set-small}
-use Rattle.solver.specs.Needs.{directly}
+use Rattle.solver.specs.Inner.Needs.{directly}
 use Rattle.lookup.proofs.Calls.{set-states}
 use borrow.Author.Needs.{needs}
 use Rattle.lookup.proofs.states.list_row.Statement.{statement}

@@ -3,7 +3,7 @@ use Prim.Native.Nat.{_+_, _-_, _^_, _<_}
 use native.Mathlib.Nat.{div-le-self}
 use native.Mathlib.Omega.{arith}
 use Rattle.block.specs.Layout as L
-use Rattle.choice.specs.Tables.{tableIn}
+use Rattle.turns.specs.Buffers.{tableIn}
 use Rattle.report.proofs.Planning.{Planned, planned-none, state-inside, planned-next, planned-all}
 use Rattle.report.proofs.plans.plan_lines.Statement.{statement}
 use Rattle.report.proofs.plans.plan_lines.Tie as tie

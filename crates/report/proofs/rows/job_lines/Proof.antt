@@ -5,7 +5,7 @@ use native.Mathlib.Omega.{arith}
 use lib.ListN.{length}
 use Rattle.block.specs.Layout as L
 use Rattle.turns.specs.Sizes.{setsBytes, roomBytes, movesBytes}
-use Rattle.solver.specs.Labels.{LowerSets}
+use Rattle.solver.specs.Inner.Labels.{LowerSets}
 use Rattle.solver.proofs.Labelling.{lower-more}
 use Rattle.report.specs.Call.{listingBytes}
 use borrow.Author.Needs.{needs}

@@ -6,7 +6,7 @@ use native.Mathlib.Omega.{arith}
 use Rattle.block.specs.Layout as L
 use Rattle.text.proofs.Adding.{adds-then}
 use Rattle.game.specs.Model.{RowSet}
-use Rattle.choice.specs.Tables.{tableIn}
+use Rattle.turns.specs.Buffers.{tableIn}
 use Rattle.game.proofs.Blocks.Tables.{set-small}
 use Rattle.solver.proofs.Needing.{lower-named}
 use Rattle.report.specs.Listing.{setLine, planLines}

@@ -4,7 +4,7 @@ use Prim.Native.Nat.{ℕ, _<_}
 use native.Mathlib.Omega.{arith}
 use Rattle.block.specs.Layout as L
 use Rattle.turns.specs.Buffers.{wordIn}
-use Rattle.solver.specs.Labels.{Prepared}
+use Rattle.solver.specs.Inner.Labels.{Prepared}
 use Rattle.solver.proofs.Tabling.{row-table}
 use borrow.Author.Needs.{needs}
 use Rattle.report.proofs.rows.row_table.Statement.{statement}

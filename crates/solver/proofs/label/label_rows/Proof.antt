@@ -6,7 +6,7 @@ use native.Mathlib.Omega.{arith}
 use lib.ListN.{length}
 use Rattle.block.specs.Layout as L
 use Rattle.block.proofs.Decide as D
-use Rattle.solver.specs.Labels.{InWord, RowsLabelled}
+use Rattle.solver.specs.Inner.Labels.{InWord, RowsLabelled}
 use Rattle.solver.proofs.Needing.{names-lower, labelled-with, labelled-skip}
 use Rattle.solver.proofs.label.label_rows.Statement.{statement}
 use Rattle.solver.proofs.label.label_rows.Tie as tie

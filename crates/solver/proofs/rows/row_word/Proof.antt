@@ -5,7 +5,7 @@ use Prim.Native.Nat.{ℕ, _+_, _-_, _≤_}
 use native.Mathlib.Omega.{arith}
 use Rattle.block.specs.Layout as L
 use Rattle.block.proofs.Decide as D
-use Rattle.solver.specs.Rows.{TrueBy}
+use Rattle.solver.specs.Inner.Rows.{TrueBy}
 use Rattle.solver.proofs.Words.{SaysBelow, longer, says-none, says-with, says-skip, says-all}
 use Rattle.solver.proofs.rows.row_word.Statement.{statement}
 use Rattle.solver.proofs.rows.row_word.Tie as tie

@@ -14,7 +14,7 @@ use Rattle.game.proofs.Local.Same.{number-below}
 use Rattle.game.proofs.Bridge.Truth.{full-fits}
 use Rattle.game.proofs.Blocks.Passing.{few-positions}
 use Rattle.choice.specs.Kinds.{ClaimsBy}
-use Rattle.solver.specs.Rows.{TrueBy}
+use Rattle.solver.specs.Inner.Rows.{TrueBy}
 use Rattle.solver.proofs.Words.{strategic-stands}
 use Rattle.solver.proofs.rows.true_at.Statement.{statement}
 use Rattle.solver.proofs.rows.true_at.Tie as tie

@@ -4,7 +4,7 @@ use mathlib.Core.Path.{refl, sym, subst}
 use native.Mathlib.Omega.{arith}
 use Rattle.block.specs.Layout as L
 use Rattle.game.specs.Model.{RowSet}
-use Rattle.solver.specs.Needs.{directly}
+use Rattle.solver.specs.Inner.Needs.{directly}
 use Rattle.solver.proofs.Tabling.{row-table}
 use borrow.Author.Needs.{needs}
 use Rattle.solver.proofs.table.fill_table.Statement.{statement}

@@ -7,8 +7,10 @@ use native.Mathlib.Numerals.{add-one}
 use native.Mathlib.Omega.{arith}
 use lib.ListN.{length}
 use Rattle.block.specs.Layout as L
-use Rattle.game.specs.Position.{stockPlaces, positions, full}
-use Rattle.turns.specs.Buffers.{rankIn, Stored}
+use Rattle.game.specs.Position.{positions, full}
+use Rattle.game.specs.Inner.Stocks.{stockPlaces}
+use Rattle.turns.specs.Buffers.{rankIn}
+use Rattle.turns.specs.Inner.Stores.{Stored}
 use Rattle.game.specs.Model.{arenaOf}
 use Rattle.game.proofs.Numbers.Decide.{eq?}
 use Rattle.game.proofs.Bridge.Truth.{full-fits}

@@ -7,7 +7,7 @@ use borrow.Author.Needs.{needs}
 use borrow.Author.Tests.{not-true, not-false}
 use Rattle.block.specs.Layout as L
 use Rattle.block.proofs.Decide as D
-use Rattle.game.specs.Position.{stockPlaces}
+use Rattle.game.specs.Inner.Stocks.{stockPlaces}
 use Rattle.game.specs.Model.{arenaOf}
 use Rattle.game.proofs.Blocks.Passing.{valid-proper, few-stocks}
 use Rattle.ways.proofs.Leading.{number-inside}

@@ -7,19 +7,19 @@ use native.Mathlib.Omega.{arith}
 use borrow.Author.Needs.{needs}
 use borrow.Author.Tests.{eq-eqb, ne-eqb}
 use Rattle.block.specs.Layout.{digit}
-use Rattle.game.specs.Position as P
+use Rattle.game.specs.Inner.Parts as Q
 use Rattle.game.specs.Model.{bit}
 use Rattle.turns.proofs.moves.part.Statement.{statement}
 use Rattle.turns.proofs.moves.part.Tie as tie
 
 -- one agent's digit, or 0
-inside : (team m a : ℕ) → team / 2 ^ a % 2 ≡ 1 → P.part (bit team) (digit m) a ≡ m / 4 ^ a % 4
+inside : (team m a : ℕ) → team / 2 ^ a % 2 ≡ 1 → Q.part (bit team) (digit m) a ≡ m / 4 ^ a % 4
 inside team m a e = ap (λ (t : Bool). cond t (digit m a) 0) (eq-eqb (team / 2 ^ a % 2) 1 e)
 
-outside : (team m a : ℕ) → (team / 2 ^ a % 2 ≡ 1 → ⊥) → P.part (bit team) (digit m) a ≡ 0
+outside : (team m a : ℕ) → (team / 2 ^ a % 2 ≡ 1 → ⊥) → Q.part (bit team) (digit m) a ≡ 0
 outside team m a ne = ap (λ (t : Bool). cond t (digit m a) 0) (ne-eqb (team / 2 ^ a % 2) 1 ne)
 
-small : (team m a : ℕ) → P.part (bit team) (digit m) a < 4
+small : (team m a : ℕ) → Q.part (bit team) (digit m) a < 4
 small team m a = go (bit team a)
   where
     go : (t : Bool) → cond t (digit m a) 0 < 4
@@ -27,14 +27,14 @@ small team m a = go (bit team a)
     go false = omega arith
 
 -- after one branch, and after two
-first : (c : tie.Joined1) → c .if1 .r ≡ P.part (bit (c .before .args .team)) (digit (c .before .args .joint)) 0
+first : (c : tie.Joined1) → c .if1 .r ≡ Q.part (bit (c .before .args .team)) (digit (c .before .args .joint)) 0
 first c =
     ⊎-elim
     (λ w. omega (arith, inside (c .before .args .team) (c .before .args .joint) 0 (omega arith)))
     (λ w. omega (arith, outside (c .before .args .team) (c .before .args .joint) 0 (λ e. w .0 .left (omega arith))))
     (c .if1 .came)
 
-second : (c : tie.Joined2) → c .if2 .r ≡ c .before .if1 .r + 4 * P.part (bit (c .before .before .args .team)) (digit (c .before .before .args .joint)) 1
+second : (c : tie.Joined2) → c .if2 .r ≡ c .before .if1 .r + 4 * Q.part (bit (c .before .before .args .team)) (digit (c .before .before .args .joint)) 1
 second c =
     ⊎-elim
     (λ w. omega (arith, inside (c .before .before .args .team) (c .before .before .args .joint) 1 (omega arith)))

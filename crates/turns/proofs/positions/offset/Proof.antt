@@ -6,6 +6,7 @@ use native.Mathlib.Omega.{arith}
 use Rattle.block.specs.Layout as L
 use Rattle.block.specs.Layout.{Block}
 use Rattle.game.specs.Position as P
+use Rattle.game.specs.Inner.Stocks as S
 use Rattle.game.specs.Position.{Position, numberUpTo}
 use Rattle.game.specs.Model.{boundsOf, arenaOf}
 use Rattle.turns.proofs.Numbering.{number-next}
@@ -15,7 +16,7 @@ use Rattle.turns.proofs.positions.offset.Tie as tie
 
 -- what the move takes of each stock
 abbrev takenBy : Block → ℕ → ℕ → ℕ → Position
-takenBy b i s m = record { state = 0; stock = λ r. P.taken (boundsOf b i r) (P.cost (arenaOf b i) (P.full (arenaOf b i) s) m r) }
+takenBy b i s m = record { state = 0; stock = λ r. S.taken (boundsOf b i r) (P.cost (arenaOf b i) (P.full (arenaOf b i) s) m r) }
 
 -- at most 45 of each of two resources, so that the number stays small
 abbrev Inv-loop : tie.InvT-loop

@@ -5,7 +5,8 @@ use native.Mathlib.Numerals.{add-one}
 use native.Mathlib.Omega.{arith}
 use Rattle.block.specs.Layout as L
 use Rattle.block.specs.Layout.{Block}
-use Rattle.game.specs.Position.{places, stockPlacesUpTo}
+use Rattle.game.specs.Position.{places}
+use Rattle.game.specs.Inner.Stocks.{stockPlacesUpTo}
 use Rattle.game.specs.Model.{boundsOf, arenaOf}
 use Rattle.game.proofs.Blocks.Passing.{few-stocks}
 use Rattle.turns.proofs.positions.stock_places.Statement.{statement}

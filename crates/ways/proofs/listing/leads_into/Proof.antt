@@ -8,7 +8,7 @@ use borrow.Author.Tests.{not-true, not-false}
 use Rattle.block.specs.Decide.{Bit, holds, fails}
 use Rattle.block.specs.Layout as L
 use Rattle.block.proofs.Decide as D
-use Rattle.turns.specs.Rules.{ReplyTo}
+use Rattle.turns.specs.Inner.Rules.{ReplyTo}
 use Rattle.turns.proofs.Opponents.{joint-small, next-small}
 use Rattle.ways.specs.Lines.{countIn, numberIn}
 use Rattle.ways.proofs.listing.leads_into.Statement.{statement}

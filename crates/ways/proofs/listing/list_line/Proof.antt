@@ -6,7 +6,7 @@ use Prim.Native.Nat.{ℕ, _+_, _-_, _≤_, _<_}
 use native.Mathlib.Omega.{arith}
 use lib.ListN.{length, set}
 use Rattle.block.proofs.Decide as D
-use Rattle.turns.specs.Rules.{ReplyTo}
+use Rattle.turns.specs.Inner.Rules.{ReplyTo}
 use Rattle.ways.specs.Lines.{fieldPlace, lineAt, numberIn}
 use Rattle.ways.specs.Listing.{Listable, SameOutside}
 use Rattle.ways.proofs.Filling.{LineBelow, line-none, line-skip, line-more, line-all, set-outside, outside-none, outside-both, line-at-small, replies-kept, number-put, number-before}

@@ -6,7 +6,8 @@ use mathlib.Core.Path.{_≡_, sym, _∙_, ap, subst}
 use Prim.Native.Nat.{ℕ, _+_, _-_, _≤_, _<_}
 use native.Mathlib.Omega.{arith}
 use lib.ListN.{length}
-use Rattle.game.specs.Position.{MoveOf, full, offset}
+use Rattle.game.specs.Position.{MoveOf, full}
+use Rattle.game.specs.Inner.Stocks.{offset}
 use Rattle.game.specs.Model.{structureOf, coalitionOf, arenaOf}
 use Rattle.game.proofs.Bridge.Truth.{full-fits}
 use Rattle.ways.specs.Lines.{fieldPlace, takesAt, countIn, numberIn, takenIn}

@@ -3,7 +3,8 @@ use mathlib.Core.Path.{_≡_, refl, _∙_}
 use Prim.Native.Nat.{ℕ, _-_, _≤_, _<_}
 use native.Mathlib.Omega.{arith}
 use lib.ListN.{length}
-use Rattle.game.specs.Position.{number, stocksOf}
+use Rattle.game.specs.Position.{number}
+use Rattle.game.specs.Inner.Stocks.{stocksOf}
 use Rattle.game.specs.Model.{arenaOf}
 use Rattle.ways.specs.Lines.{packedIn}
 use Rattle.ways.specs.Packed.{PackedAt}

@@ -5,7 +5,7 @@ use Prim.Native.Nat.{ℕ, _+_, _*_, _<_}
 use native.Mathlib.Omega.{arith}
 use Rattle.block.specs.Layout as L
 use Rattle.turns.specs.Buffers.{rankIn}
-use Rattle.turns.specs.Rules.{ReplyTo}
+use Rattle.turns.specs.Inner.Rules.{ReplyTo}
 use Rattle.ways.specs.Lines.{numberIn}
 use Rattle.ways.proofs.Leading.{reply-joint, reply-inside}
 use Rattle.ways.proofs.worst.rank_after.Statement.{statement}

@@ -8,7 +8,7 @@ use Rattle.block.specs.Layout as L
 use Rattle.block.specs.Layout.{Block}
 use Rattle.turns.specs.Buffers.{wordIn}
 use Rattle.game.specs.Model.{RowSet}
-use Rattle.solver.specs.Needs.{Names}
+use Rattle.solver.specs.Inner.Needs.{Names}
 use Rattle.choice.specs.Tables.{RanksOf}
 
 -- the rows below row i have their sets

@@ -4,7 +4,7 @@ use Prim.Native.Nat.{ℕ, zero, suc, _+_, _≤_, _<_}
 use lib.Dec.{ltb}
 use Rattle.game.specs.Position.{Arena, Position, number, positions}
 use Rattle.game.specs.Table.{never}
-use Rattle.game.specs.Facts.{Sound}
+use Rattle.game.specs.Inner.Facts.{Sound}
 
 -- how many of the first n ranks are below k
 abbrev pub countBelow : (ℕ → ℕ) → ℕ → ℕ → ℕ

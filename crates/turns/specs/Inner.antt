@@ -1,0 +1,3 @@
+-- Definitions that serve proofs and the contracts of inner functions only.
+pub mod Stores
+pub mod Rules
