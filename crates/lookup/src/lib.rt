@@ -1,5 +1,4 @@
 // What may be asked about one position or one row: the team's move, the reply to it, and the states of a row.
-mod aims;
 pub mod coalition;
 pub mod opponents;
 mod place;
