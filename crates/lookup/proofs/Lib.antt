@@ -1,6 +1,4 @@
 -- The laws that the calls about one position or one row rest on.
-pub mod Aiming
-pub mod Searching
 pub mod Answering
 pub mod Refusing
 pub mod Replying

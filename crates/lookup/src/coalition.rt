@@ -1,11 +1,12 @@
 // The team's move at a position.
 use crate::admit;
-use crate::aims;
 use crate::place;
 use block::fill;
 use block::layout;
 use block::refusal::Answer;
 use block::refusal::Refusal;
+use block::widths::wide;
+use choice::moves;
 use turns::sizes;
 ghost use mathlib.Core.List.{[], _∷_};
 ghost use mathlib.Core.Path.{_≡_};
@@ -27,15 +28,13 @@ fn coalition_at(block: &[u8], i: usize, s: usize, stocks: &[u8], room: &mut [u8]
     ensures { λ a. ⌜ CoalitionAnswer (now (block .entry)) i (position s (now (stocks .entry))) a ⌝ }
     ensures { λ _. ⌜ length (now (room .exit)) ≡ length (now (room .entry)) ⌝ }
 {
-    let here = place::look(block, i, s, stocks, room);
-    if !here.wins {
+    let words = place::prepare(block, i, room);
+    let spot = place::spot_of(block, i, s, stocks);
+    let m = moves::find_move(block, i, words.left, room, spot);
+    if m == sizes::NO_MOVE {
         return Answer::Refused(Refusal::WrongSide);
     }
-    if layout::kind(block, i) == layout::UNTIL_KIND && here.own == 0 {
-        return Answer::Value(0);
-    }
-    let m = aims::find_move(block, i, here.left, here.own, room, s, stocks);
-    Answer::Value(m)
+    Answer::Value(wide(m))
 }
 
 // The team's move of row i in state s with these stocks. The room is left filled with zeros, unless a buffer has another length.

@@ -1,6 +1,5 @@
 // What may be asked about one position or one row: the team's move, the reply to it, and the states of a row.
 mod admit;
-mod aims;
 pub mod coalition;
 pub mod opponents;
 mod place;

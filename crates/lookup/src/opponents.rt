@@ -1,45 +1,66 @@
 // The reply of all others to the team's move at a position.
 use crate::admit;
-use crate::aims;
 use crate::place;
+use crate::place::Words;
 use block::fill;
 use block::layout;
 use block::refusal::Answer;
 use block::refusal::Refusal;
+use choice::kinds;
+use choice::replies;
 use turns::buffers;
 use turns::sizes;
+use ways::landing::Landing;
+use ways::lines;
+use ways::listing;
+use ways::rows;
+use ways::rows::Spot;
+use ways::worst::Step;
 ghost use mathlib.Core.List.{[], _∷_};
 ghost use mathlib.Core.Path.{_≡_};
 ghost use Prim.Native.Nat.{_≤_, _<_};
 ghost use lib.ListN.{length};
-ghost use Rattle.block.specs.Decide.{Decides};
 ghost use Rattle.block.specs.Layout as L;
 ghost use Rattle.block.specs.Valid.{Valid};
-ghost use Rattle.game.specs.Position.{position, IsPosition};
+ghost use Rattle.game.specs.Position.{Position, position, IsPosition};
+ghost use Rattle.game.specs.Inner.Stocks.{stockPlaces};
 ghost use Rattle.game.specs.Model.{arenaOf};
 ghost use Rattle.game.specs.Demand.{Demand3};
-ghost use Rattle.lookup.specs.Aims.{FailedBy};
+ghost use Rattle.ways.specs.Places.{PlacedAt};
+ghost use Rattle.solver.specs.Inner.Labels.{Prepared};
 ghost use Rattle.lookup.specs.Calls.{OpponentsAnswer, ReplyCall};
 ghost use Rattle.turns.specs.Sizes.{roomBytes};
 
-// Whether the row has failed already in state s, at a position of rank own.
-fn failed(kind: usize, left: usize, right: usize, own: usize, s: usize) -> bool
-    requires { ⌜ s < 32 ⌝ }
-    ensures { λ r. ⌜ Decides (FailedBy kind left right own s) r ⌝ }
+// The reply to the move m at a position of a strategic row whose ranks are there.
+fn reply_at(block: &[u8], i: usize, words: Words, spot: Spot, m: usize, ranks: &[u8]) -> Answer
+    requires { ⌜ Valid (now block) ⌝ }
+    requires { ⌜ (i < L.rows (now block)) × L.Strategic (L.kind (now block) i) × (roomBytes ≤ length (now ranks)) ⌝ }
+    requires { ⌜ Prepared (now block) i (words .left) (words .right) (now ranks) ⌝ }
+    requires { ⌜ (spot .state < L.states (now block)) × (spot .place < stockPlaces (arenaOf (now block) i)) ⌝ }
+    ensures { λ a. ⌜ ((p : Position) → PlacedAt (arenaOf (now (block .entry)) i) (spot .state) (spot .place) p → OpponentsAnswer (now (block .entry)) i p m a) ⌝ }
 {
-    if kind == layout::NEXT_KIND {
-        return false;
+    let row = rows::row_of(block, i, false, words.left);
+    let own = buffers::rank_at(ranks, spot.state * row.places + spot.place);
+    if kinds::claims(layout::kind(block, i), own) {
+        return Answer::Refused(Refusal::WrongSide);
     }
-    if kind == layout::ALWAYS_KIND {
-        return own == 0;
+    let mut ways = [0u8; lines::WAYS_BYTES];
+    listing::list_row(block, row, &mut ways);
+    match replies::way_to(block, row, &ways, spot, m) {
+        Landing::At(y) => {
+            let step = Step {
+                state: spot.state,
+                number: m,
+                place: y,
+            };
+            let r = replies::reply_to(block, row, &ways, ranks, step, own, words.right);
+            Answer::Value(r)
+        }
+        Landing::Unpaid => Answer::Refused(Refusal::Move),
     }
-    if buffers::has_bit(left, s) {
-        return false;
-    }
-    !buffers::has_bit(right, s)
 }
 
-// The reply to the move m at a position of a strategic row.
+// The same with the ranks of the row found first.
 fn opponents_at(
     block: &[u8],
     i: usize,
@@ -54,18 +75,9 @@ fn opponents_at(
     ensures { λ a. ⌜ OpponentsAnswer (now (block .entry)) i (position s (now (stocks .entry))) m a ⌝ }
     ensures { λ _. ⌜ length (now (room .exit)) ≡ length (now (room .entry)) ⌝ }
 {
-    let here = place::look(block, i, s, stocks, room);
-    if here.wins {
-        return Answer::Refused(Refusal::WrongSide);
-    }
-    if !aims::allowed(block, i, s, stocks, m) {
-        return Answer::Refused(Refusal::Move);
-    }
-    if failed(layout::kind(block, i), here.left, here.right, here.own, s) {
-        return Answer::Value(0);
-    }
-    let r = aims::find_reply(block, i, here.left, here.own, room, s, stocks, m);
-    Answer::Value(r)
+    let words = place::prepare(block, i, room);
+    let spot = place::spot_of(block, i, s, stocks);
+    reply_at(block, i, words, spot, m, room)
 }
 
 // The reply to the move m in row i, state s with these stocks. The room is left filled with zeros, unless a buffer has another length.

@@ -3,9 +3,9 @@ use block::layout;
 use block::widths::wide;
 use solver::label;
 use solver::rows;
-use turns::buffers;
 use turns::positions;
 use turns::sizes;
+use ways::rows::Spot;
 ghost use mathlib.Core.Path.{_≡_};
 ghost use Prim.Native.Nat.{_≤_, _<_};
 ghost use lib.ListN.{length};
@@ -14,22 +14,15 @@ ghost use Rattle.block.specs.Layout as L;
 ghost use Rattle.block.specs.Valid.{Valid};
 ghost use Rattle.game.specs.Position as P;
 ghost use Rattle.game.specs.Model.{boundsOf, arenaOf};
+ghost use Rattle.ways.specs.Places.{PlacedAt};
 ghost use Rattle.solver.specs.Inner.Labels.{Prepared};
-ghost use Rattle.lookup.specs.Aims.{NoPosition, Stands};
+ghost use Rattle.lookup.specs.Aims.{NoPosition};
 ghost use Rattle.turns.specs.Sizes.{roomBytes};
 
 // The sets of the rows that a row names.
-struct Words {
-    left: usize,
-    right: usize,
-}
-
-// The same, with the rank of a position and whether the team wins there.
-pub struct Standing {
+pub struct Words {
     pub left: usize,
     pub right: usize,
-    pub own: usize,
-    pub wins: bool,
 }
 
 // Whether a stock of resource j is above its bound, or not 0 where it must be.
@@ -64,7 +57,7 @@ pub fn no_position(block: &[u8], i: usize, s: usize, stocks: &[u8]) -> bool
 }
 
 // Labels the rows that row i needs and stores its ranks in the room. Answers the sets of the rows that it names.
-fn prepare(block: &[u8], i: usize, room: &mut [u8]) -> Words
+pub fn prepare(block: &[u8], i: usize, room: &mut [u8]) -> Words
     requires { ⌜ Valid (now block) ⌝ }
     requires { ⌜ (i < L.rows (now block)) × L.Strategic (L.kind (now block) i) × (length (now room) ≡ roomBytes) ⌝ }
     ensures { λ w. ⌜ Prepared (now (block .entry)) i (w .left) (w .right) (now (room .exit)) × (length (now (room .exit)) ≡ length (now (room .entry))) ⌝ }
@@ -80,20 +73,15 @@ fn prepare(block: &[u8], i: usize, room: &mut [u8]) -> Words
     }
 }
 
-// Makes row i ready, with its ranks in the room, and looks at the rank of a position.
-pub fn look(block: &[u8], i: usize, s: usize, stocks: &[u8], room: &mut [u8]) -> Standing
+// The place of a position among the stock places of its state.
+pub fn spot_of(block: &[u8], i: usize, s: usize, stocks: &[u8]) -> Spot
     requires { ⌜ Valid (now block) ⌝ }
-    requires { ⌜ (i < L.rows (now block)) × L.Strategic (L.kind (now block) i) × (L.resources (now block) ≤ length (now stocks)) × (length (now room) ≡ roomBytes) ⌝ }
+    requires { ⌜ (i < L.rows (now block)) × L.Strategic (L.kind (now block) i) × (L.resources (now block) ≤ length (now stocks)) ⌝ }
     requires { ⌜ P.IsPosition (arenaOf (now block) i) (P.position s (now stocks)) ⌝ }
-    ensures { λ t. ⌜ Stands (now (block .entry)) i (P.position s (now (stocks .entry))) (t .left) (t .right) (t .own) (t .wins) (now (room .exit)) × (length (now (room .exit)) ≡ length (now (room .entry))) ⌝ }
+    ensures { λ r. ⌜ PlacedAt (arenaOf (now (block .entry)) i) (r .state) (r .place) (P.position s (now (stocks .entry))) ⌝ }
 {
-    let words = prepare(block, i, room);
-    let own = buffers::rank_at(room, positions::number(block, i, s, stocks));
-    let wins = rows::claims(layout::kind(block, i), own);
-    Standing {
-        left: words.left,
-        right: words.right,
-        own: own,
-        wins: wins,
+    Spot {
+        state: s,
+        place: positions::number(block, i, 0, stocks),
     }
 }

@@ -3,7 +3,7 @@ use crate::lines::list_line;
 use crate::lines::set_line;
 use crate::plans::plan_lines;
 use block::layout;
-use solver::choose;
+use choice::tables;
 use solver::label;
 use turns::buffers;
 use turns::sizes;
@@ -29,7 +29,7 @@ fn row_table(block: &[u8], i: usize, sets: &[u8], ranks: &[u8], moves: &mut [u8]
     ensures { λ _. ⌜ RowTable (now (block .entry)) i (now (ranks .entry)) (now (moves .exit)) ⌝ }
 {
     let left = label::left_set(block, sets, i);
-    choose::fill_moves(block, i, left, ranks, moves);
+    tables::fill_moves(block, i, left, ranks, moves);
 }
 
 // The lines of row i, at most 1,015 bytes, where lower rows have their sets; its own is stored.

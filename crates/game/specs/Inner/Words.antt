@@ -16,3 +16,4 @@ Says b w Q = (w < 2 ^ 32) × ((w < 2 ^ L.states b) × ((s : ℕ) → s < L.state
 abbrev pub objectiveBy : ℕ → ℕ → ℕ → Objective
 objectiveBy k left right = cond (eqb k L.nextKind) (P.next (Bit left)) (cond (eqb k L.alwaysKind) (P.always (Bit left)) (P.until (Bit left) (Bit right)))
 
+

@@ -22,11 +22,7 @@ left-set-requires : tie.Need-left-set-requires
 left-set-requires c κs = search needs
 
 fill-moves-requires : tie.Need-fill-moves-requires
-fill-moves-requires c κs =
-    let start = c .before .before .before .before .before .before in
-    let pre = start .pre in
-    let (right, ready) = told start (c .before .left-set .result) (c .before .left-set .ensures .0) in
-    (pre .0, (pre .1 .0, (omega (arith, pre .1 .1 .0 .1), pre .1 .1 .0 .2, (right, ready .ranks-of))))
+fill-moves-requires c κs = let pre = c .before .before .before .before .before .before .pre in (pre .0, (pre .1 .0, (omega (arith, pre .1 .1 .0 .1), pre .1 .1 .0 .2)))
 
 same-length : tie.Need-same-length
 same-length c = search needs
