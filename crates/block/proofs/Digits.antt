@@ -3,10 +3,10 @@
 use mathlib.Core.Path.{_≡_}
 use Prim.Native.Nat.{ℕ, zero, suc, _<_, _%_}
 use native.Mathlib.Omega.{arith}
-use Rattle.block.specs.Layout.{digit, maxAgents}
+use Rattle.block.specs.Layout.{digit, maxAgents, maxActions}
 
 -- the code does not divide by 1
-pub digit-zero : (joint : ℕ) → digit joint 0 ≡ joint % 4
+pub digit-zero : (joint : ℕ) → digit joint 0 ≡ joint % maxActions
 digit-zero joint = omega arith
 
 pub each-agent : (P : ℕ → Type 0) → P 0 → P 1 → P 2 → (a : ℕ) → a < maxAgents → P a

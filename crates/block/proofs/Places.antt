@@ -7,7 +7,7 @@ use Prim.Native.Nat.{ℕ, _+_, _-_, _*_, _/_, _%_, _≤_, _<_}
 use native.Mathlib.Omega.{arith}
 use lib.Dec.{ltb}
 use borrow.Author.Tests.{lt-ltb, le-ltb}
-use Rattle.block.specs.Layout.{Block, placeOf, InLayout, InUse}
+use Rattle.block.specs.Layout.{Block, maxAgents, maxJoint, rowBytes, actionCosts, agentCosts, stateCosts, maskBase, countBase, costBase, nextBase, rowBase, placeOf, InLayout, InUse}
 use Rattle.block.specs.Valid.{Sized, Counted}
 use Rattle.block.specs.declared.layout.Place.{Place}
 use Rattle.block.specs.declared.layout.Place.the-variants.{Header, Mask, Count, Cost, Next, Field}
@@ -19,55 +19,55 @@ pick false x y = y
 -- the place with number p, region by region
 abbrev placeWith : ℕ → Place
 placeWith p =
-    pick (ltb p 5) (Header p)
-    (pick (ltb p 29) (Mask (p - 5))
-    (pick (ltb p 101) (Count ((p - 29) / 3) ((p - 29) % 3))
-    (pick (ltb p 677) (Cost ((p - 101) / 24) ((p - 101) % 24 / 8) ((p - 101) % 8 / 2) ((p - 101) % 2))
-    (pick (ltb p 2213) (Next ((p - 677) / 64) ((p - 677) % 64))
-    (Field ((p - 2213) / 8) ((p - 2213) % 8))))))
+    pick (ltb p maskBase) (Header p)
+    (pick (ltb p countBase) (Mask (p - maskBase))
+    (pick (ltb p costBase) (Count ((p - countBase) / maxAgents) ((p - countBase) % maxAgents))
+    (pick (ltb p nextBase) (Cost ((p - costBase) / stateCosts) ((p - costBase) % stateCosts / agentCosts) ((p - costBase) % agentCosts / actionCosts) ((p - costBase) % actionCosts))
+    (pick (ltb p rowBase) (Next ((p - nextBase) / maxJoint) ((p - nextBase) % maxJoint))
+    (Field ((p - rowBase) / rowBytes) ((p - rowBase) % rowBytes))))))
 
-header : (p : ℕ) → p < 5 → placeWith p ≡ Header p
-header p h = simp (lt-ltb p 5 h)
+header : (p : ℕ) → p < maskBase → placeWith p ≡ Header p
+header p h = simp (lt-ltb p maskBase h)
 
-mask-at : (p : ℕ) → 5 ≤ p → p < 29 → placeWith p ≡ Mask (p - 5)
-mask-at p l h = simp (le-ltb p 5 l, lt-ltb p 29 h)
+mask-at : (p : ℕ) → maskBase ≤ p → p < countBase → placeWith p ≡ Mask (p - maskBase)
+mask-at p l h = simp (le-ltb p maskBase l, lt-ltb p countBase h)
 
-count-at : (p : ℕ) → 29 ≤ p → p < 101 → placeWith p ≡ Count ((p - 29) / 3) ((p - 29) % 3)
-count-at p l h = simp (le-ltb p 5 (omega arith), le-ltb p 29 l, lt-ltb p 101 h)
+count-at : (p : ℕ) → countBase ≤ p → p < costBase → placeWith p ≡ Count ((p - countBase) / maxAgents) ((p - countBase) % maxAgents)
+count-at p l h = simp (le-ltb p maskBase (omega arith), le-ltb p countBase l, lt-ltb p costBase h)
 
-cost-at : (p : ℕ) → 101 ≤ p → p < 677 → placeWith p ≡ Cost ((p - 101) / 24) ((p - 101) % 24 / 8) ((p - 101) % 8 / 2) ((p - 101) % 2)
-cost-at p l h = simp (le-ltb p 5 (omega arith), le-ltb p 29 (omega arith), le-ltb p 101 l, lt-ltb p 677 h)
+cost-at : (p : ℕ) → costBase ≤ p → p < nextBase → placeWith p ≡ Cost ((p - costBase) / stateCosts) ((p - costBase) % stateCosts / agentCosts) ((p - costBase) % agentCosts / actionCosts) ((p - costBase) % actionCosts)
+cost-at p l h = simp (le-ltb p maskBase (omega arith), le-ltb p countBase (omega arith), le-ltb p costBase l, lt-ltb p nextBase h)
 
-next-at : (p : ℕ) → 677 ≤ p → p < 2213 → placeWith p ≡ Next ((p - 677) / 64) ((p - 677) % 64)
-next-at p l h = simp (le-ltb p 5 (omega arith), le-ltb p 29 (omega arith), le-ltb p 101 (omega arith), le-ltb p 677 l, lt-ltb p 2213 h)
+next-at : (p : ℕ) → nextBase ≤ p → p < rowBase → placeWith p ≡ Next ((p - nextBase) / maxJoint) ((p - nextBase) % maxJoint)
+next-at p l h = simp (le-ltb p maskBase (omega arith), le-ltb p countBase (omega arith), le-ltb p costBase (omega arith), le-ltb p nextBase l, lt-ltb p rowBase h)
 
-field-at : (p : ℕ) → 2213 ≤ p → placeWith p ≡ Field ((p - 2213) / 8) ((p - 2213) % 8)
-field-at p l = simp (le-ltb p 5 (omega arith), le-ltb p 29 (omega arith), le-ltb p 101 (omega arith), le-ltb p 677 (omega arith), le-ltb p 2213 l)
+field-at : (p : ℕ) → rowBase ≤ p → placeWith p ≡ Field ((p - rowBase) / rowBytes) ((p - rowBase) % rowBytes)
+field-at p l = simp (le-ltb p maskBase (omega arith), le-ltb p countBase (omega arith), le-ltb p costBase (omega arith), le-ltb p nextBase (omega arith), le-ltb p rowBase l)
 
 back : (x : Place) → InLayout x → placeWith (placeOf x) ≡ x
 back (Header f) h = header f h
-back (Mask s) h = mask-at (5 + s) (omega arith) (omega arith) ∙ ap Mask (omega arith)
+back (Mask s) h = mask-at (placeOf (Mask s)) (omega arith) (omega arith) ∙ ap Mask (omega arith)
 back (Count s a) h =
-    let p = 29 + 3 * s + a in
-    let e₁ : (p - 29) / 3 ≡ s = omega arith in
-    let e₂ : (p - 29) % 3 ≡ a = omega arith in
+    let p = placeOf (Count s a) in
+    let e₁ : (p - countBase) / maxAgents ≡ s = omega arith in
+    let e₂ : (p - countBase) % maxAgents ≡ a = omega arith in
     count-at p (omega arith) (omega arith) ∙ (cc)
 back (Cost s a k j) h =
-    let p = 101 + 24 * s + 8 * a + 2 * k + j in
-    let e₁ : (p - 101) / 24 ≡ s = omega arith in
-    let e₂ : (p - 101) % 24 / 8 ≡ a = omega arith in
-    let e₃ : (p - 101) % 8 / 2 ≡ k = omega arith in
-    let e₄ : (p - 101) % 2 ≡ j = omega arith in
+    let p = placeOf (Cost s a k j) in
+    let e₁ : (p - costBase) / stateCosts ≡ s = omega arith in
+    let e₂ : (p - costBase) % stateCosts / agentCosts ≡ a = omega arith in
+    let e₃ : (p - costBase) % agentCosts / actionCosts ≡ k = omega arith in
+    let e₄ : (p - costBase) % actionCosts ≡ j = omega arith in
     cost-at p (omega arith) (omega arith) ∙ (cc)
 back (Next s joint) h =
-    let p = 677 + 64 * s + joint in
-    let e₁ : (p - 677) / 64 ≡ s = omega arith in
-    let e₂ : (p - 677) % 64 ≡ joint = omega arith in
+    let p = placeOf (Next s joint) in
+    let e₁ : (p - nextBase) / maxJoint ≡ s = omega arith in
+    let e₂ : (p - nextBase) % maxJoint ≡ joint = omega arith in
     next-at p (omega arith) (omega arith) ∙ (cc)
 back (Field i f) h =
-    let p = 2213 + 8 * i + f in
-    let e₁ : (p - 2213) / 8 ≡ i = omega arith in
-    let e₂ : (p - 2213) % 8 ≡ f = omega arith in
+    let p = placeOf (Field i f) in
+    let e₁ : (p - rowBase) / rowBytes ≡ i = omega arith in
+    let e₂ : (p - rowBase) % rowBytes ≡ f = omega arith in
     field-at p (omega arith) ∙ (cc)
 
 pub one-place : (x y : Place) → InLayout x → InLayout y → placeOf x ≡ placeOf y → x ≡ y

@@ -1,6 +1,15 @@
 // The first line.
-use block::layout;
+use block::layout::AGENTS_BYTE;
+use block::layout::MAX_AGENTS;
+use block::layout::MAX_PROPOSITIONS;
+use block::layout::MAX_RESOURCES;
+use block::layout::MAX_ROWS;
+use block::layout::MAX_STATES;
+use block::layout::PROPOSITIONS_BYTE;
 use block::layout::Place;
+use block::layout::RESOURCES_BYTE;
+use block::layout::ROWS_BYTE;
+use block::layout::STATES_BYTE;
 use block::refusal::Refusal;
 use scan::step::Range;
 use scan::step::Step;
@@ -59,50 +68,22 @@ pub fn header(text: &[u8], job: &mut [u8]) -> Opened
     ensures { λ r. ⌜ Inside (now (text .entry)) (r .next) × Fitting (r .z) ⌝ }
 {
     let named = past_word(text, Step::Next(0), b"job,");
-    let n = size(
-        text,
-        named,
-        job,
-        layout::AGENTS_BYTE,
-        COMMA,
-        layout::MAX_AGENTS,
-    );
+    let n = size(text, named, job, AGENTS_BYTE, COMMA, MAX_AGENTS);
     let after_n = n.next;
-    let r = size(
-        text,
-        after_n,
-        job,
-        layout::RESOURCES_BYTE,
-        COMMA,
-        layout::MAX_RESOURCES,
-    );
+    let r = size(text, after_n, job, RESOURCES_BYTE, COMMA, MAX_RESOURCES);
     let after_r = r.next;
-    let m = size(
-        text,
-        after_r,
-        job,
-        layout::STATES_BYTE,
-        COMMA,
-        layout::MAX_STATES,
-    );
+    let m = size(text, after_r, job, STATES_BYTE, COMMA, MAX_STATES);
     let after_m = m.next;
     let p = size(
         text,
         after_m,
         job,
-        layout::PROPOSITIONS_BYTE,
+        PROPOSITIONS_BYTE,
         COMMA,
-        layout::MAX_PROPOSITIONS,
+        MAX_PROPOSITIONS,
     );
     let after_p = p.next;
-    let w = size(
-        text,
-        after_p,
-        job,
-        layout::ROWS_BYTE,
-        LINE_END,
-        layout::MAX_ROWS,
-    );
+    let w = size(text, after_p, job, ROWS_BYTE, LINE_END, MAX_ROWS);
     let next = w.next;
     let z = Sizes {
         agents: n.value,

@@ -2,6 +2,7 @@
 use Prim.Native.Nat.{ℕ, _≤_, _<_, _-_}
 use native.Mathlib.Omega.{arith}
 use borrow.Author.Count.{below-none, below-more}
+use Rattle.block.specs.Layout.{maxJoint}
 use Rattle.block.specs.Decide.{holds, fails}
 use Rattle.block.specs.Check.{BadNext}
 use Rattle.block.proofs.Decide as D
@@ -10,10 +11,10 @@ use Rattle.block.proofs.nexts.joints_bad.Statement.{statement}
 use Rattle.block.proofs.nexts.joints_bad.Tie as tie
 
 abbrev Inv-loop : tie.InvT-loop
-Inv-loop block s joint₀ joint = (joint ≤ 64) × ((x : ℕ) → x < joint → BadNext block s x → ⊥)
+Inv-loop block s joint₀ joint = (joint ≤ maxJoint) × ((x : ℕ) → x < joint → BadNext block s x → ⊥)
 
 abbrev μ-loop : tie.MeasureT-loop
-μ-loop block s joint₀ joint = 64 - joint
+μ-loop block s joint₀ joint = maxJoint - joint
 
 loop-holds : tie.Need-loop-holds Inv-loop μ-loop
 loop-holds c = (search needs, below-none _)

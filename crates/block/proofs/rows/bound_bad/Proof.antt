@@ -1,5 +1,6 @@
 -- `bound_bad` tells a bound of 16 to 254. Assumes nothing.
 use native.Mathlib.Omega.{arith}
+use Rattle.block.specs.Layout.{unlimited}
 use Rattle.block.specs.Decide.{fails}
 use Rattle.block.proofs.Decide as D
 use borrow.Author.Needs.{needs}
@@ -14,7 +15,7 @@ returns c = fails (λ x. omega arith)
 
 returns-2 : tie.Need-returns-2
 returns-2 c =
-    D.opposite (D.equal (c .before .bound .result) 255)
+    D.opposite (D.equal (c .before .bound .result) unlimited)
     (λ e x. x .1 (rw (← c .before .bound .ensures) e))
     (λ n. (omega arith, rw (← c .before .bound .ensures) n))
 

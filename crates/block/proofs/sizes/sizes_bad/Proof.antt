@@ -3,7 +3,7 @@ use mathlib.Core.Bool.{Bool, false}
 use mathlib.Core.Path.{_≡_}
 use Prim.Native.Nat.{ℕ}
 use Rattle.block.specs.Decide.{Decides, holds, Outside}
-use Rattle.block.specs.Layout.{Block, agents, resources, states, propositions, rows}
+use Rattle.block.specs.Layout.{Block, maxAgents, maxResources, maxStates, maxPropositions, maxRows, agents, resources, states, propositions, rows}
 use Rattle.block.specs.Check.{BadSizes, agents-range, resources-range, states-range, propositions-range, rows-range}
 use Rattle.block.proofs.Decide as D
 use borrow.Author.Needs.{needs}
@@ -14,7 +14,7 @@ clear : {high n m : ℕ} {t : Bool} → n ≡ m → Decides (Outside 1 high n) t
 clear e d f = rw e at (D.falsity d f)
 
 -- where the first four sizes are right, the last one is at fault
-last : {b : Block} {n : ℕ} → (Outside 1 3 (agents b) → ⊥) → (Outside 1 2 (resources b) → ⊥) → (Outside 1 24 (states b) → ⊥) → (Outside 1 8 (propositions b) → ⊥) → n ≡ rows b → BadSizes b → Outside 1 32 n
+last : {b : Block} {n : ℕ} → (Outside 1 maxAgents (agents b) → ⊥) → (Outside 1 maxResources (resources b) → ⊥) → (Outside 1 maxStates (states b) → ⊥) → (Outside 1 maxPropositions (propositions b) → ⊥) → n ≡ rows b → BadSizes b → Outside 1 maxRows n
 last a r s p e (agents-range h) = absurd (a h)
 last a r s p e (resources-range h) = absurd (r h)
 last a r s p e (states-range h) = absurd (s h)

@@ -2,6 +2,7 @@
 use Prim.Native.Nat.{ℕ, _≤_, _<_, _-_}
 use native.Mathlib.Omega.{arith}
 use borrow.Author.Count.{below-none, below-more}
+use Rattle.block.specs.Layout.{blockBytes}
 use Rattle.block.specs.Decide.{holds, fails}
 use Rattle.block.specs.Check.{BadPlace}
 use Rattle.block.proofs.Decide as D
@@ -10,10 +11,10 @@ use Rattle.block.proofs.unused.places_bad.Statement.{statement}
 use Rattle.block.proofs.unused.places_bad.Tie as tie
 
 abbrev Inv-loop : tie.InvT-loop
-Inv-loop block p₀ p = (p ≤ 2469) × ((x : ℕ) → x < p → BadPlace block x → ⊥)
+Inv-loop block p₀ p = (p ≤ blockBytes) × ((x : ℕ) → x < p → BadPlace block x → ⊥)
 
 abbrev μ-loop : tie.MeasureT-loop
-μ-loop block p₀ p = 2469 - p
+μ-loop block p₀ p = blockBytes - p
 
 loop-holds : tie.Need-loop-holds Inv-loop μ-loop
 loop-holds c = (search needs, below-none _)
