@@ -6,7 +6,8 @@ use Prim.Native.Nat.{ℕ, _<_, _≤_}
 use native.Mathlib.Omega.{arith}
 use lib.Dec.{ltb, leb, eqb}
 use borrow.Author.Tests.{ltb-true, ltb-false, leb-true, leb-false, eqb-true, eqb-false}
-use Rattle.block.specs.Decide.{Decides, holds, fails, Some}
+use Rattle.block.specs.Decide.{Some}
+use Rattle.block.specs.Inner.Tests.{Decides, holds, fails}
 
 -- what the test's value tells
 pub truth : {P : Type 0} {t : Bool} → Decides P t → t ≡ true → P

@@ -5,7 +5,8 @@ use native.Mathlib.Omega.{arith}
 use lib.Arith.{bin-ind}
 use lib.Count.{ones, ones-step, trailingZeros, under}
 use lib.Pow.{shr-lt, shr-shr}
-use Rattle.block.specs.Decide.{Bit, Lowest}
+use Rattle.block.specs.Decide.{Bit}
+use Rattle.block.specs.Inner.Tests.{Lowest}
 
 half-bit : (w x : ℕ) → w / 2 / 2 ^ x % 2 ≡ w / 2 ^ (1 + x) % 2
 half-bit w x = ap (λ (n : ℕ). n % 2) (shr-shr w 1 x)

@@ -7,11 +7,12 @@ use native.Mathlib.Nat.{div-lt-iff-lt-mul, one-mul}
 use native.Mathlib.Omega.{arith}
 use lib.ListN.{length}
 use lib.Pow.{pow-pos}
-use Rattle.block.specs.Decide.{Decides, holds, fails, Some, Outside, BitFrom}
+use Rattle.block.specs.Decide.{Some, Outside, BitFrom}
+use Rattle.block.specs.Inner.Tests.{Decides, holds, fails}
 use Rattle.block.specs.Refusal.{Meets}
 use Rattle.block.specs.Layout.{Block, blockBytes, maxJoint, agents, resources, states, rows, cost}
 use Rattle.block.specs.Check.{BadSizes, agents-range, resources-range, states-range, propositions-range, rows-range, BadState, BadNext, BadRow, BadPlace, kind-unknown, operands, coalition, prop-range, left-range, right-range, team-empty, team-absent, bound-range, blockRules, Verdict}
-use Rattle.block.specs.Valid.{Range, Sized, Counted, RowFits, Valid}
+use Rattle.block.specs.Inner.Valid.{Range, Sized, Counted, RowFits, Valid}
 use Rattle.block.specs.declared.refusal.Refusal.{Refusal}
 use Rattle.block.specs.declared.refusal.Refusal.the-variants.{Length, Sizes, State, Next, Row, Unused}
 use Rattle.block.specs.declared.refusal.Answer.the-variants.{Value}

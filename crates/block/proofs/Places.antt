@@ -7,8 +7,9 @@ use Prim.Native.Nat.{ℕ, _+_, _-_, _*_, _/_, _%_, _≤_, _<_}
 use native.Mathlib.Omega.{arith}
 use lib.Dec.{ltb}
 use borrow.Author.Tests.{lt-ltb, le-ltb}
-use Rattle.block.specs.Layout.{Block, maxAgents, maxJoint, rowBytes, actionCosts, agentCosts, stateCosts, maskBase, countBase, costBase, nextBase, rowBase, placeOf, InLayout, InUse}
-use Rattle.block.specs.Valid.{Sized, Counted}
+use Rattle.block.specs.Layout.{Block, maxAgents, maxJoint, rowBytes, actionCosts, agentCosts, stateCosts, maskBase, countBase, costBase, nextBase, rowBase, placeOf, InUse}
+use Rattle.block.specs.Inner.Places.{InLayout}
+use Rattle.block.specs.Inner.Valid.{Sized, Counted}
 use Rattle.block.specs.declared.layout.Place.{Place}
 use Rattle.block.specs.declared.layout.Place.the-variants.{Header, Mask, Count, Cost, Next, Field}
 

@@ -1,13 +1,7 @@
--- Words for tests and searches that the specifications of every crate share.
-use mathlib.Core.Bool.{Bool, true, false}
+-- Words for numbers, searches and bits that the specifications of every crate share.
 use mathlib.Core.Logic.{_⊎_}
 use mathlib.Core.Path.{_≡_}
 use Prim.Native.Nat.{ℕ, _<_, _≤_, _/_, _%_, _^_}
-
--- a test tells whether P holds
-pub data Decides (P : Type 0) : Bool → Type 0 where
-  holds : P → Decides P true
-  fails : (P → ⊥) → Decides P false
 
 -- P holds of some number below n
 abbrev pub Some : ℕ → (ℕ → Type 0) → Type 0
@@ -24,8 +18,3 @@ Bit m i = m / 2 ^ i % 2 ≡ 1
 -- the mask m has a bit at or above p
 abbrev pub BitFrom : ℕ → ℕ → Type 0
 BitFrom p m = (i : ℕ) × (p ≤ i) × Bit m i
-
--- s is the lowest bit of the word w
-pub record Lowest (w s : ℕ) : Type 0 where
-  pub bit : Bit w s
-  pub first : (x : ℕ) → x < s → Bit w x → ⊥

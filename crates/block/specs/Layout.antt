@@ -112,15 +112,6 @@ placeOf (Cost s a k j) = costBase + stateCosts * s + agentCosts * a + actionCost
 placeOf (Next s joint) = nextBase + maxJoint * s + joint
 placeOf (Field i f) = rowBase + rowBytes * i + f
 
--- the places of the layout: each number below blockBytes is one of these, and of one only
-abbrev pub InLayout : Place → Type 0
-InLayout (Header f) = f < headerBytes
-InLayout (Mask s) = s < maxStates
-InLayout (Count s a) = (s < maxStates) × (a < maxAgents)
-InLayout (Cost s a k j) = (s < maxStates) × (a < maxAgents) × (k < maxActions) × (j < maxResources)
-InLayout (Next s joint) = (s < maxStates) × (joint < maxJoint)
-InLayout (Field i f) = (i < maxRows) × (f < rowBytes)
-
 abbrev pub byteAt : Block → ℕ → ℕ
 byteAt b p = getD b p 0
 

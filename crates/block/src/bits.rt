@@ -1,6 +1,7 @@
 // Bits of a mask.
 ghost use Prim.Native.Nat.{_<_};
-ghost use Rattle.block.specs.Decide.{Decides, BitFrom};
+ghost use Rattle.block.specs.Decide.{BitFrom};
+ghost use Rattle.block.specs.Inner.Tests.{Decides};
 
 // Whether the mask m has a bit at or above p.
 pub fn bit_from(m: usize, p: usize) -> bool

@@ -2,10 +2,10 @@
 use crate::layout;
 ghost use mathlib.Core.Path.{_≡_};
 ghost use Prim.Native.Nat.{_<_};
-ghost use Rattle.block.specs.Decide.{Decides};
+ghost use Rattle.block.specs.Inner.Tests.{Decides};
 ghost use Rattle.block.specs.Layout as L;
 ghost use Rattle.block.specs.Layout.{maxStates, maxAgents, maxActions, maxJoint, Acts, Available};
-ghost use Rattle.block.specs.Valid.{Sized};
+ghost use Rattle.block.specs.Inner.Valid.{Sized};
 
 // The joint actions of two agents: what the third's digit counts.
 const PAIRS: usize = layout::MAX_ACTIONS * layout::MAX_ACTIONS;

@@ -1,6 +1,6 @@
 // The kinds of rows.
 use crate::layout;
-ghost use Rattle.block.specs.Decide.{Decides};
+ghost use Rattle.block.specs.Inner.Tests.{Decides};
 ghost use Rattle.block.specs.Layout.{Strategic, Binary};
 
 // Whether a row of kind k has a right row.

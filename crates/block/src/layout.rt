@@ -4,7 +4,8 @@ ghost use mathlib.Core.Path.{_≡_};
 ghost use Prim.Native.Nat.{_<_};
 ghost use lib.ListN.{length};
 ghost use Rattle.block.specs.Layout as L;
-ghost use Rattle.block.specs.Layout.{blockBytes, maxStates, maxAgents, maxActions, maxResources, maxJoint, maxRows, rowBytes, placeOf, InLayout, byteAt, at};
+ghost use Rattle.block.specs.Layout.{blockBytes, maxStates, maxAgents, maxActions, maxResources, maxJoint, maxRows, rowBytes, placeOf, byteAt, at};
+ghost use Rattle.block.specs.Inner.Places.{InLayout};
 
 // The largest sizes: agents, resources, states, propositions, rows; actions of an agent.
 pub const MAX_AGENTS: usize = 3;

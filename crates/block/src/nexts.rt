@@ -2,10 +2,11 @@
 use crate::joint::available;
 use crate::layout;
 ghost use Prim.Native.Nat.{_<_};
-ghost use Rattle.block.specs.Decide.{Decides, Some};
+ghost use Rattle.block.specs.Decide.{Some};
+ghost use Rattle.block.specs.Inner.Tests.{Decides};
 ghost use Rattle.block.specs.Layout.{maxStates, maxJoint, states};
 ghost use Rattle.block.specs.Check.{BadNext};
-ghost use Rattle.block.specs.Valid.{Sized};
+ghost use Rattle.block.specs.Inner.Valid.{Sized};
 
 fn next_bad(block: &[u8], s: usize, joint: usize) -> bool
     requires { ⌜ Sized (now block) ⌝ }

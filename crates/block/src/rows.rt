@@ -4,10 +4,11 @@ use crate::kinds::binary;
 use crate::kinds::strategic;
 use crate::layout;
 ghost use Prim.Native.Nat.{_<_};
-ghost use Rattle.block.specs.Decide.{Decides, Some};
+ghost use Rattle.block.specs.Decide.{Some};
+ghost use Rattle.block.specs.Inner.Tests.{Decides};
 ghost use Rattle.block.specs.Layout.{maxRows, maxResources, resources, rows};
 ghost use Rattle.block.specs.Check.{BadBound, BadOperands, BadTeam, BadRow};
-ghost use Rattle.block.specs.Valid.{Sized};
+ghost use Rattle.block.specs.Inner.Valid.{Sized};
 
 fn bound_bad(block: &[u8], i: usize, j: usize) -> bool
     requires { ⌜ Sized (now block) ⌝ }

@@ -2,7 +2,8 @@
 use crate::layout;
 ghost use mathlib.Core.Path.{_≡_};
 ghost use lib.ListN.{length};
-ghost use Rattle.block.specs.Decide.{Decides, Outside};
+ghost use Rattle.block.specs.Decide.{Outside};
+ghost use Rattle.block.specs.Inner.Tests.{Decides};
 ghost use Rattle.block.specs.Layout.{blockBytes};
 ghost use Rattle.block.specs.Check.{BadSizes};
 

@@ -4,10 +4,11 @@ use crate::layout;
 use crate::sizes::outside;
 ghost use mathlib.Core.Path.{_≡_};
 ghost use Prim.Native.Nat.{_<_};
-ghost use Rattle.block.specs.Decide.{Decides, Some};
+ghost use Rattle.block.specs.Decide.{Some};
+ghost use Rattle.block.specs.Inner.Tests.{Decides};
 ghost use Rattle.block.specs.Layout.{maxStates, maxAgents, maxActions, maxResources, resources, agents, states, count};
 ghost use Rattle.block.specs.Check.{BadCost, BadActions, BadState};
-ghost use Rattle.block.specs.Valid.{Sized};
+ghost use Rattle.block.specs.Inner.Valid.{Sized};
 
 fn cost_bad(block: &[u8], s: usize, a: usize, k: usize, j: usize) -> bool
     requires { ⌜ Sized (now block) ⌝ }

@@ -6,10 +6,12 @@ use crate::layout;
 use crate::layout::Place;
 ghost use mathlib.Core.Path.{_≡_};
 ghost use Prim.Native.Nat.{_<_};
-ghost use Rattle.block.specs.Decide.{Decides, Some};
-ghost use Rattle.block.specs.Layout.{blockBytes, maxJoint, InLayout, InUse, UsesField};
+ghost use Rattle.block.specs.Decide.{Some};
+ghost use Rattle.block.specs.Inner.Tests.{Decides};
+ghost use Rattle.block.specs.Layout.{blockBytes, maxJoint, InUse, UsesField};
+ghost use Rattle.block.specs.Inner.Places.{InLayout};
 ghost use Rattle.block.specs.Check.{BadPlace};
-ghost use Rattle.block.specs.Valid.{Sized, Counted};
+ghost use Rattle.block.specs.Inner.Valid.{Sized, Counted};
 
 // Whether a row of kind k uses field f.
 fn uses_field(block: &[u8], k: usize, f: usize) -> bool

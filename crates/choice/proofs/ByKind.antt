@@ -5,7 +5,8 @@ use Prim.Native.Nat.{ℕ, _/_, _%_, _^_, _<_}
 use native.Mathlib.Omega.{arith}
 use lib.Dec.{eqb}
 use borrow.Author.Tests.{ne-eqb}
-use Rattle.block.specs.Decide.{Decides, Bit}
+use Rattle.block.specs.Decide.{Bit}
+use Rattle.block.specs.Inner.Tests.{Decides}
 use Rattle.block.proofs.Decide as D
 use Rattle.game.specs.Position.{Arena, Position}
 use Rattle.game.specs.Play.{Objective, next, always, until}

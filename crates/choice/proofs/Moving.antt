@@ -9,10 +9,11 @@ use native.Mathlib.Omega.{arith}
 use lib.Dec.{eqb, ltb}
 use lib.ListN.{getD}
 use borrow.Author.Tests.{eqb-true}
-use Rattle.block.specs.Decide.{Decides, Bit}
+use Rattle.block.specs.Decide.{Bit}
+use Rattle.block.specs.Inner.Tests.{Decides}
 use Rattle.block.specs.Layout as L
 use Rattle.block.specs.Layout.{Block}
-use Rattle.block.specs.Valid.{Valid}
+use Rattle.block.specs.Inner.Valid.{Valid}
 use Rattle.block.proofs.Decide as D
 use Rattle.game.specs.Position.{Arena, Position, IsPosition, MoveOf, number, Reply, outcome}
 use Rattle.game.specs.Play.{Objective}

@@ -6,7 +6,7 @@ use Prim.Native.Nat.{ℕ, _+_, _*_}
 use native.Mathlib.Omega.{arith}
 use Rattle.block.specs.Layout as L
 use Rattle.block.specs.Layout.{Block}
-use Rattle.block.specs.Valid.{Valid}
+use Rattle.block.specs.Inner.Valid.{Valid}
 use Rattle.game.specs.Position.{Arena, Position, IsPosition, MoveOf, number, Reply, Allowed, outcome}
 use Rattle.game.specs.Play.{Objective}
 use Rattle.game.specs.Table.{Table, Failed, CounterAim, Smallest}

@@ -5,7 +5,7 @@ use native.Mathlib.Nat.{pow-le-pow-right}
 use native.Mathlib.Omega.{arith}
 use Rattle.block.specs.Layout as L
 use Rattle.block.specs.Layout.{Block}
-use Rattle.block.specs.Valid.{Valid}
+use Rattle.block.specs.Inner.Valid.{Valid}
 use Rattle.game.specs.Table.{Smallest}
 use Rattle.game.proofs.Numbers.Decide.{eq?, lt?}
 use Rattle.ways.specs.Listing.{LineOf}

@@ -4,7 +4,7 @@ use mathlib.Core.List.{List}
 use mathlib.Core.Path.{_≡_}
 use Prim.Native.Nat.{ℕ}
 use lib.Dec.{eqb}
-use Rattle.block.specs.Decide.{Decides}
+use Rattle.block.specs.Inner.Tests.{Decides}
 use Rattle.block.specs.Layout as L
 use Rattle.block.specs.Layout.{Block}
 use Rattle.game.specs.Position.{Position, IsPosition, MoveOf, number, Reply, Allowed, outcome}

@@ -3,7 +3,7 @@ use block::layout;
 use turns::buffers;
 use turns::sizes;
 ghost use Prim.Native.Nat.{_<_};
-ghost use Rattle.block.specs.Decide.{Decides};
+ghost use Rattle.block.specs.Inner.Tests.{Decides};
 ghost use Rattle.choice.specs.Kinds.{ClaimsBy, CounterBy, FailedBy};
 
 // Whether a rank says that the coalition wins.

@@ -14,7 +14,7 @@ ghost use mathlib.Core.Path.{_≡_};
 ghost use Prim.Native.Nat.{_≤_, _<_};
 ghost use lib.ListN.{length};
 ghost use Rattle.block.specs.Layout as L;
-ghost use Rattle.block.specs.Valid.{Valid};
+ghost use Rattle.block.specs.Inner.Valid.{Valid};
 ghost use Rattle.turns.specs.Sizes.{roomBytes};
 ghost use Rattle.ways.specs.Landing.{Made};
 ghost use Rattle.ways.specs.Listing.{Listed};

@@ -6,7 +6,7 @@ use Prim.Native.Nat.{ℕ}
 use lib.Dec.{T, ltb, lit<}
 use Rattle.block.specs.Layout as L
 use Rattle.block.specs.Layout.{Block}
-use Rattle.block.specs.Valid.{RowFits}
+use Rattle.block.specs.Inner.Valid.{RowFits}
 use Rattle.game.specs.Position.{Position, IsPosition, positions, Allowed}
 use Rattle.game.specs.Play.{CoalitionWins, OpponentsWin}
 use Rattle.game.specs.Table.{Table, never, RankIs, rankAt, ReplyIs, Decided}

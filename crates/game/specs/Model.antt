@@ -86,4 +86,3 @@ objectiveOf b i =
 abbrev pub WonSet : Block → ℕ → ℕ → Type 0
 WonSet b i w =
     (w < 2 ^ 32) × ((s : ℕ) → Bit w s ↔ ((s < L.states b) × CoalitionWins (arenaOf b i) (objectiveOf b i) (full (arenaOf b i) s)))
-

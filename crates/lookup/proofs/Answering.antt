@@ -6,7 +6,7 @@ use native.Mathlib.Omega.{arith}
 use lib.ListN.{getD}
 use Rattle.block.specs.Layout as L
 use Rattle.block.specs.Layout.{Block, Strategic}
-use Rattle.block.specs.Valid.{Valid}
+use Rattle.block.specs.Inner.Valid.{Valid}
 use Rattle.game.specs.Position.{Position, IsPosition, number}
 use Rattle.game.specs.Play.{Objective, CoalitionWins}
 use Rattle.game.specs.Table.{Table, moveAt, Good, Met, MoveIs}

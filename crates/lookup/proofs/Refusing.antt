@@ -7,7 +7,7 @@ use native.Mathlib.Omega.{arith}
 use lib.ListN.{getD}
 use Rattle.block.specs.Layout as L
 use Rattle.block.specs.Layout.{Block}
-use Rattle.block.specs.Valid.{Valid}
+use Rattle.block.specs.Inner.Valid.{Valid}
 use Rattle.block.specs.Refusal.{_when_, Answers}
 use Rattle.block.specs.declared.refusal.Refusal.the-variants as refusal
 use Rattle.block.specs.declared.refusal.Answer.{Answer}

@@ -4,7 +4,7 @@ use mathlib.Core.Path.{sym, _∙_, transport}
 use Prim.Native.Nat.{ℕ, _<_}
 use Rattle.block.specs.Layout as L
 use Rattle.block.specs.Layout.{Block, Strategic}
-use Rattle.block.specs.Valid.{Valid}
+use Rattle.block.specs.Inner.Valid.{Valid}
 use Rattle.game.specs.Position.{Arena, Position, IsPosition, number, Reply, Allowed, outcome}
 use Rattle.game.specs.Play.{Objective, CoalitionWins, OpponentsWin}
 use Rattle.game.specs.Table.{Table, ReplyIs}

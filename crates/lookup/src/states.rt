@@ -12,7 +12,7 @@ ghost use Prim.Native.Nat.{_<_};
 ghost use lib.ListN.{length};
 ghost use Rattle.block.specs.Layout as L;
 ghost use Rattle.block.specs.Refusal.{Answers, NoValue};
-ghost use Rattle.block.specs.Valid.{Valid};
+ghost use Rattle.block.specs.Inner.Valid.{Valid};
 ghost use Rattle.lookup.specs.States.{statesRules, StatesIn, frontOf, StatesCall, RefusalCall, PartCall};
 ghost use Rattle.turns.specs.Sizes.{roomBytes};
 

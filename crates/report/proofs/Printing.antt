@@ -9,7 +9,7 @@ use lib.ListN.{length, take, replicate, length-append, length-replicate}
 use lib.Seq.{length-take-le}
 use Rattle.block.specs.Refusal.{First, value}
 use Rattle.block.specs.Layout.{Block, blockBytes}
-use Rattle.block.specs.Valid.{Valid}
+use Rattle.block.specs.Inner.Valid.{Valid}
 use Rattle.block.specs.declared.refusal.Refusal.the-variants.{Length}
 use Rattle.block.proofs.Passing.{passing}
 use Rattle.block.proofs.Refusals.{no-refusal, past, rest}

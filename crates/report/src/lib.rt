@@ -12,7 +12,7 @@ use turns::sizes;
 ghost use mathlib.Core.Path.{_≡_};
 ghost use lib.ListN.{length, replicate};
 ghost use Rattle.block.specs.Refusal.{numberOf};
-ghost use Rattle.block.specs.Valid.{Valid};
+ghost use Rattle.block.specs.Inner.Valid.{Valid};
 ghost use Rattle.turns.specs.Sizes.{roomBytes, movesBytes};
 ghost use Rattle.report.specs.Call.{listingBytes, refusedBytes, Filled, ListingIn, ListingCall};
 ghost use Rattle.report.specs.Listing.{refusedLine};

@@ -8,7 +8,7 @@ ghost use Prim.Native.Nat.{ℕ, _+_, _^_, _≤_, _<_};
 ghost use lib.ListN.{length};
 ghost use Rattle.block.specs.Decide.{Bit};
 ghost use Rattle.block.specs.Layout as L;
-ghost use Rattle.block.specs.Valid.{Valid};
+ghost use Rattle.block.specs.Inner.Valid.{Valid};
 ghost use Rattle.text.specs.Inner.Adding.{Adds};
 ghost use Rattle.turns.specs.Buffers.{tableIn};
 ghost use Rattle.report.specs.Listing.{planAt, planLines};

@@ -12,7 +12,7 @@ ghost use mathlib.Core.Path.{_≡_};
 ghost use Prim.Native.Nat.{ℕ, _+_, _≤_, _<_};
 ghost use lib.ListN.{length, take};
 ghost use Rattle.block.specs.Layout as L;
-ghost use Rattle.block.specs.Valid.{Valid};
+ghost use Rattle.block.specs.Inner.Valid.{Valid};
 ghost use Rattle.text.specs.Inner.Adding.{Adds};
 ghost use Rattle.turns.specs.Sizes.{setsBytes, roomBytes, movesBytes};
 ghost use Rattle.solver.specs.Calls.{RowTable};

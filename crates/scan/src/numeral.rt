@@ -8,7 +8,7 @@ ghost use mathlib.Core.List.{_∷_, [], _++_};
 ghost use mathlib.Core.Path.{_≡_};
 ghost use Prim.Native.Nat.{_+_, _/_, _%_, _≤_, _<_};
 ghost use lib.ListN.{length, getD, drop};
-ghost use Rattle.block.specs.Decide.{Decides};
+ghost use Rattle.block.specs.Inner.Tests.{Decides};
 ghost use Rattle.text.specs.Numeral.{numeral, numbers, decimal, search};
 ghost use Rattle.text.specs.Inner.Fields.{Ends};
 ghost use Rattle.scan.specs.Inner.Step.{foundAt, InsideNumeral};

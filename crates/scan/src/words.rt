@@ -5,7 +5,7 @@ use block::refusal::Refusal;
 ghost use mathlib.Core.Path.{_≡_};
 ghost use Prim.Native.Nat.{_<_, _≤_};
 ghost use lib.ListN.{length, drop};
-ghost use Rattle.block.specs.Decide.{Decides};
+ghost use Rattle.block.specs.Inner.Tests.{Decides};
 ghost use Rattle.block.specs.Layout.{Block};
 ghost use Rattle.text.specs.Numeral.{Starts, after};
 ghost use Rattle.text.specs.Format.{Format, exactly, read};

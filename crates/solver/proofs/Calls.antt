@@ -6,7 +6,7 @@ use native.Mathlib.Omega.{arith}
 use lib.ListN.{length}
 use Rattle.block.specs.Layout as L
 use Rattle.block.specs.Layout.{Block}
-use Rattle.block.specs.Valid.{Valid}
+use Rattle.block.specs.Inner.Valid.{Valid}
 use Rattle.block.specs.Refusal.{_when_}
 use Rattle.block.specs.Check.{blockRules}
 use Rattle.block.specs.declared.refusal.Refusal.the-variants.{RowChoice}

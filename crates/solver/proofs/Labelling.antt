@@ -9,7 +9,7 @@ use lib.ListN.{getD}
 use Rattle.block.specs.Decide.{Bit}
 use Rattle.block.specs.Layout as L
 use Rattle.block.specs.Layout.{Block, Strategic}
-use Rattle.block.specs.Valid.{Valid}
+use Rattle.block.specs.Inner.Valid.{Valid}
 use Rattle.game.specs.Position.{Position, number, full}
 use Rattle.game.specs.Play.{Objective, next, always, until}
 use Rattle.game.specs.Table.{Table}

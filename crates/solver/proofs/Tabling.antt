@@ -5,7 +5,7 @@ use Prim.Native.Nat.{ℕ, _<_}
 use lib.ListN.{getD, length}
 use Rattle.block.specs.Layout as L
 use Rattle.block.specs.Layout.{Block, Strategic}
-use Rattle.block.specs.Valid.{Valid}
+use Rattle.block.specs.Inner.Valid.{Valid}
 use Rattle.game.specs.Inner.Facts.{Facts}
 use Rattle.game.specs.Model.{RowSet, arenaOf}
 use Rattle.game.specs.Inner.Words.{objectiveBy}

@@ -11,7 +11,7 @@ ghost use mathlib.Core.Path.{_≡_};
 ghost use Prim.Native.Nat.{_≤_, _<_};
 ghost use lib.ListN.{length};
 ghost use Rattle.block.specs.Layout as L;
-ghost use Rattle.block.specs.Valid.{Valid};
+ghost use Rattle.block.specs.Inner.Valid.{Valid};
 ghost use Rattle.turns.specs.Buffers.{wordIn};
 ghost use Rattle.solver.specs.Calls.{LabelCall};
 ghost use Rattle.solver.specs.Inner.Labels.{NamedSets, InWord, Closed, RowsLabelled, RowLabelled, Ranked};

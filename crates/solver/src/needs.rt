@@ -3,9 +3,10 @@ use block::layout;
 use turns::buffers;
 ghost use mathlib.Core.Logic.{_↔_, _⊎_};
 ghost use Prim.Native.Nat.{ℕ, _^_, _<_};
-ghost use Rattle.block.specs.Decide.{Decides, Bit};
+ghost use Rattle.block.specs.Decide.{Bit};
+ghost use Rattle.block.specs.Inner.Tests.{Decides};
 ghost use Rattle.block.specs.Layout as L;
-ghost use Rattle.block.specs.Valid.{Valid};
+ghost use Rattle.block.specs.Inner.Valid.{Valid};
 ghost use Rattle.solver.specs.Inner.Needs.{Names, Needs};
 
 // Whether row i names a row right.

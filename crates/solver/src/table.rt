@@ -10,7 +10,7 @@ ghost use mathlib.Core.Path.{_≡_};
 ghost use Prim.Native.Nat.{_<_};
 ghost use lib.ListN.{length};
 ghost use Rattle.block.specs.Layout as L;
-ghost use Rattle.block.specs.Valid.{Valid};
+ghost use Rattle.block.specs.Inner.Valid.{Valid};
 ghost use Rattle.game.specs.Demand.{Demand3};
 ghost use Rattle.solver.specs.Calls.{RowTable, TableCall};
 ghost use Rattle.turns.specs.Sizes.{roomBytes, maxPositions};

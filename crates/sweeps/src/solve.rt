@@ -9,7 +9,7 @@ ghost use mathlib.Core.Bool.{false};
 ghost use mathlib.Core.Path.{_≡_};
 ghost use Prim.Native.Nat.{ℕ, _/_, _≤_, _<_};
 ghost use lib.ListN.{length};
-ghost use Rattle.block.specs.Valid.{Valid};
+ghost use Rattle.block.specs.Inner.Valid.{Valid};
 ghost use Rattle.game.specs.Position as P;
 ghost use Rattle.turns.specs.Buffers.{rankIn};
 ghost use Rattle.game.specs.Model.{arenaOf};

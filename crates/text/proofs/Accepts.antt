@@ -6,7 +6,7 @@ use Prim.Native.Nat.{ℕ, _<_}
 use lib.ListN.{length, length-replicate, getD-replicate}
 use Rattle.block.specs.Layout.{Block, blockBytes, byteAt, Used}
 use Rattle.block.specs.Check.{Passes}
-use Rattle.block.specs.Valid.{Valid}
+use Rattle.block.specs.Inner.Valid.{Valid}
 use Rattle.block.proofs.Passing.{passing}
 use Rattle.text.specs.Format.{Spells, accepted}
 use Rattle.text.specs.Job.{job}

@@ -7,7 +7,8 @@ use Prim.Native.Nat.{ℕ, zero, suc, _+_, _*_, _≤_, _<_}
 use native.Mathlib.Omega.{arith}
 use lib.Dec.{eqb, lit<}
 use lib.ListN.{set}
-use Rattle.block.specs.Layout.{InLayout, maxJoint, maxAgents, maxResources, maxStates, maxPropositions, maxRows, maxActions, headerBytes, rowBytes, actionCosts}
+use Rattle.block.specs.Layout.{maxJoint, maxAgents, maxResources, maxStates, maxPropositions, maxRows, maxActions, headerBytes, rowBytes, actionCosts}
+use Rattle.block.specs.Inner.Places.{InLayout}
 use Rattle.block.specs.declared.layout.Place.{Place}
 use Rattle.block.specs.declared.refusal.Refusal.{Refusal}
 use Rattle.text.specs.declared.sizes.Sizes.{Sizes}

@@ -12,7 +12,7 @@ use lib.ListN.{length}
 use lib.Pow.{pow-mono}
 use borrow.Author.Tests.{eq-eqb, ne-eqb}
 use Rattle.block.specs.Layout.{Block, maxAgents, maxResources, maxStates, maxPropositions, maxRows, maxActions, maxUnits, boundByte, blockBytes, placeOf, InUse, Used, UsesField, byteAt, at, agents, resources, states, propositions, rows, count, cost, left, bound, kind, propKind}
-use Rattle.block.specs.Valid.{Counted, RowFits, Valid}
+use Rattle.block.specs.Inner.Valid.{Counted, RowFits, Valid}
 use Rattle.block.specs.declared.layout.Place.{Place}
 use Rattle.block.specs.declared.layout.Place.the-variants.{Header, Mask, Count, Cost, Next, Field}
 use Rattle.text.specs.Numeral.{numbers}

@@ -16,7 +16,8 @@ use lib.Dec.{T, eqb}
 use lib.ListN.{length, length-set}
 use lib.Seq.{getD-set-same, getD-set-other, ext-getD}
 use borrow.Author.Tests.{eqb-true, eqb-false}
-use Rattle.block.specs.Layout.{Block, maxAgents, maxResources, maxStates, maxJoint, headerBytes, boundByte, rowBytes, actionCosts, agentCosts, blockBytes, placeOf, InLayout, byteAt, at}
+use Rattle.block.specs.Layout.{Block, maxAgents, maxResources, maxStates, maxJoint, headerBytes, boundByte, rowBytes, actionCosts, agentCosts, blockBytes, placeOf, byteAt, at}
+use Rattle.block.specs.Inner.Places.{InLayout}
 use Rattle.block.specs.declared.layout.Place.{Place}
 use Rattle.block.specs.declared.layout.Place.the-variants.{Header, Mask, Count, Cost, Next, Field}
 use Rattle.block.specs.declared.refusal.Refusal.{Refusal}

@@ -6,7 +6,7 @@ use Prim.Native.Nat.{ℕ, suc}
 use native.Mathlib.Omega.{arith}
 use lib.Dec.{T, eqb, leb, eqb→eq, leb→le}
 use borrow.Author.Tests.{ne-eqb, le-leb, lt-leb}
-use Rattle.block.specs.Decide.{Decides, holds, fails}
+use Rattle.block.specs.Inner.Tests.{Decides, holds, fails}
 use Rattle.block.specs.Layout.{orKind, nextKind, untilKind, Binary, Strategic}
 use Rattle.text.specs.Job.{both, binary, strategic}
 use Rattle.text.proofs.Decimals.{lt-or-ge}

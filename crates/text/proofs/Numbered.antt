@@ -14,7 +14,8 @@ use lib.Dec.{T, ltb, leb, eqb, lit<}
 use lib.Pow.{pow-pos}
 use borrow.Author.Tests.{ltb-false, leb-false, lt-ltb}
 use Rattle.block.specs.Decide.{Some, BitFrom}
-use Rattle.block.specs.Layout.{Block, maxAgents, maxResources, maxStates, maxPropositions, maxRows, maxActions, maxUnits, maxJoint, boundByte, unlimited, InLayout, at, agents, resources, states, propositions, rows, mask, cost, kind, left, team, bound, propKind}
+use Rattle.block.specs.Layout.{Block, maxAgents, maxResources, maxStates, maxPropositions, maxRows, maxActions, maxUnits, maxJoint, boundByte, unlimited, at, agents, resources, states, propositions, rows, mask, cost, kind, left, team, bound, propKind}
+use Rattle.block.specs.Inner.Places.{InLayout}
 use Rattle.block.specs.Refusal.{Meets}
 use Rattle.block.specs.Check.{BadSizes, agents-range, resources-range, states-range, propositions-range, rows-range, prop-range, left-range, right-range, team-empty, team-absent, bound-range, operands, coalition, BadState, BadNext, BadRow, blockRules}
 use Rattle.block.specs.declared.layout.Place.{Place}

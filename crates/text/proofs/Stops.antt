@@ -12,7 +12,8 @@ use native.Mathlib.Omega.{arith}
 use lib.Dec.{T}
 use lib.ListN.{length, length-set}
 use lib.Seq.{getD-set-other}
-use Rattle.block.specs.Layout.{Block, blockBytes, placeOf, InLayout, at}
+use Rattle.block.specs.Layout.{Block, blockBytes, placeOf, at}
+use Rattle.block.specs.Inner.Places.{InLayout}
 use Rattle.block.specs.declared.layout.Place.{Place}
 use Rattle.block.specs.declared.refusal.Refusal.{Refusal}
 use Rattle.block.specs.declared.refusal.Refusal.the-variants.{Form}

@@ -8,7 +8,7 @@ use native.Mathlib.Omega.{arith}
 use Rattle.block.specs.Decide.{Outside, BitFrom}
 use Rattle.block.specs.Layout.{Block, agents, resources, states, cost, count, kind, Strategic}
 use Rattle.block.specs.Check.{BadSizes, agents-range, resources-range, states-range, propositions-range, rows-range, BadCost, BadActions, BadState, BadNext, BadOperands, BadTeam, BadRow, kind-unknown, operands, coalition, prop-range, left-range, right-range, team-empty, team-absent, bound-range, Passes}
-use Rattle.block.specs.Valid.{Range, RowFits, Valid}
+use Rattle.block.specs.Inner.Valid.{Range, RowFits, Valid}
 use Rattle.block.proofs.Masks.{no-bit-above}
 use Rattle.block.proofs.Refusals.{past, answered}
 

@@ -9,7 +9,8 @@ use lib.Count.{ones, ones-le}
 use lib.ListN.{getD, length, set, replicate, length-set, length-replicate}
 use lib.Pow.{shr-le, shr-shr}
 use lib.Seq.{getD-set-same, getD-set-other}
-use Rattle.block.specs.Decide.{Some, Bit, Lowest}
+use Rattle.block.specs.Decide.{Some, Bit}
+use Rattle.block.specs.Inner.Tests.{Lowest}
 use Rattle.block.proofs.Masks.{no-bit-above}
 use Rattle.block.proofs.Ones.{ones-above, ones-none, ones-zero, lowest-from}
 use Rattle.game.proofs.Numbers.Decide.{eq?, lt?}

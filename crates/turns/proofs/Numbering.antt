@@ -6,7 +6,7 @@ use native.Mathlib.Numerals.{add-one}
 use native.Mathlib.Omega.{arith}
 use Rattle.block.specs.Layout as L
 use Rattle.block.specs.Layout.{Block}
-use Rattle.block.specs.Valid.{Valid}
+use Rattle.block.specs.Inner.Valid.{Valid}
 use Rattle.game.specs.Position.{Position, places, IsPosition, numberUpTo}
 use Rattle.game.specs.Model.{boundsOf, arenaOf}
 use Rattle.game.proofs.Local.Same.{number-below-upto}

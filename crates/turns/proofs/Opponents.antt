@@ -9,7 +9,7 @@ use lib.Pow.{pow-mono}
 use borrow.Author.Tests.{eq-eqb, ne-eqb}
 use Rattle.block.specs.Layout as L
 use Rattle.block.specs.Layout.{Block, digit}
-use Rattle.block.specs.Valid.{Valid}
+use Rattle.block.specs.Inner.Valid.{Valid}
 use Rattle.game.specs.Position.{full, MoveOf}
 use Rattle.game.specs.Model.{bit, structureOf, coalitionOf, arenaOf}
 use Rattle.turns.specs.Inner.Rules.{ReplyTo}

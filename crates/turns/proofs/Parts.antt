@@ -7,7 +7,7 @@ use native.Mathlib.Nat.{pow-le-pow-right, div-eq-of-lt}
 use native.Mathlib.Omega.{arith}
 use Rattle.block.specs.Layout as L
 use Rattle.block.specs.Layout.{Block, digit, Acts, Available}
-use Rattle.block.specs.Valid.{Valid}
+use Rattle.block.specs.Inner.Valid.{Valid}
 use Rattle.block.proofs.Digits.{each-agent}
 use Rattle.game.specs.Rbatl.{Coalition}
 use Rattle.game.specs.Position.{ActsFor, MoveOf}

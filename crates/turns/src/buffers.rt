@@ -4,7 +4,8 @@ ghost use mathlib.Core.Path.{_≡_};
 ghost use mathlib.Core.Logic.{_↔_, _⊎_};
 ghost use Prim.Native.Nat.{ℕ, _+_, _*_, _^_, _≤_, _<_};
 ghost use lib.ListN.{length};
-ghost use Rattle.block.specs.Decide.{Decides, Bit};
+ghost use Rattle.block.specs.Decide.{Bit};
+ghost use Rattle.block.specs.Inner.Tests.{Decides};
 ghost use Rattle.turns.specs.Buffers.{rankIn, wordIn};
 ghost use Rattle.turns.specs.Inner.Stores.{Stored, Lowered};
 

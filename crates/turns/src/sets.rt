@@ -4,7 +4,8 @@ ghost use mathlib.Core.Path.{_≡_};
 ghost use Prim.Native.Nat.{_^_, _<_};
 ghost use lib.Count.{ones};
 ghost use lib.ListN.{length};
-ghost use Rattle.block.specs.Decide.{Bit, Lowest};
+ghost use Rattle.block.specs.Decide.{Bit};
+ghost use Rattle.block.specs.Inner.Tests.{Lowest};
 ghost use Rattle.turns.specs.Listed.{Lists};
 
 // How many states a set has.

@@ -8,7 +8,7 @@ use native.Mathlib.Nat.{mul-le-mul}
 use native.Mathlib.Omega.{arith}
 use Rattle.block.specs.Layout as L
 use Rattle.block.specs.Layout.{Block}
-use Rattle.block.specs.Valid.{Valid}
+use Rattle.block.specs.Inner.Valid.{Valid}
 use Rattle.game.specs.Rbatl.{Fits}
 use Rattle.game.specs.Position.{Arena, Position, IsPosition, stockBound, fullStock, number, positions, full, cost, opponents, MoveOf, Affordable, Allowed, Reply, outcome}
 use Rattle.game.specs.Inner.Stocks.{stocksOf, stockPlaces, offset}

@@ -9,7 +9,7 @@ use Rattle.turns.specs.Inner.Stores.{Stored}
 use Rattle.ways.specs.Lines.{packedIn}
 use Rattle.block.specs.Layout as L
 use Rattle.block.specs.Layout.{Block}
-use Rattle.block.specs.Valid.{Valid}
+use Rattle.block.specs.Inner.Valid.{Valid}
 use Rattle.game.specs.Rbatl.{Bound, limit, unlimited, Fits}
 use Rattle.game.specs.Position.{Arena, Position, IsPosition, places, fullStock, stockBound, remaining, number, numberUpTo, full, cost, Affordable}
 use Rattle.game.specs.Inner.Stocks.{taken, stocksOf, offset}

@@ -7,7 +7,7 @@ use native.Mathlib.Omega.{arith}
 use lib.ListN.{getD}
 use Rattle.block.specs.Layout as L
 use Rattle.block.specs.Layout.{Block}
-use Rattle.block.specs.Valid.{Valid}
+use Rattle.block.specs.Inner.Valid.{Valid}
 use Rattle.game.specs.Position.{Arena, Position, places, IsPosition, number, numberUpTo, positionsUpTo, positions, full, opponents, MoveOf, Affordable, Allowed, Reply, outcome}
 use Rattle.game.specs.Inner.Stocks.{stocksOf, stockPlacesUpTo, stockPlaces, offset}
 use Rattle.game.specs.Model.{structureOf, coalitionOf, arenaOf}

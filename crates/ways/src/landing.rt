@@ -7,7 +7,7 @@ ghost use mathlib.Core.Bool.{true};
 ghost use mathlib.Core.Path.{_≡_};
 ghost use Prim.Native.Nat.{_<_};
 ghost use Rattle.block.specs.Layout as L;
-ghost use Rattle.block.specs.Valid.{Valid};
+ghost use Rattle.block.specs.Inner.Valid.{Valid};
 ghost use Rattle.game.specs.Model.{arenaOf};
 ghost use Rattle.ways.specs.Landing.{Lands};
 ghost use Rattle.ways.specs.Lines.{countIn, numberIn};

@@ -4,7 +4,7 @@ ghost use mathlib.Core.Bool.{Bool};
 ghost use mathlib.Core.Path.{_≡_};
 ghost use Prim.Native.Nat.{_<_};
 ghost use Rattle.block.specs.Layout as L;
-ghost use Rattle.block.specs.Valid.{Valid};
+ghost use Rattle.block.specs.Inner.Valid.{Valid};
 ghost use Rattle.ways.specs.Rows.{Playable};
 
 // The row's number and how many stock places each state has. Where `into`, only moves that lead into the set whatever the reply matter.

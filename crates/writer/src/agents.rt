@@ -7,7 +7,7 @@ ghost use mathlib.Core.Path.{_≡_};
 ghost use Prim.Native.Nat.{_+_, _≤_, _<_};
 ghost use Rattle.block.specs.Layout as L;
 ghost use Rattle.block.specs.Layout.{maxStates, maxAgents, maxActions};
-ghost use Rattle.block.specs.Valid.{Valid};
+ghost use Rattle.block.specs.Inner.Valid.{Valid};
 ghost use Rattle.text.specs.Job as J;
 ghost use Rattle.writer.specs.Inner.Lengths.{costsBytes, actionsBytes, actsLineBytes, agentLinesBytes};
 ghost use Rattle.text.specs.Inner.Fields.{sizesOf};

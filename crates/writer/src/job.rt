@@ -7,7 +7,7 @@ use text::output::word;
 ghost use mathlib.Core.Path.{_≡_};
 ghost use Prim.Native.Nat.{_+_, _≤_};
 ghost use lib.ListN.{length, take};
-ghost use Rattle.block.specs.Valid.{Valid};
+ghost use Rattle.block.specs.Inner.Valid.{Valid};
 ghost use Rattle.text.specs.Job as J;
 ghost use Rattle.text.specs.Text.{textBytes, textOf};
 ghost use Rattle.writer.specs.Inner.Lengths.{headerLineBytes};

@@ -7,7 +7,7 @@ use block::layout;
 ghost use Prim.Native.Nat.{_+_, _≤_, _<_};
 ghost use Rattle.block.specs.Layout as L;
 ghost use Rattle.block.specs.Layout.{maxRows};
-ghost use Rattle.block.specs.Valid.{Valid};
+ghost use Rattle.block.specs.Inner.Valid.{Valid};
 ghost use Rattle.text.specs.Job as J;
 ghost use Rattle.writer.specs.Inner.Lengths.{boundsBytes, teamBytes, operandsBytes, rowLineBytes, rowLinesBytes};
 ghost use Rattle.text.specs.Inner.Fields.{sizesOf};

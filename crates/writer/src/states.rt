@@ -10,7 +10,7 @@ ghost use mathlib.Core.Bool.{cond};
 ghost use Prim.Native.Nat.{_+_, _≤_, _<_};
 ghost use Rattle.block.specs.Layout as L;
 ghost use Rattle.block.specs.Layout.{maxStates, maxJoint};
-ghost use Rattle.block.specs.Valid.{Valid};
+ghost use Rattle.block.specs.Inner.Valid.{Valid};
 ghost use Rattle.text.specs.Job as J;
 ghost use Rattle.writer.specs.Inner.Lengths.{jointBytes, goLineBytes, goLinesBytes, stateLineBytes, stateLinesBytes, statesBytes};
 ghost use Rattle.text.specs.Inner.Fields.{sizesOf};

@@ -5,7 +5,7 @@ use lib.ListN.{drop}
 use Rattle.block.specs.Refusal.{Answers, NoValue}
 use Rattle.block.specs.Layout.{Block}
 use Rattle.block.specs.Check.{blockRules, Verdict}
-use Rattle.block.specs.Valid.{Sized}
+use Rattle.block.specs.Inner.Valid.{Sized}
 use Rattle.block.specs.declared.refusal.Answer.{Answer}
 use Rattle.block.proofs.Decide as D
 use Rattle.block.proofs.Passing.{sized, counted}

@@ -10,7 +10,7 @@ use lib.Dec.{eqb}
 use borrow.Author.Tests.{eq-eqb, ne-eqb}
 use Rattle.block.specs.Layout as L
 use Rattle.block.specs.Layout.{Block, Strategic}
-use Rattle.block.specs.Valid.{RowFits}
+use Rattle.block.specs.Inner.Valid.{RowFits}
 use Rattle.game.specs.Rbatl as R
 use Rattle.game.specs.Rbatl.{Formula, Sat, Can}
 use Rattle.game.specs.Position.{full}

@@ -10,7 +10,7 @@ use lib.Dec.{T, eqb}
 use Rattle.block.specs.Decide.{Bit}
 use Rattle.block.specs.Layout as L
 use Rattle.block.specs.Layout.{Block, Strategic}
-use Rattle.block.specs.Valid.{RowFits}
+use Rattle.block.specs.Inner.Valid.{RowFits}
 use Rattle.game.specs.Rbatl.{Formula, Sat}
 use Rattle.game.specs.Position.{full}
 use Rattle.game.specs.Play.{next, always, until}

@@ -7,7 +7,7 @@ use native.Mathlib.Nat.{div-eq-of-lt, mul-assoc, mul-le-mul, pow-le-pow-right, p
 use native.Mathlib.Omega.{arith}
 use Rattle.block.specs.Layout as L
 use Rattle.block.specs.Layout.{Block, digit, Acts, Strategic}
-use Rattle.block.specs.Valid.{Valid, RowFits}
+use Rattle.block.specs.Inner.Valid.{Valid, RowFits}
 use Rattle.game.specs.Rbatl.{Joint, Available}
 use Rattle.game.specs.Position.{places, joint, positionsUpTo, positions}
 use Rattle.game.specs.Inner.Stocks.{stockPlacesUpTo}

@@ -8,7 +8,7 @@ use native.Mathlib.Omega.{arith}
 use borrow.Author.Tests.{eq-eqb, ne-eqb, lt-ltb}
 use Rattle.block.specs.Layout as L
 use Rattle.block.specs.Layout.{Block, digit, Strategic}
-use Rattle.block.specs.Valid.{Valid, RowFits}
+use Rattle.block.specs.Inner.Valid.{Valid, RowFits}
 use Rattle.game.specs.Rbatl.{Bound, limit, unlimited, costUpTo}
 use Rattle.game.specs.Position.{Position, remaining, MoveOf, Move, Reply, outcome}
 use Rattle.game.specs.Inner.Stocks.{taken}

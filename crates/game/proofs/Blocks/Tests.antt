@@ -5,7 +5,7 @@ use native.Mathlib.Omega.{arith}
 use lib.Dec.{T}
 use Rattle.block.specs.Layout as L
 use Rattle.block.specs.Layout.{Block, Binary, Strategic}
-use Rattle.block.specs.Valid.{RowFits}
+use Rattle.block.specs.Inner.Valid.{RowFits}
 use Rattle.game.specs.Position.{joint}
 use Rattle.game.specs.Model.{structureOf}
 use Rattle.game.proofs.Numbers.Decide.{all-below, both?, either?, eq?, from-yes, implies?, isYes, le?, lt?}

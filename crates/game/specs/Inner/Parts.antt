@@ -12,5 +12,3 @@ part A σ a = cond (A a) (σ a) 0
 -- A's part of the joint action with number m: the digits of A's agents, and 0 for the others
 abbrev pub partOf : Coalition → ℕ → ℕ
 partOf A m = joint maxAgents (part A (digit m))
-
-

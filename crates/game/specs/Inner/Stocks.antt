@@ -24,5 +24,3 @@ module _ (G : Arena) where
   -- the number of what a move takes of the stocks
   abbrev pub offset : Position → ℕ → ℕ
   offset p m = number G (record { state = 0; stock = λ r. taken (G .bounds r) (cost G p m r) })
-
-

@@ -15,5 +15,3 @@ Says b w Q = (w < 2 ^ 32) × ((w < 2 ^ L.states b) × ((s : ℕ) → s < L.state
 -- what the row asks of a play, with lower rows told by their sets
 abbrev pub objectiveBy : ℕ → ℕ → ℕ → Objective
 objectiveBy k left right = cond (eqb k L.nextKind) (P.next (Bit left)) (cond (eqb k L.alwaysKind) (P.always (Bit left)) (P.until (Bit left) (Bit right)))
-
-

@@ -16,5 +16,3 @@ pub record Stored (wordOf : List ℕ → ℕ → ℕ) (before after : List ℕ) 
 abbrev pub Lowered : Bool → List ℕ → List ℕ → ℕ → ℕ → Type 0
 Lowered true before after p v = Stored rankIn before after p v × (v < rankIn before p)
 Lowered false before after p v = (after ≡ before) × (rankIn before p ≤ v)
-
-

@@ -1,7 +1,7 @@
 -- `available` tells whether a joint action can be done: its three digits are tried one after the other. Assumes nothing.
 use lib.Dec.{lit<}
 use borrow.Author.Tests.{not-true, not-false}
-use Rattle.block.specs.Decide.{fails}
+use Rattle.block.specs.Inner.Tests.{fails}
 use Rattle.block.proofs.Decide as D
 use Rattle.block.proofs.Digits.{each-agent}
 use borrow.Author.Needs.{needs}

@@ -1,6 +1,6 @@
 -- `binary` tells the kinds with a right row. Assumes nothing.
 use mathlib.Core.Logic.{inl, inr, ⊎-elim}
-use Rattle.block.specs.Decide.{holds}
+use Rattle.block.specs.Inner.Tests.{holds}
 use Rattle.block.proofs.Decide as D
 use Rattle.block.proofs.kinds.binary.Statement.{statement}
 use Rattle.block.proofs.kinds.binary.Tie as tie

@@ -1,6 +1,6 @@
 -- `strategic` tells the kinds with a team. Assumes nothing.
 use native.Mathlib.Omega.{arith}
-use Rattle.block.specs.Decide.{fails}
+use Rattle.block.specs.Inner.Tests.{fails}
 use Rattle.block.proofs.Decide as D
 use Rattle.block.proofs.kinds.strategic.Statement.{statement}
 use Rattle.block.proofs.kinds.strategic.Tie as tie

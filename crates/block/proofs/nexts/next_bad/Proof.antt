@@ -1,6 +1,6 @@
 -- `next_bad` tells an available joint action whose next state does not exist. Assumes nothing.
 use native.Mathlib.Omega.{arith}
-use Rattle.block.specs.Decide.{fails}
+use Rattle.block.specs.Inner.Tests.{fails}
 use Rattle.block.proofs.Decide as D
 use borrow.Author.Needs.{needs}
 use Rattle.block.proofs.nexts.next_bad.Statement.{statement}

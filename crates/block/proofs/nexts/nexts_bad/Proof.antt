@@ -2,7 +2,7 @@
 use Prim.Native.Nat.{ℕ, _≤_, _<_, _-_}
 use native.Mathlib.Omega.{arith}
 use borrow.Author.Count.{below-none, below-more}
-use Rattle.block.specs.Decide.{holds, fails}
+use Rattle.block.specs.Inner.Tests.{holds, fails}
 use Rattle.block.specs.Decide.{Some}
 use Rattle.block.specs.Layout.{maxJoint}
 use Rattle.block.specs.Check.{BadNext}

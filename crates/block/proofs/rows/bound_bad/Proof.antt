@@ -1,7 +1,7 @@
 -- `bound_bad` tells a bound of 16 to 254. Assumes nothing.
 use native.Mathlib.Omega.{arith}
 use Rattle.block.specs.Layout.{unlimited}
-use Rattle.block.specs.Decide.{fails}
+use Rattle.block.specs.Inner.Tests.{fails}
 use Rattle.block.proofs.Decide as D
 use borrow.Author.Needs.{needs}
 use Rattle.block.proofs.rows.bound_bad.Statement.{statement}

@@ -1,7 +1,7 @@
 -- `operands_bad` tells a row that names what it may not. Assumes nothing.
 use mathlib.Core.Logic.{⊎-elim}
 use native.Mathlib.Omega.{arith}
-use Rattle.block.specs.Decide.{holds, fails}
+use Rattle.block.specs.Inner.Tests.{holds, fails}
 use Rattle.block.specs.Check.{prop-range, left-range, right-range}
 use Rattle.block.proofs.Decide as D
 use borrow.Author.Needs.{needs}

@@ -1,6 +1,6 @@
 -- `row_bad` decides number 5 of one row. Assumes nothing.
 use native.Mathlib.Omega.{arith}
-use Rattle.block.specs.Decide.{holds, fails}
+use Rattle.block.specs.Inner.Tests.{holds, fails}
 use Rattle.block.specs.Check.{kind-unknown, operands, coalition}
 use Rattle.block.proofs.Decide as D
 use borrow.Author.Needs.{needs}

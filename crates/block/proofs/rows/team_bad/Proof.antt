@@ -1,5 +1,5 @@
 -- `team_bad` tells a bad team or a bad bound. Assumes nothing.
-use Rattle.block.specs.Decide.{holds}
+use Rattle.block.specs.Inner.Tests.{holds}
 use Rattle.block.specs.Check.{team-empty, team-absent, bound-range}
 use Rattle.block.proofs.Decide as D
 use borrow.Author.Needs.{needs}

@@ -1,7 +1,7 @@
 -- `outside` tells whether a number is not from 1 to a limit. Assumes nothing.
 use mathlib.Core.Logic.{inl, inr, ⊎-elim}
 use native.Mathlib.Omega.{arith}
-use Rattle.block.specs.Decide.{holds, fails}
+use Rattle.block.specs.Inner.Tests.{holds, fails}
 use Rattle.block.proofs.sizes.outside.Statement.{statement}
 use Rattle.block.proofs.sizes.outside.Tie as tie
 

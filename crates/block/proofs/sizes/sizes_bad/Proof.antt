@@ -2,7 +2,8 @@
 use mathlib.Core.Bool.{Bool, false}
 use mathlib.Core.Path.{_≡_}
 use Prim.Native.Nat.{ℕ}
-use Rattle.block.specs.Decide.{Decides, holds, Outside}
+use Rattle.block.specs.Decide.{Outside}
+use Rattle.block.specs.Inner.Tests.{Decides, holds}
 use Rattle.block.specs.Layout.{Block, maxAgents, maxResources, maxStates, maxPropositions, maxRows, agents, resources, states, propositions, rows}
 use Rattle.block.specs.Check.{BadSizes, agents-range, resources-range, states-range, propositions-range, rows-range}
 use Rattle.block.proofs.Decide as D

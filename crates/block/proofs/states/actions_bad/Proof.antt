@@ -5,7 +5,8 @@ use mathlib.Core.Path.{_≡_}
 use mathlib.Core.Logic.{inl, inr, ⊎-elim}
 use native.Mathlib.Omega.{arith}
 use borrow.Author.Count.{below-none, below-more}
-use Rattle.block.specs.Decide.{Decides, holds, fails, Outside, Some}
+use Rattle.block.specs.Decide.{Outside, Some}
+use Rattle.block.specs.Inner.Tests.{Decides, holds, fails}
 use Rattle.block.specs.Layout.{resources}
 use Rattle.block.specs.Check.{BadCost}
 use Rattle.block.proofs.Decide as D

@@ -1,7 +1,7 @@
 -- `cost_bad` tells a cost above 15, and a cost of idle. Assumes nothing.
 use mathlib.Core.Logic.{inl, inr, ⊎-elim}
 use native.Mathlib.Omega.{arith}
-use Rattle.block.specs.Decide.{holds, fails}
+use Rattle.block.specs.Inner.Tests.{holds, fails}
 use Rattle.block.proofs.Decide as D
 use borrow.Author.Needs.{needs}
 use Rattle.block.proofs.states.cost_bad.Statement.{statement}

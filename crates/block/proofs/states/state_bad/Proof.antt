@@ -1,6 +1,6 @@
 -- `state_bad` tries a state's mask, then its agents. Assumes nothing.
 use mathlib.Core.Logic.{inl, inr, ⊎-elim}
-use Rattle.block.specs.Decide.{holds}
+use Rattle.block.specs.Inner.Tests.{holds}
 use Rattle.block.proofs.Decide as D
 use borrow.Author.Needs.{needs}
 use Rattle.block.proofs.states.state_bad.Statement.{statement}

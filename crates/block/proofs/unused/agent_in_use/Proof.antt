@@ -1,6 +1,6 @@
 -- `agent_in_use` tells whether a state and an agent exist. Assumes nothing.
 use native.Mathlib.Omega.{arith}
-use Rattle.block.specs.Decide.{fails}
+use Rattle.block.specs.Inner.Tests.{fails}
 use Rattle.block.proofs.Decide as D
 use borrow.Author.Needs.{needs}
 use Rattle.block.proofs.unused.agent_in_use.Statement.{statement}

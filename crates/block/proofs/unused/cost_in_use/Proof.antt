@@ -1,7 +1,7 @@
 -- `cost_in_use` tells whether a cost is that of an action, agent and resource that exist. Assumes nothing.
 use native.Mathlib.Omega.{arith}
 use borrow.Author.Tests.{not-true, not-false}
-use Rattle.block.specs.Decide.{fails}
+use Rattle.block.specs.Inner.Tests.{fails}
 use Rattle.block.proofs.Decide as D
 use borrow.Author.Needs.{needs}
 use Rattle.block.proofs.unused.cost_in_use.Statement.{statement}

@@ -1,5 +1,5 @@
 -- `in_use` tells whether the job uses a place, by the place's kind. Assumes nothing.
-use Rattle.block.specs.Decide.{holds}
+use Rattle.block.specs.Inner.Tests.{holds}
 use Rattle.block.proofs.Decide as D
 use borrow.Author.Needs.{needs}
 use Rattle.block.proofs.unused.in_use.Statement.{statement}

@@ -1,6 +1,6 @@
 -- `place_bad` tells an unused place that is not 0. Assumes nothing.
 use mathlib.Core.Path.{sym, subst, _∙_}
-use Rattle.block.specs.Decide.{fails}
+use Rattle.block.specs.Inner.Tests.{fails}
 use Rattle.block.specs.Layout.{InUse}
 use Rattle.block.proofs.Decide as D
 use Rattle.block.proofs.Places.{one-place, used-in-layout}

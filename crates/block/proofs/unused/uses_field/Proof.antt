@@ -2,7 +2,7 @@
 use Prim.Native.Nat.{_+_}
 use mathlib.Core.Logic.{inl, inr, ⊎-elim}
 use native.Mathlib.Omega.{arith}
-use Rattle.block.specs.Decide.{holds, fails}
+use Rattle.block.specs.Inner.Tests.{holds, fails}
 use Rattle.block.proofs.Decide as D
 use borrow.Author.Needs.{needs}
 use Rattle.block.proofs.unused.uses_field.Statement.{statement}

@@ -2,7 +2,8 @@
 use mathlib.Core.Path.{_≡_, ap}
 use Prim.Native.Nat.{ℕ}
 use borrow.Author.Needs.{needs}
-use Rattle.block.specs.Decide.{Bit, fails}
+use Rattle.block.specs.Decide.{Bit}
+use Rattle.block.specs.Inner.Tests.{fails}
 use Rattle.block.proofs.Decide as D
 use Rattle.choice.specs.Kinds.{FailedBy}
 use Rattle.choice.proofs.ByKind.{decides-as, until-stands}

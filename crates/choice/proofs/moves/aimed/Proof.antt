@@ -2,7 +2,7 @@
 use mathlib.Core.Path.{_≡_, sym, ap, subst}
 use Prim.Native.Nat.{ℕ}
 use native.Mathlib.Omega.{arith}
-use Rattle.block.specs.Decide.{holds}
+use Rattle.block.specs.Inner.Tests.{holds}
 use Rattle.game.specs.Position.{MoveOf}
 use Rattle.game.specs.Model.{structureOf, coalitionOf, arenaOf}
 use Rattle.choice.specs.Choices.{AllAimed}

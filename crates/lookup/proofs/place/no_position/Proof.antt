@@ -3,7 +3,7 @@ use mathlib.Core.Path.{subst}
 use Prim.Native.Nat.{ℕ, _-_, _≤_, _<_}
 use native.Mathlib.Omega.{arith}
 use lib.ListN.{getD}
-use Rattle.block.specs.Decide.{Decides, holds, fails}
+use Rattle.block.specs.Inner.Tests.{Decides, holds, fails}
 use Rattle.block.proofs.Decide as D
 use Rattle.game.specs.Position.{places}
 use Rattle.game.specs.Model.{boundsOf}

@@ -1,6 +1,6 @@
 -- `is_digit` tells the bytes of the digits. Assumes nothing.
 use native.Mathlib.Omega.{arith}
-use Rattle.block.specs.Decide.{fails}
+use Rattle.block.specs.Inner.Tests.{fails}
 use Rattle.block.proofs.Decide as D
 use Rattle.scan.proofs.numeral.is_digit.Statement.{statement}
 use Rattle.scan.proofs.numeral.is_digit.Tie as tie

@@ -4,7 +4,7 @@ use Prim.Native.Nat.{ℕ, _+_, _-_, _≤_, _<_}
 use native.Mathlib.Omega.{arith}
 use lib.ListN.{length, getD}
 use borrow.Author.Count.{below-none, below-more}
-use Rattle.block.specs.Decide.{holds, fails}
+use Rattle.block.specs.Inner.Tests.{holds, fails}
 use Rattle.scan.proofs.WordsAt.{room-for, byte-of, stands-at}
 use borrow.Author.Needs.{needs}
 use Rattle.scan.proofs.words.stands.Statement.{statement}

@@ -2,7 +2,7 @@
 use mathlib.Core.Logic.{inl, inr, ⊎-elim}
 use mathlib.Core.Path.{sym, _∙_}
 use borrow.Author.Needs.{needs}
-use Rattle.block.specs.Decide.{holds}
+use Rattle.block.specs.Inner.Tests.{holds}
 use Rattle.block.proofs.Decide as D
 use Rattle.solver.proofs.needs.names_right.Statement.{statement}
 use Rattle.solver.proofs.needs.names_right.Tie as tie

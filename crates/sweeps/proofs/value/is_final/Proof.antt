@@ -4,7 +4,7 @@ use mathlib.Core.Path.{sym, subst}
 use Prim.Native.Nat.{_+_}
 use native.Mathlib.Omega.{arith}
 use lib.Dec.{eqb, leb}
-use Rattle.block.specs.Decide.{Decides}
+use Rattle.block.specs.Inner.Tests.{Decides}
 use Rattle.block.proofs.Decide as D
 use Rattle.sweeps.specs.Values.{Final}
 use Rattle.sweeps.proofs.value.is_final.Statement.{statement}

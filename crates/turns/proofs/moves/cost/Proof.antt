@@ -6,7 +6,7 @@ use native.Mathlib.Nat.{div-one}
 use native.Mathlib.Omega.{arith}
 use Rattle.block.specs.Layout as L
 use Rattle.block.specs.Layout.{Block, digit}
-use Rattle.block.specs.Valid.{Valid}
+use Rattle.block.specs.Inner.Valid.{Valid}
 use Rattle.game.specs.Rbatl.{costUpTo}
 use Rattle.game.specs.Position.{MoveOf}
 use Rattle.game.specs.Model.{bit, structureOf}

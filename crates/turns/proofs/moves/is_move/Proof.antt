@@ -3,7 +3,7 @@ use Prim.Native.Nat.{_≤_}
 use native.Mathlib.Omega.{arith}
 use borrow.Author.Needs.{needs}
 use borrow.Author.Tests.{not-true, not-false}
-use Rattle.block.specs.Decide.{fails}
+use Rattle.block.specs.Inner.Tests.{fails}
 use Rattle.block.proofs.Decide as D
 use mathlib.Core.Path.{_≡_, sym, _∙_}
 use Rattle.game.specs.Model.{bit}

@@ -3,7 +3,7 @@ use mathlib.Core.Path.{subst}
 use Prim.Native.Nat.{ℕ, _-_}
 use native.Mathlib.Omega.{arith}
 use borrow.Author.Needs.{needs}
-use Rattle.block.specs.Decide.{Decides}
+use Rattle.block.specs.Inner.Tests.{Decides}
 use Rattle.block.proofs.Decide as D
 use Rattle.game.specs.Position.{MoveOf}
 use Rattle.game.specs.Model.{bit, structureOf}

@@ -5,7 +5,7 @@ use native.Mathlib.Omega.{arith}
 use borrow.Author.Needs.{needs}
 use borrow.Author.Tests.{not-true, not-false}
 use Prim.Native.Nat.{ℕ}
-use Rattle.block.specs.Decide.{Decides, holds, fails}
+use Rattle.block.specs.Inner.Tests.{Decides, holds, fails}
 use Rattle.block.proofs.Decide as D
 use Rattle.ways.specs.Listing.{Listable}
 use Rattle.ways.proofs.listing.is_listed.Statement.{statement}

@@ -5,7 +5,8 @@ use Prim.Native.Nat.{ℕ, _+_, _-_, _≤_, _<_}
 use native.Mathlib.Omega.{arith}
 use borrow.Author.Count.{below-more}
 use borrow.Author.Tests.{not-true, not-false}
-use Rattle.block.specs.Decide.{Bit, holds, fails}
+use Rattle.block.specs.Decide.{Bit}
+use Rattle.block.specs.Inner.Tests.{holds, fails}
 use Rattle.block.specs.Layout as L
 use Rattle.block.proofs.Decide as D
 use Rattle.turns.specs.Inner.Rules.{ReplyTo}

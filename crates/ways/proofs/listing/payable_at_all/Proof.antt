@@ -2,7 +2,7 @@
 use Prim.Native.Nat.{ℕ, _-_, _≤_, _<_}
 use native.Mathlib.Omega.{arith}
 use borrow.Author.Count.{below-more}
-use Rattle.block.specs.Decide.{holds, fails}
+use Rattle.block.specs.Inner.Tests.{holds, fails}
 use Rattle.block.specs.Layout as L
 use Rattle.game.specs.Rbatl.{Fits}
 use Rattle.game.specs.Position.{stockBound, fullStock, cost, full}

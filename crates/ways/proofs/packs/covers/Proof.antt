@@ -2,7 +2,7 @@
 use Prim.Native.Nat.{_+_, _-_}
 use native.Mathlib.Omega.{arith}
 use borrow.Author.Needs.{needs}
-use Rattle.block.specs.Decide.{fails}
+use Rattle.block.specs.Inner.Tests.{fails}
 use Rattle.block.proofs.Decide as D
 use Rattle.ways.proofs.packs.covers.Statement.{statement}
 use Rattle.ways.proofs.packs.covers.Tie as tie

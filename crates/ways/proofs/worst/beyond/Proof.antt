@@ -2,7 +2,7 @@
 use mathlib.Core.Bool.{Bool}
 use mathlib.Core.Path.{sym, subst}
 use lib.Dec.{leb}
-use Rattle.block.specs.Decide.{Decides}
+use Rattle.block.specs.Inner.Tests.{Decides}
 use Rattle.block.proofs.Decide as D
 use Rattle.ways.specs.Extremes.{Beyond}
 use Rattle.ways.proofs.worst.beyond.Statement.{statement}
