@@ -6,8 +6,6 @@ use turns::sizes;
 use ways::landing;
 use ways::landing::Landing;
 use ways::lines;
-use ways::listing;
-use ways::rows;
 use ways::rows::Row;
 use ways::rows::Spot;
 ghost use mathlib.Core.Bool.{true};
@@ -68,15 +66,13 @@ fn next_states(block: &[u8], row: Row, ways: &[u8], ranks: &mut [u8])
     }
 }
 
-// The ranks of a next row over the set: 1 where the coalition can, else 65535. Past the last position they are 0.
-pub fn next_ranks(block: &[u8], i: usize, set: usize, ranks: &mut [u8])
+// The ranks of a next row, of which the moves into the set are listed: 1 where the coalition can, else 65535. Past the last position
+// they are 0.
+pub fn next_ranks(block: &[u8], row: Row, ways: &[u8], ranks: &mut [u8])
     requires { ⌜ Valid (now block) ⌝ }
-    requires { ⌜ (i < L.rows (now block)) × L.Strategic (L.kind (now block) i) × (length (now ranks) ≡ roomBytes) ⌝ }
-    ensures { λ _. ⌜ NextRanks (now (block .entry)) i set (now (ranks .exit)) × (length (now (ranks .exit)) ≡ length (now (ranks .entry))) ⌝ }
+    requires { ⌜ Playable (now block) row × (row .into ≡ true) × Listed (now block) row (now ways) × (length (now ranks) ≡ roomBytes) ⌝ }
+    ensures { λ _. ⌜ NextRanks (now (block .entry)) (row .index) (row .set) (now (ranks .exit)) × (length (now (ranks .exit)) ≡ length (now (ranks .entry))) ⌝ }
 {
-    let row = rows::row_of(block, i, true, set);
-    let mut ways = [0u8; lines::WAYS_BYTES];
-    listing::list_row(block, row, &mut ways);
     fill::zeros(ranks, 0);
-    next_states(block, row, &ways, ranks);
+    next_states(block, row, ways, ranks);
 }

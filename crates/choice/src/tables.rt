@@ -2,7 +2,6 @@
 use crate::moves;
 use block::fill;
 use block::layout;
-use ways::lines;
 use ways::rows::Row;
 use ways::rows::Spot;
 ghost use mathlib.Core.Path.{_≡_};
@@ -53,17 +52,15 @@ fn fill_states(block: &[u8], row: Row, ways: &[u8], ranks: &[u8], kind: usize, m
     }
 }
 
-// The moves of row i, whose left row has the set left, where its ranks are there: for the coalition the smallest good move where it wins.
-pub fn fill_moves(block: &[u8], i: usize, left: usize, ranks: &[u8], moves: &mut [u8])
+// The moves of a row, whose set is that of its left row, where its moves are listed and its ranks are there.
+pub fn fill_moves(block: &[u8], row: Row, ways: &[u8], ranks: &[u8], moves: &mut [u8])
     requires { ⌜ Valid (now block) ⌝ }
-    requires { ⌜ (i < L.rows (now block)) × L.Strategic (L.kind (now block) i) ⌝ }
+    requires { ⌜ Sought (now block) row (L.kind (now block) (row .index)) × Listed (now block) row (now ways) ⌝ }
     requires { ⌜ (roomBytes ≤ length (now ranks)) × (length (now moves) ≡ maxPositions) ⌝ }
-    ensures { λ _. ⌜ ((right : ℕ) → RanksOf (now (block .entry)) i left right (now (ranks .entry)) → MovesOf (now (block .entry)) i left right (now (ranks .entry)) (now (moves .exit))) ⌝ }
+    ensures { λ _. ⌜ ((right : ℕ) → RanksOf (now (block .entry)) (row .index) (row .set) right (now (ranks .entry)) → MovesOf (now (block .entry)) (row .index) (row .set) right (now (ranks .entry)) (now (moves .exit))) ⌝ }
     ensures { λ _. ⌜ length (now (moves .exit)) ≡ length (now (moves .entry)) ⌝ }
 {
-    let mut ways = [0u8; lines::WAYS_BYTES];
-    let row = moves::list_moves(block, i, left, &mut ways);
-    let kind = layout::kind(block, i);
+    let kind = layout::kind(block, row.index);
     fill::zeros(moves, 0);
-    fill_states(block, row, &ways, ranks, kind, moves);
+    fill_states(block, row, ways, ranks, kind, moves);
 }

@@ -3,10 +3,12 @@ use crate::lines::list_line;
 use crate::lines::set_line;
 use crate::plans::plan_lines;
 use block::layout;
+use choice::moves::list_moves;
 use choice::tables;
 use solver::label;
 use turns::buffers;
 use turns::sizes;
+use ways::lines;
 ghost use mathlib.Core.List.{List};
 ghost use mathlib.Core.Path.{_≡_};
 ghost use Prim.Native.Nat.{ℕ, _+_, _≤_, _<_};
@@ -29,7 +31,9 @@ fn row_table(block: &[u8], i: usize, sets: &[u8], ranks: &[u8], moves: &mut [u8]
     ensures { λ _. ⌜ RowTable (now (block .entry)) i (now (ranks .entry)) (now (moves .exit)) ⌝ }
 {
     let left = label::left_set(block, sets, i);
-    tables::fill_moves(block, i, left, ranks, moves);
+    let mut ways = [0u8; lines::WAYS_BYTES];
+    let row = list_moves(block, i, left, &mut ways);
+    tables::fill_moves(block, row, &ways, ranks, moves);
 }
 
 // The lines of row i, at most 1,015 bytes, where lower rows have their sets; its own is stored.

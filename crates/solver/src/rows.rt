@@ -1,12 +1,14 @@
 // The set of a row: where it is true, with lower rows told by their sets and a strategic row by its ranks.
 use block::layout;
 use choice::kinds;
+use choice::moves;
 use choice::next;
 use sweeps::solve;
 use sweeps::sweep::Side;
 use turns::buffers;
 use turns::positions;
-use ways::rows;
+use ways::lines;
+use ways::rows::Row;
 ghost use mathlib.Core.Path.{_≡_};
 ghost use Prim.Native.Nat.{ℕ, _≤_, _<_};
 ghost use lib.ListN.{length};
@@ -18,6 +20,9 @@ ghost use Rattle.game.specs.Inner.Words.{Says};
 ghost use Rattle.choice.specs.Tables.{RanksOf};
 ghost use Rattle.solver.specs.Inner.Rows.{TrueBy};
 ghost use Rattle.turns.specs.Sizes.{roomBytes};
+ghost use Rattle.ways.specs.Lines.{waysBytes};
+ghost use Rattle.ways.specs.Listing.{Listed};
+ghost use Rattle.choice.specs.Choices.{Sought};
 
 // Whether row i is true in state s.
 fn true_at(block: &[u8], i: usize, left: usize, right: usize, ranks: &[u8], s: usize) -> bool
@@ -73,29 +78,48 @@ fn complement(block: &[u8], set: usize) -> usize
     w
 }
 
-// The ranks of row i, whose lower rows' sets are left and right.
-pub fn rank_row(block: &[u8], i: usize, left: usize, right: usize, ranks: &mut [u8])
+// The ranks of row i, whose lower rows' sets are left and right, with its moves and replies listed.
+pub fn rank_listed(
+    block: &[u8],
+    i: usize,
+    left: usize,
+    right: usize,
+    ways: &mut [u8],
+    ranks: &mut [u8],
+) -> Row
     requires { ⌜ Valid (now block) ⌝ }
-    requires { ⌜ (i < L.rows (now block)) × L.Strategic (L.kind (now block) i) × (length (now ranks) ≡ roomBytes) ⌝ }
+    requires { ⌜ (i < L.rows (now block)) × L.Strategic (L.kind (now block) i) × (length (now ways) ≡ waysBytes) × (length (now ranks) ≡ roomBytes) ⌝ }
     ensures { λ _. ⌜ RanksOf (now (block .entry)) i left right (now (ranks .exit)) × (length (now (ranks .exit)) ≡ length (now (ranks .entry))) ⌝ }
+    ensures { λ r. ⌜ Sought (now (block .entry)) r (L.kind (now (block .entry)) i) × Listed (now (block .entry)) r (now (ways .exit)) × (r .index ≡ i) × (r .set ≡ left) ⌝ }
 {
+    let row = moves::list_moves(block, i, left, ways);
     let kind = layout::kind(block, i);
     if kind == layout::NEXT_KIND {
-        next::next_ranks(block, i, left, ranks);
-        return;
+        next::next_ranks(block, row, ways, ranks);
+        return row;
     }
-    let row = rows::row_of(block, i, false, left);
     if kind == layout::ALWAYS_KIND {
         let side = Side {
             most: false,
             safe: complement(block, 0),
         };
-        solve::solve(block, row, side, complement(block, left), ranks);
-        return;
+        solve::solve(block, row, side, complement(block, left), ways, ranks);
+        return row;
     }
     let side = Side {
         most: true,
         safe: left,
     };
-    solve::solve(block, row, side, right, ranks);
+    solve::solve(block, row, side, right, ways, ranks);
+    row
+}
+
+// The ranks of row i alone.
+pub fn rank_row(block: &[u8], i: usize, left: usize, right: usize, ranks: &mut [u8])
+    requires { ⌜ Valid (now block) ⌝ }
+    requires { ⌜ (i < L.rows (now block)) × L.Strategic (L.kind (now block) i) × (length (now ranks) ≡ roomBytes) ⌝ }
+    ensures { λ _. ⌜ RanksOf (now (block .entry)) i left right (now (ranks .exit)) × (length (now (ranks .exit)) ≡ length (now (ranks .entry))) ⌝ }
+{
+    let mut ways = [0u8; lines::WAYS_BYTES];
+    rank_listed(block, i, left, right, &mut ways, ranks);
 }

@@ -6,6 +6,7 @@ use block::refusal::Answer;
 use block::refusal::Refusal;
 use choice::tables;
 use turns::sizes;
+use ways::lines;
 ghost use mathlib.Core.Path.{_≡_};
 ghost use Prim.Native.Nat.{_<_};
 ghost use lib.ListN.{length};
@@ -25,8 +26,9 @@ fn fill_table(block: &[u8], i: usize, ranks: &mut [u8], moves: &mut [u8])
     label::label_needed(block, i, moves, ranks);
     let left = label::left_set(block, moves, i);
     let right = label::right_set(block, moves, i);
-    rows::rank_row(block, i, left, right, ranks);
-    tables::fill_moves(block, i, left, ranks, moves);
+    let mut ways = [0u8; lines::WAYS_BYTES];
+    let row = rows::rank_listed(block, i, left, right, &mut ways, ranks);
+    tables::fill_moves(block, row, &ways, ranks, moves);
 }
 
 // The table of row i, a strategic row of a block that passes the check.

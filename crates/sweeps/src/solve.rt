@@ -13,6 +13,7 @@ ghost use Rattle.block.specs.Inner.Valid.{Valid};
 ghost use Rattle.game.specs.Position as P;
 ghost use Rattle.turns.specs.Buffers.{rankIn};
 ghost use Rattle.game.specs.Model.{arenaOf};
+ghost use Rattle.ways.specs.Listing.{Listed};
 ghost use Rattle.ways.specs.Rows.{Playable};
 ghost use Rattle.sweeps.specs.Solving.{FirstRank, Solved};
 ghost use Rattle.turns.specs.Sizes.{roomBytes, maxPositions};
@@ -54,13 +55,13 @@ fn first_ranks(block: &[u8], row: Row, goal: usize, ranks: &mut [u8])
     }
 }
 
-// The ranks of a row for an attack on the goal. Past the last position they are 0.
-pub fn solve(block: &[u8], row: Row, side: Side, goal: usize, ranks: &mut [u8])
+// The ranks of a row, whose moves and replies are listed, for an attack on the goal. Past the last position they are 0.
+pub fn solve(block: &[u8], row: Row, side: Side, goal: usize, ways: &[u8], ranks: &mut [u8])
     requires { ⌜ Valid (now block) ⌝ }
-    requires { ⌜ Playable (now block) row × (length (now ranks) ≡ roomBytes) ⌝ }
+    requires { ⌜ Playable (now block) row × Listed (now block) row (now ways) × (length (now ranks) ≡ roomBytes) ⌝ }
     requires { ⌜ row .into ≡ false ⌝ }
     ensures { λ _. ⌜ Solved (arenaOf (now (block .entry)) (row .index)) (side .most) (side .safe) goal (now (ranks .exit)) × (length (now (ranks .exit)) ≡ length (now (ranks .entry))) ⌝ }
 {
     first_ranks(block, row, goal, ranks);
-    sweep::settle(block, row, side, ranks);
+    sweep::settle_places(block, row, side, ways, ranks);
 }

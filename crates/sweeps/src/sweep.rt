@@ -3,8 +3,6 @@
 use crate::value;
 use block::layout;
 use turns::buffers;
-use ways::lines;
-use ways::listing;
 use ways::rows::Row;
 use ways::rows::Spot;
 ghost use mathlib.Core.Bool.{false};
@@ -100,7 +98,7 @@ fn settle_place(block: &[u8], row: Row, side: Side, ways: &[u8], x: usize, ranks
 }
 
 // Settles one stock place after another, from those with the least stock on.
-fn settle_places(block: &[u8], row: Row, side: Side, ways: &[u8], ranks: &mut [u8])
+pub fn settle_places(block: &[u8], row: Row, side: Side, ways: &[u8], ranks: &mut [u8])
     requires { ⌜ Valid (now block) ⌝ }
     requires { ⌜ Playable (now block) row × Listed (now block) row (now ways) × (roomBytes ≤ length (now ranks)) ⌝ }
     requires { ⌜ row .into ≡ false ⌝ }
@@ -110,16 +108,4 @@ fn settle_places(block: &[u8], row: Row, side: Side, ways: &[u8], ranks: &mut [u
     for x in 0..c {
         settle_place(block, row, side, ways, x, ranks);
     }
-}
-
-// The same with the moves and replies of the row listed first.
-pub fn settle(block: &[u8], row: Row, side: Side, ranks: &mut [u8])
-    requires { ⌜ Valid (now block) ⌝ }
-    requires { ⌜ Playable (now block) row × (roomBytes ≤ length (now ranks)) ⌝ }
-    requires { ⌜ row .into ≡ false ⌝ }
-    ensures { λ _. ⌜ Settled (arenaOf (now (block .entry)) (row .index)) (side .most) (side .safe) (now (ranks .entry)) (now (ranks .exit)) ⌝ }
-{
-    let mut ways = [0u8; lines::WAYS_BYTES];
-    listing::list_row(block, row, &mut ways);
-    settle_places(block, row, side, &ways, ranks);
 }
