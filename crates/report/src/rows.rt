@@ -17,23 +17,23 @@ ghost use Rattle.block.specs.Layout as L;
 ghost use Rattle.block.specs.Inner.Valid.{Valid};
 ghost use Rattle.text.specs.Inner.Adding.{Adds};
 ghost use Rattle.turns.specs.Sizes.{setsBytes, roomBytes, movesBytes};
+ghost use Rattle.ways.specs.Lines.{waysBytes};
 ghost use Rattle.solver.specs.Calls.{RowTable};
 ghost use Rattle.solver.specs.Inner.Labels.{LowerSets, RowLabelled, Ranked};
 ghost use Rattle.report.specs.Call.{listingBytes};
 ghost use Rattle.report.specs.Listing.{RowListed, Listed};
 
-// The table of a strategic row, whose ranks are there.
-fn row_table(block: &[u8], i: usize, sets: &[u8], ranks: &[u8], moves: &mut [u8])
+// The table of a strategic row, whose ranks are there. What the listing held before is of no use.
+fn row_table(block: &[u8], i: usize, sets: &[u8], ways: &mut [u8], ranks: &[u8], moves: &mut [u8])
     requires { ⌜ Valid (now block) ⌝ }
     requires { ⌜ (i < L.rows (now block)) × L.Strategic (L.kind (now block) i) ⌝ }
-    requires { ⌜ (length (now sets) ≡ setsBytes) × (length (now ranks) ≡ roomBytes) × (length (now moves) ≡ movesBytes) ⌝ }
+    requires { ⌜ (length (now sets) ≡ setsBytes) × (length (now ranks) ≡ roomBytes) × (length (now moves) ≡ movesBytes) × (length (now ways) ≡ waysBytes) ⌝ }
     requires { ⌜ Ranked (now block) i (now sets) (now ranks) ⌝ }
     ensures { λ _. ⌜ RowTable (now (block .entry)) i (now (ranks .entry)) (now (moves .exit)) ⌝ }
 {
     let left = label::left_set(block, sets, i);
-    let mut ways = [0u8; lines::WAYS_BYTES];
-    let row = list_moves(block, i, left, &mut ways);
-    tables::fill_moves(block, row, &ways, ranks, moves);
+    let row = list_moves(block, i, left, ways);
+    tables::fill_moves(block, row, ways, ranks, moves);
 }
 
 // The lines of row i, at most 1,015 bytes, where lower rows have their sets; its own is stored.
@@ -53,13 +53,14 @@ fn row_lines(
     ensures { λ _. ⌜ (length (now (ranks .exit)) ≡ roomBytes) × (length (now (moves .exit)) ≡ movesBytes) ⌝ }
     ensures { λ r. ⌜ ((lines : List ℕ) × (RowListed (now (block .entry)) i lines × Adds lines (now (out .entry)) at (now (out .exit)) r)) × (r ≤ at + 1015) ⌝ }
 {
-    label::label_row(block, i, sets, ranks);
+    let mut ways = [0u8; lines::WAYS_BYTES];
+    label::label_listed(block, i, sets, &mut ways, ranks);
     let set = buffers::word_at(sets, i);
     let plans = set_line(out, at, i, set);
     if layout::kind(block, i) < layout::NEXT_KIND {
         return plans;
     }
-    row_table(block, i, sets, ranks, moves);
+    row_table(block, i, sets, &mut ways, ranks, moves);
     plan_lines(block, i, set, ranks, moves, out, plans)
 }
 

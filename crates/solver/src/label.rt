@@ -7,6 +7,7 @@ use block::refusal::Answer;
 use block::refusal::Refusal;
 use turns::buffers;
 use turns::sizes;
+use ways::lines;
 ghost use mathlib.Core.Path.{_≡_};
 ghost use Prim.Native.Nat.{_≤_, _<_};
 ghost use lib.ListN.{length};
@@ -17,6 +18,7 @@ ghost use Rattle.solver.specs.Calls.{LabelCall};
 ghost use Rattle.solver.specs.Inner.Labels.{NamedSets, InWord, Closed, RowsLabelled, RowLabelled, Ranked};
 ghost use Rattle.solver.specs.Inner.Needs.{Needs};
 ghost use Rattle.turns.specs.Sizes.{setsBytes, roomBytes};
+ghost use Rattle.ways.specs.Lines.{waysBytes};
 
 // The word of all rows.
 const ALL_ROWS: usize = 4294967295;
@@ -48,6 +50,25 @@ pub fn right_set(block: &[u8], sets: &[u8], i: usize) -> usize
 }
 
 // Stores the set of row i, where the rows that it names have theirs. The ranks become those of a strategic row, and stay as they are for any other.
+pub fn label_listed(block: &[u8], i: usize, sets: &mut [u8], ways: &mut [u8], ranks: &mut [u8])
+    requires { ⌜ Valid (now block) ⌝ }
+    requires { ⌜ (i < L.rows (now block)) × (setsBytes ≤ length (now sets)) × (length (now ranks) ≡ roomBytes) × (length (now ways) ≡ waysBytes) ⌝ }
+    requires { ⌜ NamedSets (now block) i (now sets) ⌝ }
+    ensures { λ _. ⌜ RowLabelled (now (block .entry)) i (now (sets .entry)) (now (sets .exit)) ⌝ }
+    ensures { λ _. ⌜ Ranked (now (block .entry)) i (now (sets .exit)) (now (ranks .exit)) ⌝ }
+    ensures { λ _. ⌜ ((L.Strategic (L.kind (now (block .entry)) i) → ⊥) → now (ranks .exit) ≡ now (ranks .entry)) ⌝ }
+    ensures { λ _. ⌜ (length (now (ranks .exit)) ≡ length (now (ranks .entry))) × (length (now (ways .exit)) ≡ length (now (ways .entry))) ⌝ }
+{
+    let left = left_set(block, sets, i);
+    let right = right_set(block, sets, i);
+    if layout::kind(block, i) >= layout::NEXT_KIND {
+        rows::rank_listed(block, i, left, right, ways, ranks);
+    }
+    let w = rows::row_word(block, i, left, right, ranks);
+    buffers::set_word(sets, i, w);
+}
+
+// The same with a listing of its own.
 pub fn label_row(block: &[u8], i: usize, sets: &mut [u8], ranks: &mut [u8])
     requires { ⌜ Valid (now block) ⌝ }
     requires { ⌜ (i < L.rows (now block)) × (setsBytes ≤ length (now sets)) × (length (now ranks) ≡ roomBytes) ⌝ }
@@ -57,13 +78,8 @@ pub fn label_row(block: &[u8], i: usize, sets: &mut [u8], ranks: &mut [u8])
     ensures { λ _. ⌜ ((L.Strategic (L.kind (now (block .entry)) i) → ⊥) → now (ranks .exit) ≡ now (ranks .entry)) ⌝ }
     ensures { λ _. ⌜ length (now (ranks .exit)) ≡ length (now (ranks .entry)) ⌝ }
 {
-    let left = left_set(block, sets, i);
-    let right = right_set(block, sets, i);
-    if layout::kind(block, i) >= layout::NEXT_KIND {
-        rows::rank_row(block, i, left, right, ranks);
-    }
-    let w = rows::row_word(block, i, left, right, ranks);
-    buffers::set_word(sets, i, w);
+    let mut ways = [0u8; lines::WAYS_BYTES];
+    label_listed(block, i, sets, &mut ways, ranks);
 }
 
 // Stores the sets of those of the first n rows that the word has. The ranks are working room: what they hold afterwards is the program's choice.

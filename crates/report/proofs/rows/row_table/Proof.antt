@@ -23,31 +23,28 @@ told c w is =
 left-set-requires : tie.Need-left-set-requires
 left-set-requires c κs = search needs
 
-slice-aggregate-list-moves : tie.Need-slice-aggregate-list-moves
-slice-aggregate-list-moves c = search needs
-
 list-moves-requires : tie.Need-list-moves-requires
 list-moves-requires c κs = search needs
 
-slice-aggregate-fill-moves : tie.Need-slice-aggregate-fill-moves
-slice-aggregate-fill-moves c = search needs
-
 fill-moves-requires : tie.Need-fill-moves-requires
 fill-moves-requires c κs =
-    let row = c .before .before .before .list-moves in
-    (c .before .before .before .before .before .before .before .before .before .before .pre .0, ((subst (Sought (c .before .before .before .before .before .before .before .before .before .before .args .block .now) (row .result)) (ap (L.kind (c .before .before .before .before .before .before .before .before .before .before .args .block .now)) (sym (row .ensures .2))) (row .ensures .0), row .ensures .1), (omega (arith, c .before .before .before .before .before .before .before .before .before .before .pre .1 .1 .0 .1), c .before .before .before .before .before .before .before .before .before .before .pre .1 .1 .0 .2)))
+    let row = c .before .before .before .before .list-moves in
+    (c .before .before .before .before .before .before .before .before .before .before .before .before .pre .0, ((subst (Sought (c .before .before .before .before .before .before .before .before .before .before .before .before .args .block .now) (row .result)) (ap (L.kind (c .before .before .before .before .before .before .before .before .before .before .before .before .args .block .now)) (sym (row .ensures .2))) (row .ensures .0), row .ensures .1), (omega (arith, c .before .before .before .before .before .before .before .before .before .before .before .before .pre .1 .1 .0 .1), c .before .before .before .before .before .before .before .before .before .before .before .before .pre .1 .1 .0 .2)))
 
 same-length : tie.Need-same-length
 same-length c = search needs
 
+same-length-2 : tie.Need-same-length-2
+same-length-2 c = search needs
+
 returns : tie.Need-returns
 returns c =
-    let args = c .before .before .before .before .before .before .before .before .before .before .before .before .before .args in
-    let pre = c .before .before .before .before .before .before .before .before .before .before .before .before .before .pre in
+    let args = c .before .before .before .before .before .before .before .before .before .before .before .before .before .before .before .args in
+    let pre = c .before .before .before .before .before .before .before .before .before .before .before .before .before .before .before .pre in
     let b = args .block .now in
-    let left = c .before .before .before .before .before .before .before .before .left-set in
-    let row = c .before .before .before .before .before .before .list-moves in
-    let (right, ready) = told (c .before .before .before .before .before .before .before .before .before .before .before .before .before) (left .result) (left .ensures .0) in
+    let left = c .before .before .before .before .before .before .before .before .before .left-set in
+    let row = c .before .before .before .before .before .before .before .list-moves in
+    let (right, ready) = told (c .before .before .before .before .before .before .before .before .before .before .before .before .before .before .before) (left .result) (left .ensures .0) in
     let moved = c .before .before .fill-moves in
     row-table b (pre .0) (args .i) (pre .1 .0 .0) (pre .1 .0 .1) (left .result) right (ready .left-set) (ready .right-set) (args .ranks .now) (moved .last .1 .1 .1 .1 .0) (ready .ranks-of)
     (subst₂ (λ (i set : ℕ). RanksOf b i set right (args .ranks .now) → MovesOf b i set right (args .ranks .now) (moved .last .1 .1 .1 .1 .0)) (row .ensures .2) (row .ensures .3) (moved .ensures .0 right) (ready .ranks-of)) (pre .1 .1 .0 .1) (moved .ensures .1 ∙ pre .1 .1 .0 .2)
@@ -57,9 +54,8 @@ row-table-spec =
     tie.close
     (tie.spec
     left-set-requires
-    slice-aggregate-list-moves
     list-moves-requires
-    slice-aggregate-fill-moves
     fill-moves-requires
     same-length
+    same-length-2
     returns)
