@@ -2,7 +2,7 @@
 //! states, three agents with four actions, bounds 15 and 15), as ratios to a
 //! Rust program that does the same sweeps, to plain sweeps and to section 4 of
 //! document 003; what rows cost that the asked one does not need; and how much
-//! stack these calls, `rbatl_list` and `rbatl_states_refusal` use.
+//! stack these and the other calls that solve a row use.
 
 mod cases;
 mod stack;
@@ -15,10 +15,18 @@ use rbatl_tests::checker::structure::Structure;
 use rbatl_tests::ffi;
 use rbatl_tests::layout::{row, KIND, MAX_ROWS, NEXT};
 use rbatl_tests::listing::LISTING_BYTES;
+use rbatl_tests::lookup::At;
 use rbatl_tests::solver::{MOVES_BYTES, RANKS_BYTES, ROOM_BYTES, SETS_BYTES, STATES_BYTES};
 use rbatl_tests::text;
 use std::hint::black_box;
 use sweeps::{Order, Sweeper};
+
+/// State 0 with no stock, a position of every row.
+const EMPTY: At = At {
+    row: ROW as u8,
+    state: 0,
+    stock: [0, 0],
+};
 
 /// The lent buffers.
 struct Buffers {
@@ -59,6 +67,20 @@ impl Buffers {
     fn states_refusal(&mut self, job: &[u8]) {
         let answer = ffi::states_refusal(job, ROW as u8, &self.states, &mut self.room);
         assert_eq!(answer, 0);
+    }
+
+    fn states(&mut self, job: &[u8]) {
+        let answer = ffi::states(job, ROW as u8, &mut self.states, &mut self.room);
+        assert!(answer >= 0);
+    }
+
+    /// The coalition's move at state 0 with no stock, and the reply to idling.
+    fn coalition_move(&mut self, job: &[u8]) {
+        black_box(ffi::coalition_move(job, EMPTY, &mut self.room));
+    }
+
+    fn reply(&mut self, job: &[u8]) {
+        black_box(ffi::reply(job, EMPTY, 0, &mut self.room));
     }
 
     fn list(&mut self, text: &[u8]) {
@@ -220,15 +242,20 @@ fn print_times(times: &Times) -> [f64; 2] {
 }
 
 fn print_stack() {
-    let (mut table, mut label, mut refusal, mut list) = (0, 0, 0, 0);
+    let (mut table, mut label, mut states, mut refusal) = (0, 0, 0, 0);
+    let (mut coalition, mut reply, mut list) = (0, 0, 0);
     for case in cases::all() {
         let mut buffers = Buffers::new();
-        let text = text::write(&case.job);
-        table = table.max(stack::used(|| buffers.table(&case.job)));
-        label = label.max(stack::used(|| buffers.label(&case.job)));
-        refusal = refusal.max(stack::used(|| buffers.states_refusal(&case.job)));
+        let (job, text) = (&case.job, text::write(&case.job));
+        table = table.max(stack::used(|| buffers.table(job)));
+        label = label.max(stack::used(|| buffers.label(job)));
+        states = states.max(stack::used(|| buffers.states(job)));
+        refusal = refusal.max(stack::used(|| buffers.states_refusal(job)));
+        coalition = coalition.max(stack::used(|| buffers.coalition_move(job)));
+        reply = reply.max(stack::used(|| buffers.reply(job)));
         list = list.max(stack::used(|| buffers.list(&text)));
     }
     println!("largest stack in bytes, the caller's frame included:");
-    println!("table {table}, label {label}, states_refusal {refusal}, list {list}");
+    println!("table {table}, label {label}, states {states}, states_refusal {refusal},");
+    println!("move {coalition}, reply {reply}, list {list}");
 }

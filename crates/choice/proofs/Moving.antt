@@ -16,6 +16,7 @@ use Rattle.block.specs.Layout.{Block}
 use Rattle.block.specs.Inner.Valid.{Valid}
 use Rattle.block.proofs.Decide as D
 use Rattle.game.specs.Position.{Arena, Position, IsPosition, MoveOf, number, Reply, outcome}
+use Rattle.game.specs.Inner.Stocks.{stockPlaces}
 use Rattle.game.specs.Play.{Objective}
 use Rattle.game.specs.Table.{Table, never, Aim, Good, Met, Smallest}
 use Rattle.game.specs.Inner.Facts.{Claims}
@@ -53,6 +54,10 @@ module _ (G : Arena) (ranks : List ℕ) (p : Position) (m w v : ℕ) where
       let n = number G (outcome G p m r) in
       ⊎-elim (λ (e′ : v ≡ w). omega (arith, worst .each r reply, bytes (2 * n), bytes (2 * n + 1))) (λ (e′ : v ≡ 65534). absurd (omega arith)) (cut .taken))
       (λ all. let (r, reply, e) = worst .some in ⊎-elim (λ (e′ : v ≡ w). omega (arith, all r reply, e)) (λ (e′ : v ≡ 65534). absurd (omega (arith, all r reply, e, cut .first))) (cut .taken))
+
+-- the stock places of a row
+pub places-of : (b : Block) (row : Row) (i : ℕ) → Playable b row → row .index ≡ i → row .places ≡ stockPlaces (arenaOf b i)
+places-of b row i playable is = playable .places-are ∙ ap (λ (j : ℕ). stockPlaces (arenaOf b j)) is
 
 -- a position with the number of a place of a state stands there
 pub spot-placed : (b : Block) (row : Row) → Playable b row → (s x : ℕ) → s < L.states b → x < row .places → (p : Position) → IsPosition (arenaOf b (row .index)) p → number (arenaOf b (row .index)) p ≡ s * row .places + x → PlacedAt (arenaOf b (row .index)) s x p

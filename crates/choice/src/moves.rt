@@ -21,7 +21,6 @@ ghost use Rattle.block.specs.Inner.Tests.{Decides};
 ghost use Rattle.block.specs.Layout as L;
 ghost use Rattle.block.specs.Inner.Valid.{Valid};
 ghost use Rattle.game.specs.Position.{Position};
-ghost use Rattle.game.specs.Inner.Stocks.{stockPlaces};
 ghost use Rattle.game.specs.Model.{arenaOf};
 ghost use Rattle.turns.specs.Sizes.{roomBytes};
 ghost use Rattle.ways.specs.Landing.{Made};
@@ -122,23 +121,10 @@ pub fn move_at(block: &[u8], row: Row, ways: &[u8], ranks: &[u8], spot: Spot, ki
 pub fn list_moves(block: &[u8], i: usize, left: usize, ways: &mut [u8]) -> Row
     requires { ⌜ Valid (now block) ⌝ }
     requires { ⌜ (i < L.rows (now block)) × L.Strategic (L.kind (now block) i) × (length (now ways) ≡ waysBytes) ⌝ }
-    ensures { λ r. ⌜ Sought (now (block .entry)) r (L.kind (now (block .entry)) i) × Listed (now (block .entry)) r (now (ways .exit)) × (r .index ≡ i) × (r .set ≡ left) ⌝ }
+    ensures { λ r. ⌜ Sought (now (block .entry)) r (L.kind (now (block .entry)) (r .index)) × Listed (now (block .entry)) r (now (ways .exit)) × (r .index ≡ i) × (r .set ≡ left) ⌝ }
 {
     let soon = layout::kind(block, i) == layout::NEXT_KIND;
     let row = rows::row_of(block, i, soon, left);
     listing::list_row(block, row, ways);
     row
-}
-
-// The same move at a position of row i, listed for it.
-pub fn find_move(block: &[u8], i: usize, left: usize, ranks: &[u8], spot: Spot) -> u8
-    requires { ⌜ Valid (now block) ⌝ }
-    requires { ⌜ (i < L.rows (now block)) × L.Strategic (L.kind (now block) i) × (roomBytes ≤ length (now ranks)) ⌝ }
-    requires { ⌜ (spot .state < L.states (now block)) × (spot .place < stockPlaces (arenaOf (now block) i)) ⌝ }
-    ensures { λ m. ⌜ MoveRight (now (block .entry)) i left (now (ranks .entry)) (spot .state * stockPlaces (arenaOf (now (block .entry)) i) + spot .place) m ⌝ }
-{
-    let mut ways = [0u8; lines::WAYS_BYTES];
-    let row = list_moves(block, i, left, &mut ways);
-    let kind = layout::kind(block, i);
-    move_at(block, row, &ways, ranks, spot, kind)
 }

@@ -66,8 +66,7 @@ fn next_states(block: &[u8], row: Row, ways: &[u8], ranks: &mut [u8])
     }
 }
 
-// The ranks of a next row, of which the moves into the set are listed: 1 where the coalition can, else 65535. Past the last position
-// they are 0.
+// The ranks of a next row over its set, where only moves into it are listed: 1 where the coalition can, else 65535. Past the last position they are 0.
 pub fn next_ranks(block: &[u8], row: Row, ways: &[u8], ranks: &mut [u8])
     requires { ⌜ Valid (now block) ⌝ }
     requires { ⌜ Playable (now block) row × (row .into ≡ true) × Listed (now block) row (now ways) × (length (now ranks) ≡ roomBytes) ⌝ }

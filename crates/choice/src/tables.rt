@@ -52,11 +52,10 @@ fn fill_states(block: &[u8], row: Row, ways: &[u8], ranks: &[u8], kind: usize, m
     }
 }
 
-// The moves of a row, whose set is that of its left row, where its moves are listed and its ranks are there.
+// The moves of a row that is listed for them, where its ranks are there: for the coalition the smallest good move where it wins.
 pub fn fill_moves(block: &[u8], row: Row, ways: &[u8], ranks: &[u8], moves: &mut [u8])
     requires { ⌜ Valid (now block) ⌝ }
-    requires { ⌜ Sought (now block) row (L.kind (now block) (row .index)) × Listed (now block) row (now ways) ⌝ }
-    requires { ⌜ (roomBytes ≤ length (now ranks)) × (length (now moves) ≡ maxPositions) ⌝ }
+    requires { ⌜ Sought (now block) row (L.kind (now block) (row .index)) × Listed (now block) row (now ways) × (roomBytes ≤ length (now ranks)) × (length (now moves) ≡ maxPositions) ⌝ }
     ensures { λ _. ⌜ ((right : ℕ) → RanksOf (now (block .entry)) (row .index) (row .set) right (now (ranks .entry)) → MovesOf (now (block .entry)) (row .index) (row .set) right (now (ranks .entry)) (now (moves .exit))) ⌝ }
     ensures { λ _. ⌜ length (now (moves .exit)) ≡ length (now (moves .entry)) ⌝ }
 {

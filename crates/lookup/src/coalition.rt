@@ -8,6 +8,7 @@ use block::refusal::Refusal;
 use block::widths::wide;
 use choice::moves;
 use turns::sizes;
+use ways::lines;
 ghost use mathlib.Core.List.{[], _∷_};
 ghost use mathlib.Core.Path.{_≡_};
 ghost use Prim.Native.Nat.{_≤_, _<_};
@@ -28,9 +29,11 @@ fn coalition_at(block: &[u8], i: usize, s: usize, stocks: &[u8], room: &mut [u8]
     ensures { λ a. ⌜ CoalitionAnswer (now (block .entry)) i (position s (now (stocks .entry))) a ⌝ }
     ensures { λ _. ⌜ length (now (room .exit)) ≡ length (now (room .entry)) ⌝ }
 {
-    let words = place::prepare(block, i, room);
+    let mut ways = [0u8; lines::WAYS_BYTES];
+    let ready = place::prepare(block, i, &mut ways, room);
     let spot = place::spot_of(block, i, s, stocks);
-    let m = moves::find_move(block, i, words.left, room, spot);
+    let kind = layout::kind(block, i);
+    let m = moves::move_at(block, ready.row, &ways, room, spot, kind);
     if m == sizes::NO_MOVE {
         return Answer::Refused(Refusal::WrongSide);
     }

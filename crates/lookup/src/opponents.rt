@@ -1,7 +1,7 @@
 // The reply of all others to the team's move at a position.
 use crate::admit;
 use crate::place;
-use crate::place::Words;
+use crate::place::Ready;
 use block::fill;
 use block::layout;
 use block::refusal::Answer;
@@ -26,34 +26,43 @@ ghost use Rattle.game.specs.Position.{Position, position, IsPosition};
 ghost use Rattle.game.specs.Inner.Stocks.{stockPlaces};
 ghost use Rattle.game.specs.Model.{arenaOf};
 ghost use Rattle.game.specs.Demand.{Demand3};
+ghost use Rattle.ways.specs.Lines.{waysBytes};
 ghost use Rattle.ways.specs.Places.{PlacedAt};
 ghost use Rattle.solver.specs.Inner.Labels.{Prepared};
 ghost use Rattle.lookup.specs.Calls.{OpponentsAnswer, ReplyCall};
 ghost use Rattle.turns.specs.Sizes.{roomBytes};
 
-// The reply to the move m at a position of a strategic row whose ranks are there.
-fn reply_at(block: &[u8], i: usize, words: Words, spot: Spot, m: usize, ranks: &[u8]) -> Answer
+// The reply to the move m at a position of a strategic row whose ranks are there. All its moves are listed anew, since a move that does not
+// lead into the set of a next row can be made too.
+fn reply_at(
+    block: &[u8],
+    i: usize,
+    ready: Ready,
+    ways: &mut [u8],
+    spot: Spot,
+    m: usize,
+    ranks: &[u8],
+) -> Answer
     requires { ⌜ Valid (now block) ⌝ }
-    requires { ⌜ (i < L.rows (now block)) × L.Strategic (L.kind (now block) i) × (roomBytes ≤ length (now ranks)) ⌝ }
-    requires { ⌜ Prepared (now block) i (words .left) (words .right) (now ranks) ⌝ }
+    requires { ⌜ (i < L.rows (now block)) × L.Strategic (L.kind (now block) i) × (length (now ways) ≡ waysBytes) × (roomBytes ≤ length (now ranks)) ⌝ }
+    requires { ⌜ Prepared (now block) i (ready .row .set) (ready .right) (now ranks) ⌝ }
     requires { ⌜ (spot .state < L.states (now block)) × (spot .place < stockPlaces (arenaOf (now block) i)) ⌝ }
     ensures { λ a. ⌜ ((p : Position) → PlacedAt (arenaOf (now (block .entry)) i) (spot .state) (spot .place) p → OpponentsAnswer (now (block .entry)) i p m a) ⌝ }
 {
-    let row = rows::row_of(block, i, false, words.left);
+    let row = rows::row_of(block, i, false, ready.row.set);
     let own = buffers::rank_at(ranks, spot.state * row.places + spot.place);
     if kinds::claims(layout::kind(block, i), own) {
         return Answer::Refused(Refusal::WrongSide);
     }
-    let mut ways = [0u8; lines::WAYS_BYTES];
-    listing::list_row(block, row, &mut ways);
-    match replies::way_to(block, row, &ways, spot, m) {
+    listing::list_row(block, row, ways);
+    match replies::way_to(block, row, ways, spot, m) {
         Landing::At(y) => {
             let step = Step {
                 state: spot.state,
                 number: m,
                 place: y,
             };
-            let r = replies::reply_to(block, row, &ways, ranks, step, own, words.right);
+            let r = replies::reply_to(block, row, ways, ranks, step, own, ready.right);
             Answer::Value(r)
         }
         Landing::Unpaid => Answer::Refused(Refusal::Move),
@@ -75,9 +84,10 @@ fn opponents_at(
     ensures { λ a. ⌜ OpponentsAnswer (now (block .entry)) i (position s (now (stocks .entry))) m a ⌝ }
     ensures { λ _. ⌜ length (now (room .exit)) ≡ length (now (room .entry)) ⌝ }
 {
-    let words = place::prepare(block, i, room);
+    let mut ways = [0u8; lines::WAYS_BYTES];
+    let ready = place::prepare(block, i, &mut ways, room);
     let spot = place::spot_of(block, i, s, stocks);
-    reply_at(block, i, words, spot, m, room)
+    reply_at(block, i, ready, &mut ways, spot, m, room)
 }
 
 // The reply to the move m in row i, state s with these stocks. The room is left filled with zeros, unless a buffer has another length.

@@ -5,6 +5,7 @@ use solver::label;
 use solver::rows;
 use turns::positions;
 use turns::sizes;
+use ways::rows::Row;
 use ways::rows::Spot;
 ghost use mathlib.Core.Path.{_≡_};
 ghost use Prim.Native.Nat.{_≤_, _<_};
@@ -14,14 +15,16 @@ ghost use Rattle.block.specs.Layout as L;
 ghost use Rattle.block.specs.Inner.Valid.{Valid};
 ghost use Rattle.game.specs.Position as P;
 ghost use Rattle.game.specs.Model.{boundsOf, arenaOf};
+ghost use Rattle.ways.specs.Lines.{waysBytes};
 ghost use Rattle.ways.specs.Places.{PlacedAt};
 ghost use Rattle.solver.specs.Inner.Labels.{Prepared};
+ghost use Rattle.solver.specs.Inner.Rows.{RowRanked};
 ghost use Rattle.lookup.specs.Aims.{NoPosition};
 ghost use Rattle.turns.specs.Sizes.{roomBytes};
 
-// The sets of the rows that a row names.
-pub struct Words {
-    pub left: usize,
+// A row made ready: as it is listed for its moves, with the set of its left row, and the set of its right row.
+pub struct Ready {
+    pub row: Row,
     pub right: usize,
 }
 
@@ -56,19 +59,20 @@ pub fn no_position(block: &[u8], i: usize, s: usize, stocks: &[u8]) -> bool
     false
 }
 
-// Labels the rows that row i needs and stores its ranks in the room. Answers the sets of the rows that it names.
-pub fn prepare(block: &[u8], i: usize, room: &mut [u8]) -> Words
+// Labels the rows that row i needs, lists it and stores its ranks in the room.
+pub fn prepare(block: &[u8], i: usize, ways: &mut [u8], room: &mut [u8]) -> Ready
     requires { ⌜ Valid (now block) ⌝ }
-    requires { ⌜ (i < L.rows (now block)) × L.Strategic (L.kind (now block) i) × (length (now room) ≡ roomBytes) ⌝ }
-    ensures { λ w. ⌜ Prepared (now (block .entry)) i (w .left) (w .right) (now (room .exit)) × (length (now (room .exit)) ≡ length (now (room .entry))) ⌝ }
+    requires { ⌜ (i < L.rows (now block)) × L.Strategic (L.kind (now block) i) × (length (now ways) ≡ waysBytes) × (length (now room) ≡ roomBytes) ⌝ }
+    ensures { λ r. ⌜ Prepared (now (block .entry)) i (r .row .set) (r .right) (now (room .exit)) ⌝ }
+    ensures { λ r. ⌜ RowRanked (now (block .entry)) i (r .row .set) (r .right) (r .row) (now (ways .exit)) (now (room .exit)) × (length (now (room .exit)) ≡ length (now (room .entry))) ⌝ }
 {
     let mut sets = [0u8; sizes::SETS_BYTES];
-    label::label_needed(block, i, &mut sets, room);
+    label::label_needed(block, i, &mut sets, ways, room);
     let left = label::left_set(block, &sets, i);
     let right = label::right_set(block, &sets, i);
-    rows::rank_row(block, i, left, right, room);
-    Words {
-        left: left,
+    let row = rows::rank_row(block, i, left, right, ways, room);
+    Ready {
+        row: row,
         right: right,
     }
 }

@@ -7,6 +7,7 @@ use solver::label;
 use turns::buffers;
 use turns::sets;
 use turns::sizes;
+use ways::lines;
 ghost use mathlib.Core.Path.{_≡_};
 ghost use Prim.Native.Nat.{_<_};
 ghost use lib.ListN.{length};
@@ -39,8 +40,9 @@ fn list_row(block: &[u8], i: usize, list: &mut [u8], room: &mut [u8]) -> usize
     ensures { λ r. ⌜ StatesIn (now (block .entry)) i (now (list .exit)) r × (length (now (room .exit)) ≡ roomBytes) ⌝ }
 {
     let mut words = [0u8; sizes::SETS_BYTES];
-    label::label_needed(block, i, &mut words, room);
-    label::label_row(block, i, &mut words, room);
+    let mut ways = [0u8; lines::WAYS_BYTES];
+    label::label_needed(block, i, &mut words, &mut ways, room);
+    label::label_row(block, i, &mut words, &mut ways, room);
     let set = buffers::word_at(&words, i);
     sets::list_set(set, list)
 }

@@ -3,7 +3,7 @@ use crate::lines::list_line;
 use crate::lines::set_line;
 use crate::plans::plan_lines;
 use block::layout;
-use choice::moves::list_moves;
+use choice::moves;
 use choice::tables;
 use solver::label;
 use turns::buffers;
@@ -23,16 +23,16 @@ ghost use Rattle.solver.specs.Inner.Labels.{LowerSets, RowLabelled, Ranked};
 ghost use Rattle.report.specs.Call.{listingBytes};
 ghost use Rattle.report.specs.Listing.{RowListed, Listed};
 
-// The table of a strategic row, whose ranks are there. What the listing held before is of no use.
+// The table of a strategic row, whose ranks are there.
 fn row_table(block: &[u8], i: usize, sets: &[u8], ways: &mut [u8], ranks: &[u8], moves: &mut [u8])
     requires { ⌜ Valid (now block) ⌝ }
     requires { ⌜ (i < L.rows (now block)) × L.Strategic (L.kind (now block) i) ⌝ }
-    requires { ⌜ (length (now sets) ≡ setsBytes) × (length (now ranks) ≡ roomBytes) × (length (now moves) ≡ movesBytes) × (length (now ways) ≡ waysBytes) ⌝ }
+    requires { ⌜ (length (now sets) ≡ setsBytes) × (length (now ways) ≡ waysBytes) × (length (now ranks) ≡ roomBytes) × (length (now moves) ≡ movesBytes) ⌝ }
     requires { ⌜ Ranked (now block) i (now sets) (now ranks) ⌝ }
     ensures { λ _. ⌜ RowTable (now (block .entry)) i (now (ranks .entry)) (now (moves .exit)) ⌝ }
 {
     let left = label::left_set(block, sets, i);
-    let row = list_moves(block, i, left, ways);
+    let row = moves::list_moves(block, i, left, ways);
     tables::fill_moves(block, row, ways, ranks, moves);
 }
 
@@ -54,7 +54,7 @@ fn row_lines(
     ensures { λ r. ⌜ ((lines : List ℕ) × (RowListed (now (block .entry)) i lines × Adds lines (now (out .entry)) at (now (out .exit)) r)) × (r ≤ at + 1015) ⌝ }
 {
     let mut ways = [0u8; lines::WAYS_BYTES];
-    label::label_listed(block, i, sets, &mut ways, ranks);
+    label::label_row(block, i, sets, &mut ways, ranks);
     let set = buffers::word_at(sets, i);
     let plans = set_line(out, at, i, set);
     if layout::kind(block, i) < layout::NEXT_KIND {

@@ -17,8 +17,8 @@ ghost use Rattle.turns.specs.Buffers.{wordIn};
 ghost use Rattle.solver.specs.Calls.{LabelCall};
 ghost use Rattle.solver.specs.Inner.Labels.{NamedSets, InWord, Closed, RowsLabelled, RowLabelled, Ranked};
 ghost use Rattle.solver.specs.Inner.Needs.{Needs};
-ghost use Rattle.turns.specs.Sizes.{setsBytes, roomBytes};
 ghost use Rattle.ways.specs.Lines.{waysBytes};
+ghost use Rattle.turns.specs.Sizes.{setsBytes, roomBytes};
 
 // The word of all rows.
 const ALL_ROWS: usize = 4294967295;
@@ -50,64 +50,57 @@ pub fn right_set(block: &[u8], sets: &[u8], i: usize) -> usize
 }
 
 // Stores the set of row i, where the rows that it names have theirs. The ranks become those of a strategic row, and stay as they are for any other.
-pub fn label_listed(block: &[u8], i: usize, sets: &mut [u8], ways: &mut [u8], ranks: &mut [u8])
+pub fn label_row(block: &[u8], i: usize, sets: &mut [u8], ways: &mut [u8], ranks: &mut [u8])
     requires { ⌜ Valid (now block) ⌝ }
-    requires { ⌜ (i < L.rows (now block)) × (setsBytes ≤ length (now sets)) × (length (now ranks) ≡ roomBytes) × (length (now ways) ≡ waysBytes) ⌝ }
+    requires { ⌜ (i < L.rows (now block)) × (setsBytes ≤ length (now sets)) × (length (now ways) ≡ waysBytes) × (length (now ranks) ≡ roomBytes) ⌝ }
     requires { ⌜ NamedSets (now block) i (now sets) ⌝ }
     ensures { λ _. ⌜ RowLabelled (now (block .entry)) i (now (sets .entry)) (now (sets .exit)) ⌝ }
     ensures { λ _. ⌜ Ranked (now (block .entry)) i (now (sets .exit)) (now (ranks .exit)) ⌝ }
     ensures { λ _. ⌜ ((L.Strategic (L.kind (now (block .entry)) i) → ⊥) → now (ranks .exit) ≡ now (ranks .entry)) ⌝ }
-    ensures { λ _. ⌜ (length (now (ranks .exit)) ≡ length (now (ranks .entry))) × (length (now (ways .exit)) ≡ length (now (ways .entry))) ⌝ }
+    ensures { λ _. ⌜ (length (now (ways .exit)) ≡ length (now (ways .entry))) × (length (now (ranks .exit)) ≡ length (now (ranks .entry))) ⌝ }
 {
     let left = left_set(block, sets, i);
     let right = right_set(block, sets, i);
     if layout::kind(block, i) >= layout::NEXT_KIND {
-        rows::rank_listed(block, i, left, right, ways, ranks);
+        rows::rank_row(block, i, left, right, ways, ranks);
     }
     let w = rows::row_word(block, i, left, right, ranks);
     buffers::set_word(sets, i, w);
 }
 
-// The same with a listing of its own.
-pub fn label_row(block: &[u8], i: usize, sets: &mut [u8], ranks: &mut [u8])
+// Stores the sets of those of the first n rows that the word has. The ways and the ranks are working room: what they hold afterwards is the program's choice.
+fn label_rows(
+    block: &[u8],
+    n: usize,
+    word: usize,
+    sets: &mut [u8],
+    ways: &mut [u8],
+    ranks: &mut [u8],
+)
     requires { ⌜ Valid (now block) ⌝ }
-    requires { ⌜ (i < L.rows (now block)) × (setsBytes ≤ length (now sets)) × (length (now ranks) ≡ roomBytes) ⌝ }
-    requires { ⌜ NamedSets (now block) i (now sets) ⌝ }
-    ensures { λ _. ⌜ RowLabelled (now (block .entry)) i (now (sets .entry)) (now (sets .exit)) ⌝ }
-    ensures { λ _. ⌜ Ranked (now (block .entry)) i (now (sets .exit)) (now (ranks .exit)) ⌝ }
-    ensures { λ _. ⌜ ((L.Strategic (L.kind (now (block .entry)) i) → ⊥) → now (ranks .exit) ≡ now (ranks .entry)) ⌝ }
-    ensures { λ _. ⌜ length (now (ranks .exit)) ≡ length (now (ranks .entry)) ⌝ }
-{
-    let mut ways = [0u8; lines::WAYS_BYTES];
-    label_listed(block, i, sets, &mut ways, ranks);
-}
-
-// Stores the sets of those of the first n rows that the word has. The ranks are working room: what they hold afterwards is the program's choice.
-fn label_rows(block: &[u8], n: usize, word: usize, sets: &mut [u8], ranks: &mut [u8])
-    requires { ⌜ Valid (now block) ⌝ }
-    requires { ⌜ (n ≤ L.rows (now block)) × (setsBytes ≤ length (now sets)) × (length (now ranks) ≡ roomBytes) ⌝ }
+    requires { ⌜ (n ≤ L.rows (now block)) × (setsBytes ≤ length (now sets)) × (length (now ways) ≡ waysBytes) × (length (now ranks) ≡ roomBytes) ⌝ }
     requires { ⌜ Closed (now block) n word ⌝ }
     ensures { λ _. ⌜ RowsLabelled (now (block .entry)) (InWord n word) (now (sets .entry)) (now (sets .exit)) ⌝ }
-    ensures { λ _. ⌜ length (now (ranks .exit)) ≡ length (now (ranks .entry)) ⌝ }
+    ensures { λ _. ⌜ (length (now (ways .exit)) ≡ length (now (ways .entry))) × (length (now (ranks .exit)) ≡ length (now (ranks .entry))) ⌝ }
 {
     let mut i = 0;
     while i < n {
         if buffers::has_bit(word, i) {
-            label_row(block, i, sets, ranks);
+            label_row(block, i, sets, ways, ranks);
         }
         i += 1;
     }
 }
 
-// Stores the sets of the rows that row i needs, and of no others. The ranks are working room.
-pub fn label_needed(block: &[u8], i: usize, sets: &mut [u8], ranks: &mut [u8])
+// Stores the sets of the rows that row i needs, and of no others. The ways and the ranks are working room.
+pub fn label_needed(block: &[u8], i: usize, sets: &mut [u8], ways: &mut [u8], ranks: &mut [u8])
     requires { ⌜ Valid (now block) ⌝ }
-    requires { ⌜ (i < L.rows (now block)) × (setsBytes ≤ length (now sets)) × (length (now ranks) ≡ roomBytes) ⌝ }
+    requires { ⌜ (i < L.rows (now block)) × (setsBytes ≤ length (now sets)) × (length (now ways) ≡ waysBytes) × (length (now ranks) ≡ roomBytes) ⌝ }
     ensures { λ _. ⌜ RowsLabelled (now (block .entry)) (Needs (now (block .entry)) i) (now (sets .entry)) (now (sets .exit)) ⌝ }
-    ensures { λ _. ⌜ length (now (ranks .exit)) ≡ length (now (ranks .entry)) ⌝ }
+    ensures { λ _. ⌜ (length (now (ways .exit)) ≡ length (now (ways .entry))) × (length (now (ranks .exit)) ≡ length (now (ranks .entry))) ⌝ }
 {
     let word = needs::needed(block, i);
-    label_rows(block, i, word, sets, ranks);
+    label_rows(block, i, word, sets, ways, ranks);
 }
 
 // The sets of all rows of a block that passes the check. The room is left filled with zeros, unless a buffer has another length.
@@ -123,7 +116,9 @@ pub fn label(block: &[u8], sets: &mut [u8], room: &mut [u8]) -> Answer
     match block::check(block) {
         Answer::Value(_) => {
             fill::zeros(sets, 0);
-            label_rows(block, layout::rows(block), ALL_ROWS, sets, room);
+            let mut ways = [0u8; lines::WAYS_BYTES];
+            let n = layout::rows(block);
+            label_rows(block, n, ALL_ROWS, sets, &mut ways, room);
             fill::zeros(room, 0);
             Answer::Value(0)
         }

@@ -7,7 +7,6 @@ use sweeps::solve;
 use sweeps::sweep::Side;
 use turns::buffers;
 use turns::positions;
-use ways::lines;
 use ways::rows::Row;
 ghost use mathlib.Core.Path.{_≡_};
 ghost use Prim.Native.Nat.{ℕ, _≤_, _<_};
@@ -17,12 +16,12 @@ ghost use Rattle.block.specs.Inner.Tests.{Decides};
 ghost use Rattle.block.specs.Layout as L;
 ghost use Rattle.block.specs.Inner.Valid.{Valid};
 ghost use Rattle.game.specs.Inner.Words.{Says};
-ghost use Rattle.choice.specs.Tables.{RanksOf};
-ghost use Rattle.solver.specs.Inner.Rows.{TrueBy};
-ghost use Rattle.turns.specs.Sizes.{roomBytes};
 ghost use Rattle.ways.specs.Lines.{waysBytes};
 ghost use Rattle.ways.specs.Listing.{Listed};
 ghost use Rattle.choice.specs.Choices.{Sought};
+ghost use Rattle.choice.specs.Tables.{RanksOf};
+ghost use Rattle.solver.specs.Inner.Rows.{TrueBy, RowRanked};
+ghost use Rattle.turns.specs.Sizes.{roomBytes};
 
 // Whether row i is true in state s.
 fn true_at(block: &[u8], i: usize, left: usize, right: usize, ranks: &[u8], s: usize) -> bool
@@ -78,8 +77,35 @@ fn complement(block: &[u8], set: usize) -> usize
     w
 }
 
-// The ranks of row i, whose lower rows' sets are left and right, with its moves and replies listed.
-pub fn rank_listed(
+// The ranks of a row that is listed for its moves, with the set of its left row; right is that of its right row.
+fn rank_listed(block: &[u8], row: Row, right: usize, ways: &[u8], ranks: &mut [u8])
+    requires { ⌜ Valid (now block) ⌝ }
+    requires { ⌜ Sought (now block) row (L.kind (now block) (row .index)) × Listed (now block) row (now ways) × (length (now ranks) ≡ roomBytes) ⌝ }
+    ensures { λ _. ⌜ RanksOf (now (block .entry)) (row .index) (row .set) right (now (ranks .exit)) × (length (now (ranks .exit)) ≡ length (now (ranks .entry))) ⌝ }
+{
+    let kind = layout::kind(block, row.index);
+    if kind == layout::NEXT_KIND {
+        next::next_ranks(block, row, ways, ranks);
+        return;
+    }
+    if kind == layout::ALWAYS_KIND {
+        let side = Side {
+            most: false,
+            safe: complement(block, 0),
+        };
+        let fails = complement(block, row.set);
+        solve::solve(block, row, side, ways, fails, ranks);
+        return;
+    }
+    let side = Side {
+        most: true,
+        safe: row.set,
+    };
+    solve::solve(block, row, side, ways, right, ranks);
+}
+
+// Lists row i, whose lower rows' sets are left and right, and finds its ranks.
+pub fn rank_row(
     block: &[u8],
     i: usize,
     left: usize,
@@ -89,37 +115,10 @@ pub fn rank_listed(
 ) -> Row
     requires { ⌜ Valid (now block) ⌝ }
     requires { ⌜ (i < L.rows (now block)) × L.Strategic (L.kind (now block) i) × (length (now ways) ≡ waysBytes) × (length (now ranks) ≡ roomBytes) ⌝ }
-    ensures { λ _. ⌜ RanksOf (now (block .entry)) i left right (now (ranks .exit)) × (length (now (ranks .exit)) ≡ length (now (ranks .entry))) ⌝ }
-    ensures { λ r. ⌜ Sought (now (block .entry)) r (L.kind (now (block .entry)) i) × Listed (now (block .entry)) r (now (ways .exit)) × (r .index ≡ i) × (r .set ≡ left) ⌝ }
+    ensures { λ r. ⌜ RowRanked (now (block .entry)) i left right r (now (ways .exit)) (now (ranks .exit)) ⌝ }
+    ensures { λ _. ⌜ length (now (ranks .exit)) ≡ length (now (ranks .entry)) ⌝ }
 {
     let row = moves::list_moves(block, i, left, ways);
-    let kind = layout::kind(block, i);
-    if kind == layout::NEXT_KIND {
-        next::next_ranks(block, row, ways, ranks);
-        return row;
-    }
-    if kind == layout::ALWAYS_KIND {
-        let side = Side {
-            most: false,
-            safe: complement(block, 0),
-        };
-        solve::solve(block, row, side, complement(block, left), ways, ranks);
-        return row;
-    }
-    let side = Side {
-        most: true,
-        safe: left,
-    };
-    solve::solve(block, row, side, right, ways, ranks);
+    rank_listed(block, row, right, ways, ranks);
     row
-}
-
-// The ranks of row i alone.
-pub fn rank_row(block: &[u8], i: usize, left: usize, right: usize, ranks: &mut [u8])
-    requires { ⌜ Valid (now block) ⌝ }
-    requires { ⌜ (i < L.rows (now block)) × L.Strategic (L.kind (now block) i) × (length (now ranks) ≡ roomBytes) ⌝ }
-    ensures { λ _. ⌜ RanksOf (now (block .entry)) i left right (now (ranks .exit)) × (length (now (ranks .exit)) ≡ length (now (ranks .entry))) ⌝ }
-{
-    let mut ways = [0u8; lines::WAYS_BYTES];
-    rank_listed(block, i, left, right, &mut ways, ranks);
 }

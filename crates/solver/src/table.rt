@@ -23,11 +23,11 @@ fn fill_table(block: &[u8], i: usize, ranks: &mut [u8], moves: &mut [u8])
     requires { ⌜ (length (now ranks) ≡ roomBytes) × (length (now moves) ≡ maxPositions) ⌝ }
     ensures { λ _. ⌜ RowTable (now (block .entry)) i (now (ranks .exit)) (now (moves .exit)) ⌝ }
 {
-    label::label_needed(block, i, moves, ranks);
+    let mut ways = [0u8; lines::WAYS_BYTES];
+    label::label_needed(block, i, moves, &mut ways, ranks);
     let left = label::left_set(block, moves, i);
     let right = label::right_set(block, moves, i);
-    let mut ways = [0u8; lines::WAYS_BYTES];
-    let row = rows::rank_listed(block, i, left, right, &mut ways, ranks);
+    let row = rows::rank_row(block, i, left, right, &mut ways, ranks);
     tables::fill_moves(block, row, &ways, ranks, moves);
 }
 

@@ -7,7 +7,7 @@ use turns::sizes;
 use ways::rows::Row;
 ghost use mathlib.Core.Bool.{false};
 ghost use mathlib.Core.Path.{_≡_};
-ghost use Prim.Native.Nat.{ℕ, _/_, _≤_, _<_};
+ghost use Prim.Native.Nat.{ℕ, _/_, _<_};
 ghost use lib.ListN.{length};
 ghost use Rattle.block.specs.Inner.Valid.{Valid};
 ghost use Rattle.game.specs.Position as P;
@@ -55,8 +55,8 @@ fn first_ranks(block: &[u8], row: Row, goal: usize, ranks: &mut [u8])
     }
 }
 
-// The ranks of a row, whose moves and replies are listed, for an attack on the goal. Past the last position they are 0.
-pub fn solve(block: &[u8], row: Row, side: Side, goal: usize, ways: &[u8], ranks: &mut [u8])
+// The ranks of a row, whose moves are listed, for an attack on the goal. Past the last position they are 0.
+pub fn solve(block: &[u8], row: Row, side: Side, ways: &[u8], goal: usize, ranks: &mut [u8])
     requires { ⌜ Valid (now block) ⌝ }
     requires { ⌜ Playable (now block) row × Listed (now block) row (now ways) × (length (now ranks) ≡ roomBytes) ⌝ }
     requires { ⌜ row .into ≡ false ⌝ }

@@ -13,7 +13,7 @@ ghost use lib.ListN.{length, getD};
 ghost use Rattle.block.specs.Inner.Tests.{Decides};
 ghost use Rattle.block.specs.Layout as L;
 ghost use Rattle.block.specs.Inner.Valid.{Valid};
-ghost use Rattle.game.specs.Position.{MoveOf, Affordable, Allowed, full};
+ghost use Rattle.game.specs.Position.{MoveOf, Affordable, full};
 ghost use Rattle.game.specs.Model.{structureOf, coalitionOf, arenaOf};
 ghost use Rattle.turns.specs.Inner.Rules.{ReplyTo};
 ghost use Rattle.ways.specs.Lines.{waysBytes, fieldPlace, countIn, numberIn, countAt, lineAt, takesAt};
@@ -36,18 +36,6 @@ fn payable_at_all(block: &[u8], i: usize, s: usize, m: usize) -> bool
     true
 }
 
-// Whether m is a move of row i's team in state s that full stock pays.
-fn is_way(block: &[u8], i: usize, s: usize, m: usize) -> bool
-    requires { ⌜ Valid (now block) ⌝ }
-    requires { ⌜ (i < L.rows (now block)) × L.Strategic (L.kind (now block) i) × (s < L.states (now block)) ⌝ }
-    ensures { λ r. ⌜ Decides (Allowed (arenaOf (now (block .entry)) i) (full (arenaOf (now (block .entry)) i) s) m) r ⌝ }
-{
-    if !moves::is_move(block, s, layout::team(block, i), m) {
-        return false;
-    }
-    payable_at_all(block, i, s, m)
-}
-
 // Whether each reply that is listed in state s leads with the move m into the row's set.
 fn leads_into(block: &[u8], row: Row, ways: &[u8], s: usize, m: usize) -> bool
     requires { ⌜ Valid (now block) ⌝ }
@@ -67,7 +55,22 @@ fn leads_into(block: &[u8], row: Row, ways: &[u8], s: usize, m: usize) -> bool
     true
 }
 
-// Whether the number m is listed: as a move that matters where ours, and else as a reply.
+// Whether the move m matters to the row: by where it leads, if only moves into the set do.
+fn matters(block: &[u8], row: Row, ways: &[u8], s: usize, m: usize) -> bool
+    requires { ⌜ Valid (now block) ⌝ }
+    requires { ⌜ Playable (now block) row × (s < L.states (now block)) × (length (now ways) ≡ waysBytes) ⌝ }
+    requires { ⌜ MoveOf (structureOf (now block)) (coalitionOf (now block) (row .index)) s m ⌝ }
+    requires { ⌜ LineOf (ReplyTo (now block) (row .index) s) (numberIn (now ways) s false) (countIn (now ways) s false) ⌝ }
+    ensures { λ r. ⌜ Decides (row .into ≡ true → LeadsInto (now (block .entry)) (row .index) s m (row .set)) r ⌝ }
+{
+    if row.into {
+        return leads_into(block, row, ways, s, m);
+    }
+    true
+}
+
+// Whether the number m is listed: as a move that matters and that full stock pays where ours, and else as a reply. The cost is asked for last,
+// since it takes most time.
 fn is_listed(block: &[u8], row: Row, ways: &[u8], s: usize, ours: bool, m: usize) -> bool
     requires { ⌜ Valid (now block) ⌝ }
     requires { ⌜ Playable (now block) row × (s < L.states (now block)) × (length (now ways) ≡ waysBytes) ⌝ }
@@ -78,13 +81,13 @@ fn is_listed(block: &[u8], row: Row, ways: &[u8], s: usize, ours: bool, m: usize
     if !ours {
         return moves::is_reply(block, i, s, m);
     }
-    if !is_way(block, i, s, m) {
+    if !moves::is_move(block, s, layout::team(block, i), m) {
         return false;
     }
-    if row.into {
-        return leads_into(block, row, ways, s, m);
+    if !matters(block, row, ways, s, m) {
+        return false;
     }
-    true
+    payable_at_all(block, i, s, m)
 }
 
 // Lists the moves of state s, or the replies there, in rising order. Answers how many there are.

@@ -1,5 +1,5 @@
 -- `list_moves` lists the row as its kind asks for it. Assumes nothing.
-use mathlib.Core.Path.{sym, _∙_, ap}
+use mathlib.Core.Path.{refl, sym, _∙_, ap}
 use borrow.Author.Needs.{needs}
 use Rattle.block.specs.Layout as L
 use lib.Dec.{eqb}
@@ -20,16 +20,13 @@ same-length : tie.Need-same-length
 same-length c = search needs
 
 returns : tie.Need-returns
-returns c = (
-  record {
-    playable = c .before .before .before .before .row-of .ensures .0;
-    kind-is = ap (L.kind (c .before .before .before .before .before .before .before .before .args .block .now)) (sym (c .before .before .before .before .row-of .ensures .1));
-    into-is = c .before .before .before .before .row-of .ensures .2 ∙ ap (λ (k : ℕ). eqb k 3) (c .before .before .before .before .before .kind .ensures);
-  },
-  c .before .before .list-row .ensures,
-  c .before .before .before .before .row-of .ensures .1,
-  c .before .before .before .before .row-of .ensures .3,
-)
+returns c =
+    let (playable, index, into, set) = c .before .before .before .before .row-of .ensures in (
+      record { playable = playable; kind-is = refl; into-is = into ∙ ap (λ (k : ℕ). eqb k 3) (c .before .before .before .before .before .kind .ensures ∙ ap (L.kind (c .before .before .before .before .before .before .before .before .args .block .now)) (sym index)) },
+      c .before .before .list-row .ensures,
+      index,
+      set,
+    )
 
 pub list-moves-spec : {M : Type 1} → statement M
 list-moves-spec =

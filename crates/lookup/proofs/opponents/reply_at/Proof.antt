@@ -10,6 +10,7 @@ use Rattle.game.specs.Position.{Position, Allowed, number}
 use Rattle.game.specs.Inner.Stocks.{stockPlaces}
 use Rattle.game.specs.Model.{arenaOf}
 use Rattle.turns.specs.Buffers.{rankIn}
+use Rattle.choice.proofs.Moving.{places-of}
 use Rattle.choice.specs.Kinds.{ClaimsBy}
 use Rattle.choice.specs.Tables.{RanksOf, ReplyFor}
 use Rattle.choice.specs.Choices.{Makes}
@@ -26,23 +27,25 @@ row-of-requires : tie.Need-row-of-requires
 row-of-requires c κs = search needs
 
 -- the row's stock places are those of row i
-places : (c : tie.After-row-of) → c .row-of .result .places ≡ stockPlaces (arenaOf (c .before .before .before .args .block .now) (c .before .before .before .args .i))
-places c = c .row-of .ensures .0 .places-are ∙ ap (λ (i : ℕ). stockPlaces (arenaOf (c .before .before .before .args .block .now) i)) (c .row-of .ensures .1)
+places : (c : tie.After-row-of) → c .row-of .result .places ≡ stockPlaces (arenaOf (c .before .before .before .before .args .block .now) (c .before .before .before .before .args .i))
+places c =
+    let args = c .before .before .before .before .args in
+    places-of (args .block .now) (c .row-of .result) (args .i) (c .row-of .ensures .0) (c .row-of .ensures .1)
 
-inside : (c : tie.After-row-of) → c .before .before .before .args .spot .state * c .row-of .result .places + c .before .before .before .args .spot .place < 6144
+inside : (c : tie.After-row-of) → c .before .before .before .before .args .spot .state * c .row-of .result .places + c .before .before .before .before .args .spot .place < 6144
 inside c =
-    let args = c .before .before .before .args in
-    let pre = c .before .before .before .pre in
+    let args = c .before .before .before .before .args in
+    let pre = c .before .before .before .before .pre in
     number-inside (args .block .now) (pre .0) (c .row-of .result) (c .row-of .ensures .0) (args .spot .state) (args .spot .place) (pre .1 .1 .1 .0) (omega (arith, pre .1 .1 .1 .1, places c))
 
 mul-rank-at : tie.Need-mul-rank-at
-mul-rank-at c = record { fits = omega (arith, inside (c .before .before)) }
+mul-rank-at c = record { fits = omega (arith, inside ((c .before .before))) }
 
 add-rank-at : tie.Need-add-rank-at
-add-rank-at c = record { fits = omega (arith, inside (c .before .before .before)) }
+add-rank-at c = record { fits = omega (arith, inside ((c .before .before .before))) }
 
 rank-at-requires : tie.Need-rank-at-requires
-rank-at-requires c κs = omega (arith, inside (c .before .before .before), c .before .before .before .before .before .before .pre .1 .0 .2)
+rank-at-requires c κs = omega (arith, inside ((c .before .before .before)), c .before .before .before .before .before .before .before .pre .1 .0 .3)
 
 kind-requires : tie.Need-kind-requires
 kind-requires c κs = search needs
@@ -51,61 +54,54 @@ claims-requires : tie.Need-claims-requires
 claims-requires c κs = search needs
 
 -- the rank that was looked at is the position's
-own : (c : tie.After-rank-at) (p : Position) → PlacedAt (arenaOf (c .before .before .before .before .before .before .before .args .block .now) (c .before .before .before .before .before .before .before .args .i)) (c .before .before .before .before .before .before .before .args .spot .state) (c .before .before .before .before .before .before .before .args .spot .place) p → c .rank-at .result ≡ rankIn (c .before .before .before .before .before .before .before .args .ranks .now) (number (arenaOf (c .before .before .before .before .before .before .before .args .block .now) (c .before .before .before .before .before .before .before .args .i)) p)
+own : (c : tie.After-rank-at) (p : Position) → PlacedAt (arenaOf (c .before .before .before .before .before .before .before .before .args .block .now) (c .before .before .before .before .before .before .before .before .args .i)) (c .before .before .before .before .before .before .before .before .args .spot .state) (c .before .before .before .before .before .before .before .before .args .spot .place) p → c .rank-at .result ≡ rankIn (c .before .before .before .before .before .before .before .before .args .ranks .now) (number (arenaOf (c .before .before .before .before .before .before .before .before .args .block .now) (c .before .before .before .before .before .before .before .before .args .i)) p)
 own c p placed =
-    let args = c .before .before .before .before .before .before .before .args in
+    let args = c .before .before .before .before .before .before .before .before .args in
     c .rank-at .ensures .0
-    ∙ ap (λ (n : ℕ). rankIn (args .ranks .now) (args .spot .state * n + args .spot .place)) (places (c .before .before .before .before))
+    ∙ ap (λ (n : ℕ). rankIn (args .ranks .now) (args .spot .state * n + args .spot .place)) (places ((c .before .before .before .before)))
     ∙ ap (rankIn (args .ranks .now)) (placed-number (arenaOf (args .block .now) (args .i)) (args .spot .state) (args .spot .place) p placed)
 
 returns : tie.Need-returns
 returns c p placed =
-    let pre = c .before .before .before .before .before .before .before .before .before .before .pre in
-    inl (refl, claimed-wins (pre .0) (pre .1 .0 .0) (pre .1 .0 .1) (pre .1 .1 .0) p (placed .fits) (subst₂ ClaimsBy (c .before .before .kind .ensures) (own (c .before .before .before) p placed) (D.truth (c .before .claims .ensures) (c .if1 .taken))))
-
-slice-aggregate-list-row : tie.Need-slice-aggregate-list-row
-slice-aggregate-list-row c = search needs
+    let pre = c .before .before .before .before .before .before .before .before .before .before .before .pre in
+    inl (refl, claimed-wins (pre .0) (pre .1 .0 .0) (pre .1 .0 .1) (pre .1 .1 .0) p (placed .fits) (subst₂ ClaimsBy (c .before .before .kind .ensures) (own ((c .before .before .before)) p placed) (D.truth (c .before .claims .ensures) (c .if1 .taken))))
 
 list-row-requires : tie.Need-list-row-requires
-list-row-requires c κs = search needs
-
-slice-aggregate-way-to : tie.Need-slice-aggregate-way-to
-slice-aggregate-way-to c = search needs
+list-row-requires c κs =
+    let pre = c .before .before .before .before .before .before .before .before .before .before .before .before .pre in
+    (pre .0, (c .before .before .before .before .before .before .before .before .row-of .ensures .0, pre .1 .0 .2))
 
 way-to-requires : tie.Need-way-to-requires
 way-to-requires c κs =
-    let pre = c .before .before .before .before .before .before .before .before .before .before .before .before .before .before .pre in
-    (pre .0, ((c .before .before .before .before .before .before .before .before .before .before .before .row-of .ensures .0, c .before .before .before .before .before .before .before .before .before .before .before .row-of .ensures .2, c .before .before .list-row .ensures), (pre .1 .1 .1 .0, omega (arith, pre .1 .1 .1 .1, places (c .before .before .before .before .before .before .before .before .before .before .before)))))
+    let pre = c .before .before .before .before .before .before .before .before .before .before .before .before .before .before .before .before .pre in
+    (pre .0, ((c .before .before .before .before .before .before .before .before .before .before .before .before .row-of .ensures .0, c .before .before .before .before .before .before .before .before .before .before .before .before .row-of .ensures .2, c .before .before .before .list-row .ensures), (pre .1 .1 .1 .0, omega (arith, pre .1 .1 .1 .1, places ((c .before .before .before .before .before .before .before .before .before .before .before .before))))))
 
 enum-known-y : tie.Need-enum-known-y
 enum-known-y c = search needs
 
-slice-aggregate-reply-to : tie.Need-slice-aggregate-reply-to
-slice-aggregate-reply-to c = search needs
-
 -- the move that is made, and where it lands
-made : (c : tie.After-y) → Makes (c .before .before .before .before .before .before .before .before .before .before .before .before .before .before .before .before .before .args .block .now) (c .before .before .before .before .before .before .before .before .before .before .before .before .before .before .row-of .result) (c .before .before .before .before .before .before .before .before .before .before .before .before .before .before .before .before .before .args .spot .state) (c .before .before .before .before .before .before .before .before .before .before .before .before .before .before .before .before .before .args .spot .place) (c .before .before .before .before .before .before .before .before .before .before .before .before .before .before .before .before .before .args .m) (At (c .y .given .0 .0))
+made : (c : tie.After-y) → Makes (c .before .before .before .before .before .before .before .before .before .before .before .before .before .before .before .before .before .before .before .args .block .now) (c .before .before .before .before .before .before .before .before .before .before .before .before .before .before .before .row-of .result) (c .before .before .before .before .before .before .before .before .before .before .before .before .before .before .before .before .before .before .before .args .spot .state) (c .before .before .before .before .before .before .before .before .before .before .before .before .before .before .before .before .before .before .before .args .spot .place) (c .before .before .before .before .before .before .before .before .before .before .before .before .before .before .before .before .before .before .before .args .m) (At (c .y .given .0 .0))
 made c = rw (c .y .given .1) at (c .before .before .way-to .ensures)
 
 -- the rank says that the team does not win
-unclaimed : (c : tie.Else1) → ClaimsBy (L.kind (c .before .before .before .before .before .before .before .before .before .before .args .block .now) (c .before .before .before .before .before .before .before .before .before .before .args .i)) (c .before .before .before .rank-at .result) → ⊥
+unclaimed : (c : tie.Else1) → ClaimsBy (L.kind (c .before .before .before .before .before .before .before .before .before .before .before .args .block .now) (c .before .before .before .before .before .before .before .before .before .before .before .args .i)) (c .before .before .before .rank-at .result) → ⊥
 unclaimed c claim = D.falsity (c .before .claims .ensures) (c .if1 .left) (subst (λ (k : ℕ). ClaimsBy k (c .before .before .before .rank-at .result)) (sym (c .before .before .kind .ensures)) claim)
 
 reply-to-requires : tie.Need-reply-to-requires
 reply-to-requires c κs =
-    let args = c .before .before .before .before .before .before .before .before .before .before .before .before .before .before .before .before .before .before .before .args in
-    let pre = c .before .before .before .before .before .before .before .before .before .before .before .before .before .before .before .before .before .before .before .pre in
-    let row = c .before .before .before .before .before .before .before .before .before .before .before .before .before .before .before .before .row-of in
-    let (move, lands) = made (c .before .before) in (
+    let args = c .before .before .before .before .before .before .before .before .before .before .before .before .before .before .before .before .before .before .before .before .before .args in
+    let pre = c .before .before .before .before .before .before .before .before .before .before .before .before .before .before .before .before .before .before .before .before .before .pre in
+    let row = c .before .before .before .before .before .before .before .before .before .before .before .before .before .before .before .before .before .row-of in
+    let (move, lands) = made ((c .before .before)) in (
       pre .0,
       (
-        (row .ensures .0, c .before .before .before .before .before .before .before .list-row .ensures, pre .1 .0 .2),
+        (row .ensures .0, c .before .before .before .before .before .before .before .before .list-row .ensures, pre .1 .0 .3),
         (
           (
             (pre .1 .1 .1 .0, move, omega (arith, lands .0, row .ensures .0 .places-are)),
-            subst₂ (λ (i left : ℕ). RanksOf (args .block .now) i left (args .words .right) (args .ranks .now)) (sym (row .ensures .1)) (sym (row .ensures .3)) (pre .1 .1 .0 .ranks-of),
+            subst₂ (λ (i left : ℕ). RanksOf (args .block .now) i left (args .ready .right) (args .ranks .now)) (sym (row .ensures .1)) (sym (row .ensures .3)) (pre .1 .1 .0 .ranks-of),
           ),
-          λ claim. unclaimed (c .before .before .before .before .before .before .before .before .before) (subst (λ (i : ℕ). ClaimsBy (L.kind (args .block .now) i) (c .before .before .before .before .before .before .before .before .before .before .before .before .rank-at .result)) (row .ensures .1) claim),
+          λ claim. unclaimed ((c .before .before .before .before .before .before .before .before .before .before)) (subst (λ (i : ℕ). ClaimsBy (L.kind (args .block .now) i) (c .before .before .before .before .before .before .before .before .before .before .before .before .before .rank-at .result)) (row .ensures .1) claim),
         ),
       ),
     )
@@ -114,39 +110,45 @@ enum-told : tie.Need-enum-told
 enum-told c = search needs
 
 -- at a position of row i
-module _ (c : tie.Else1) (p : Position) (placed : PlacedAt (arenaOf (c .before .before .before .before .before .before .before .before .before .before .args .block .now) (c .before .before .before .before .before .before .before .before .before .before .args .i)) (c .before .before .before .before .before .before .before .before .before .before .args .spot .state) (c .before .before .before .before .before .before .before .before .before .before .args .spot .place) p) where
-  here : PlacedAt (arenaOf (c .before .before .before .before .before .before .before .before .before .before .args .block .now) (c .before .before .before .before .before .before .before .row-of .result .index)) (c .before .before .before .before .before .before .before .before .before .before .args .spot .state) (c .before .before .before .before .before .before .before .before .before .before .args .spot .place) p
-  here = subst (λ (i : ℕ). PlacedAt (arenaOf (c .before .before .before .before .before .before .before .before .before .before .args .block .now) i) (c .before .before .before .before .before .before .before .before .before .before .args .spot .state) (c .before .before .before .before .before .before .before .before .before .before .args .spot .place) p) (sym (c .before .before .before .before .before .before .before .row-of .ensures .1)) placed
+module _ (c : tie.Else1) (p : Position) (placed : PlacedAt (arenaOf (c .before .before .before .before .before .before .before .before .before .before .before .args .block .now) (c .before .before .before .before .before .before .before .before .before .before .before .args .i)) (c .before .before .before .before .before .before .before .before .before .before .before .args .spot .state) (c .before .before .before .before .before .before .before .before .before .before .before .args .spot .place) p) where
+  here : PlacedAt (arenaOf (c .before .before .before .before .before .before .before .before .before .before .before .args .block .now) (c .before .before .before .before .before .before .before .row-of .result .index)) (c .before .before .before .before .before .before .before .before .before .before .before .args .spot .state) (c .before .before .before .before .before .before .before .before .before .before .before .args .spot .place) p
+  here = subst (λ (i : ℕ). PlacedAt (arenaOf (c .before .before .before .before .before .before .before .before .before .before .before .args .block .now) i) (c .before .before .before .before .before .before .before .before .before .before .before .args .spot .state) (c .before .before .before .before .before .before .before .before .before .before .before .args .spot .place) p) (sym (c .before .before .before .before .before .before .before .row-of .ensures .1)) placed
 
-  lost : ClaimsBy (L.kind (c .before .before .before .before .before .before .before .before .before .before .args .block .now) (c .before .before .before .before .before .before .before .before .before .before .args .i)) (rankIn (c .before .before .before .before .before .before .before .before .before .before .args .ranks .now) (number (arenaOf (c .before .before .before .before .before .before .before .before .before .before .args .block .now) (c .before .before .before .before .before .before .before .before .before .before .args .i)) p)) → ⊥
-  lost claim = unclaimed c (subst (ClaimsBy (L.kind (c .before .before .before .before .before .before .before .before .before .before .args .block .now) (c .before .before .before .before .before .before .before .before .before .before .args .i))) (sym (own (c .before .before .before) p placed)) claim)
+  lost : ClaimsBy (L.kind (c .before .before .before .before .before .before .before .before .before .before .before .args .block .now) (c .before .before .before .before .before .before .before .before .before .before .before .args .i)) (rankIn (c .before .before .before .before .before .before .before .before .before .before .before .args .ranks .now) (number (arenaOf (c .before .before .before .before .before .before .before .before .before .before .before .args .block .now) (c .before .before .before .before .before .before .before .before .before .before .before .args .i)) p)) → ⊥
+  lost claim = unclaimed c (subst (ClaimsBy (L.kind (c .before .before .before .before .before .before .before .before .before .before .before .args .block .now) (c .before .before .before .before .before .before .before .before .before .before .before .args .i))) (sym (own ((c .before .before .before)) p placed)) claim)
+
+same-length : tie.Need-same-length
+same-length c = search needs
 
 returns-2 : tie.Need-returns-2
 returns-2 c p placed =
-    let args = c .before .before .before .before .before .before .before .before .before .before .before .before .before .before .before .before .before .before .before .before .args in
-    let pre = c .before .before .before .before .before .before .before .before .before .before .before .before .before .before .before .before .before .before .before .before .pre in
-    let row = c .before .before .before .before .before .before .before .before .before .before .before .before .before .before .before .before .before .row-of in
-    let (move, lands) = made (c .before .before .before) in
-    let at = here (c .before .before .before .before .before .before .before .before .before .before) p placed in
+    let args = c .before .before .before .before .before .before .before .before .before .before .before .before .before .before .before .before .before .before .before .before .before .before .args in
+    let pre = c .before .before .before .before .before .before .before .before .before .before .before .before .before .before .before .before .before .before .before .before .before .before .pre in
+    let row = c .before .before .before .before .before .before .before .before .before .before .before .before .before .before .before .before .before .before .row-of in
+    let (move, lands) = made ((c .before .before .before)) in
+    let at = here ((c .before .before .before .before .before .before .before .before .before .before .before)) p placed in
     let (paid, leaves) = lands .1 p at in
     let allowed = move-here (args .block .now) (pre .0) (row .result) (row .ensures .0) (args .spot .state) (args .spot .place) (args .m) p at move paid in
-    let rank = ap (λ (i : ℕ). rankIn (args .ranks .now) (number (arenaOf (args .block .now) i) p)) (row .ensures .1) ∙ sym (own (c .before .before .before .before .before .before .before .before .before .before .before .before .before) p placed) in
+    let rank = ap (λ (i : ℕ). rankIn (args .ranks .now) (number (arenaOf (args .block .now) i) p)) (row .ensures .1) ∙ sym (own ((c .before .before .before .before .before .before .before .before .before .before .before .before .before .before)) p placed) in
     let reply = c .reply-to .ensures .0 p (at .fits) (at .state) leaves allowed rank in
     let allowed-here = subst (λ (i : ℕ). Allowed (arenaOf (args .block .now) i) p (args .m)) (row .ensures .1) allowed in (
-      opponents-found (pre .0) (pre .1 .0 .0) (pre .1 .0 .1) (pre .1 .1 .0) (placed .fits) (lost (c .before .before .before .before .before .before .before .before .before .before) p placed) allowed-here (c .reply-to .result) (c .reply-to .ensures .1)
-          (subst₂ (λ (i left : ℕ). ReplyFor (args .block .now) i left (args .words .right) (args .ranks .now) p (args .m) (c .reply-to .result)) (row .ensures .1) (row .ensures .3) reply),
+      opponents-found (pre .0) (pre .1 .0 .0) (pre .1 .0 .1) (pre .1 .1 .0) (placed .fits) (lost ((c .before .before .before .before .before .before .before .before .before .before .before)) p placed) allowed-here (c .reply-to .result) (c .reply-to .ensures .1)
+          (subst₂ (λ (i left : ℕ). ReplyFor (args .block .now) i left (args .ready .right) (args .ranks .now) p (args .m) (c .reply-to .result)) (row .ensures .1) (row .ensures .3) reply),
       allowed-here,
     )
 
+same-length-2 : tie.Need-same-length-2
+same-length-2 c = search needs
+
 returns-3 : tie.Need-returns-3
 returns-3 c p placed =
-    let args = c .before .before .before .before .before .before .before .before .before .before .before .before .before .before .before .before .before .args in
-    let pre = c .before .before .before .before .before .before .before .before .before .before .before .before .before .before .before .before .before .pre in
+    let args = c .before .before .before .before .before .before .before .before .before .before .before .before .before .before .before .before .before .before .before .args in
+    let pre = c .before .before .before .before .before .before .before .before .before .before .before .before .before .before .before .before .before .before .before .pre in
     inr (
       refl,
       (
-        (λ wins. lost (c .before .before .before .before .before .before .before) p placed (wins-claimed-by (pre .0) (pre .1 .0 .0) (pre .1 .0 .1) (pre .1 .1 .0) p (placed .fits) wins)),
-        λ allowed. rw (c .enum-told .given .1) at (c .before .before .way-to .ensures) p (here (c .before .before .before .before .before .before .before) p placed) (subst (λ (i : ℕ). Allowed (arenaOf (args .block .now) i) p (args .m)) (sym (c .before .before .before .before .before .before .before .before .before .before .before .before .before .before .row-of .ensures .1)) allowed),
+        (λ wins. lost ((c .before .before .before .before .before .before .before .before)) p placed (wins-claimed-by (pre .0) (pre .1 .0 .0) (pre .1 .0 .1) (pre .1 .1 .0) p (placed .fits) wins)),
+        λ allowed. rw (c .enum-told .given .1) at (c .before .before .way-to .ensures) p (here ((c .before .before .before .before .before .before .before .before)) p placed) (subst (λ (i : ℕ). Allowed (arenaOf (args .block .now) i) p (args .m)) (sym (c .before .before .before .before .before .before .before .before .before .before .before .before .before .before .before .row-of .ensures .1)) allowed),
       ),
     )
 
@@ -161,13 +163,12 @@ reply-at-spec =
     kind-requires
     claims-requires
     returns
-    slice-aggregate-list-row
     list-row-requires
-    slice-aggregate-way-to
     way-to-requires
     enum-known-y
-    slice-aggregate-reply-to
     reply-to-requires
     enum-told
+    same-length
     returns-2
+    same-length-2
     returns-3)

@@ -3,6 +3,7 @@ use mathlib.Core.List.{_++_}
 use mathlib.Core.Path.{sym, subst, _∙_}
 use Prim.Native.Nat.{ℕ, _^_, _<_}
 use native.Mathlib.Omega.{arith}
+use lib.ListN.{length-replicate}
 use Rattle.block.specs.Layout as L
 use Rattle.text.proofs.Adding.{adds-then}
 use Rattle.game.specs.Model.{RowSet}
@@ -11,20 +12,19 @@ use Rattle.game.proofs.Blocks.Tables.{set-small}
 use Rattle.solver.proofs.Needing.{lower-named}
 use Rattle.report.specs.Listing.{setLine, planLines}
 use Rattle.report.proofs.Rowwise.{set-inside, plain-listed, strategic-listed}
-use lib.ListN.{length-replicate}
 use borrow.Author.Needs.{needs}
 use Rattle.report.proofs.rows.row_lines.Statement.{statement}
 use Rattle.report.proofs.rows.row_lines.Tie as tie
 
-slice-aggregate-label-listed : tie.Need-slice-aggregate-label-listed
-slice-aggregate-label-listed c = search needs
+slice-aggregate-label-row : tie.Need-slice-aggregate-label-row
+slice-aggregate-label-row c = search needs
 
-label-listed-requires : tie.Need-label-listed-requires
-label-listed-requires c κs = let args = c .before .before .before .before .before .before .before .before .args in let pre = c .before .before .before .before .before .before .before .before .pre in (pre .0 .0, ((pre .0 .1, omega (arith, pre .1 .0 .0), omega (arith, pre .1 .0 .1), length-replicate {A = ℕ} 5168 0), lower-named (args .block .now) (pre .0 .0) (args .i) (args .sets .now) (pre .0 .1) (pre .1 .1)))
+label-row-requires : tie.Need-label-row-requires
+label-row-requires c κs = let args = c .before .before .before .before .before .before .before .before .args in let pre = c .before .before .before .before .before .before .before .before .pre in (pre .0 .0, ((pre .0 .1, omega (arith, pre .1 .0 .0), length-replicate {A = ℕ} 5168 0, omega (arith, pre .1 .0 .1)), lower-named (args .block .now) (pre .0 .0) (args .i) (args .sets .now) (pre .0 .1) (pre .1 .1)))
 
 -- the word that was read is the row's set
 told : (c : tie.After-word-at) → RowSet (c .before .before .before .before .before .before .before .before .before .before .before .before .before .before .before .before .args .block .now) (c .before .before .before .before .before .before .before .before .before .before .before .before .before .before .before .before .args .i) (c .word-at .result)
-told c = subst (RowSet (c .before .before .before .before .before .before .before .before .before .before .before .before .before .before .before .before .args .block .now) (c .before .before .before .before .before .before .before .before .before .before .before .before .before .before .before .before .args .i)) (sym (c .word-at .ensures .0)) (c .before .before .before .before .before .before .before .label-listed .ensures .0 .set)
+told c = subst (RowSet (c .before .before .before .before .before .before .before .before .before .before .before .before .before .before .before .before .args .block .now) (c .before .before .before .before .before .before .before .before .before .before .before .before .before .before .before .before .args .i)) (sym (c .word-at .ensures .0)) (c .before .before .before .before .before .before .before .label-row .ensures .0 .set)
 
 small : (c : tie.After-word-at) → c .word-at .result < 2 ^ 24
 small c = set-small (c .before .before .before .before .before .before .before .before .before .before .before .before .before .before .before .before .args .block .now) (c .before .before .before .before .before .before .before .before .before .before .before .before .before .before .before .before .pre .0 .0) (c .before .before .before .before .before .before .before .before .before .before .before .before .before .before .before .before .args .i) (c .word-at .result) (told c)
@@ -55,15 +55,15 @@ returns c =
     let args = c .before .before .before .before .before .before .before .before .before .before .before .before .before .before .before .before .before .before .before .before .before .before .args in
     let low : L.kind (args .block .now) (args .i) < L.nextKind = omega (arith, c .if1 .taken, c .before .kind .ensures) in
     let line = c .before .before .before .before .set-line .ensures in (
-      c .before .before .before .before .before .before .before .before .before .before .before .before .before .label-listed .ensures .0,
-      ((c .before .before .before .before .before .before .before .before .before .before .before .before .before .label-listed .ensures .1 .1 .1 .0 ∙ c .before .before .before .before .before .before .before .before .before .before .before .before .before .before .before .before .before .before .before .before .before .before .pre .1 .0 .1, c .before .before .before .before .before .before .before .before .before .before .before .before .before .before .before .before .before .before .before .before .before .before .pre .1 .0 .2), ((setLine (args .i) (c .before .before .before .before .before .before .word-at .result), (plain-listed (args .block .now) (args .i) (c .before .before .before .before .before .before .word-at .result) (told (c .before .before .before .before .before .before)) low, line .0)), omega (arith, line .1))),
+      c .before .before .before .before .before .before .before .before .before .before .before .before .before .label-row .ensures .0,
+      ((c .before .before .before .before .before .before .before .before .before .before .before .before .before .label-row .ensures .1 .1 .1 .1 ∙ c .before .before .before .before .before .before .before .before .before .before .before .before .before .before .before .before .before .before .before .before .before .before .pre .1 .0 .1, c .before .before .before .before .before .before .before .before .before .before .before .before .before .before .before .before .before .before .before .before .before .before .pre .1 .0 .2), ((setLine (args .i) (c .before .before .before .before .before .before .word-at .result), (plain-listed (args .block .now) (args .i) (c .before .before .before .before .before .before .word-at .result) (told (c .before .before .before .before .before .before)) low, line .0)), omega (arith, line .1))),
     )
 
 slice-aggregate-row-table : tie.Need-slice-aggregate-row-table
 slice-aggregate-row-table c = search needs
 
 row-table-requires : tie.Need-row-table-requires
-row-table-requires c κs = let pre = c .before .before .before .before .before .before .before .before .before .before .before .before .before .before .before .before .before .before .before .before .before .before .before .before .before .before .pre in (pre .0 .0, ((pre .0 .1, strategic (c .before .before .before .before)), ((c .before .before .before .before .before .before .before .before .before .before .before .before .before .before .before .before .before .label-listed .ensures .0 .long ∙ pre .1 .0 .0, c .before .before .before .before .before .before .before .before .before .before .before .before .before .before .before .before .before .label-listed .ensures .1 .1 .1 .0 ∙ pre .1 .0 .1, pre .1 .0 .2, c .before .before .before .before .before .before .before .before .before .before .before .before .before .before .before .before .before .label-listed .ensures .1 .1 .1 .1 ∙ length-replicate {A = ℕ} 5168 0), c .before .before .before .before .before .before .before .before .before .before .before .before .before .before .before .before .before .label-listed .ensures .1 .0)))
+row-table-requires c κs = let pre = c .before .before .before .before .before .before .before .before .before .before .before .before .before .before .before .before .before .before .before .before .before .before .before .before .before .before .pre in (pre .0 .0, ((pre .0 .1, strategic (c .before .before .before .before)), ((c .before .before .before .before .before .before .before .before .before .before .before .before .before .before .before .before .before .label-row .ensures .0 .long ∙ pre .1 .0 .0, c .before .before .before .before .before .before .before .before .before .before .before .before .before .before .before .before .before .label-row .ensures .1 .1 .1 .0 ∙ length-replicate {A = ℕ} 5168 0, c .before .before .before .before .before .before .before .before .before .before .before .before .before .before .before .before .before .label-row .ensures .1 .1 .1 .1 ∙ pre .1 .0 .1, pre .1 .0 .2), c .before .before .before .before .before .before .before .before .before .before .before .before .before .before .before .before .before .label-row .ensures .1 .0)))
 
 plan-lines-requires : tie.Need-plan-lines-requires
 plan-lines-requires c κs =
@@ -90,10 +90,10 @@ returns-2 c =
     let b = args .block .now in
     let set = c .before .before .before .before .before .before .before .before .before .before .before .before .before .before .before .before .before .before .before .before .word-at .result in
     let table = c .before .before .before .before .before .before .before .before .before .row-table .ensures in
-    let X = tableIn (c .before .before .before .before .before .before .before .before .before .before .before .before .before .before .before .before .before .before .before .before .before .before .before .before .before .before .before .label-listed .last .1 .1 .1 .1 .0) (c .before .before .before .before .before .before .before .before .before .row-table .last .1 .1 .1 .1 .1 .0) in
+    let X = tableIn (c .before .before .before .before .before .before .before .before .before .before .before .before .before .before .before .before .before .before .before .before .before .before .before .before .before .before .before .label-row .last .1 .1 .1 .1 .0) (c .before .before .before .before .before .before .before .before .before .row-table .last .1 .1 .1 .1 .1 .0) in
     let line = c .before .before .before .before .before .before .before .before .before .before .before .before .before .before .before .before .before .before .set-line .ensures in
     let plan = c .before .before .plan-lines .ensures in (
-      c .before .before .before .before .before .before .before .before .before .before .before .before .before .before .before .before .before .before .before .before .before .before .before .before .before .before .before .label-listed .ensures .0,
+      c .before .before .before .before .before .before .before .before .before .before .before .before .before .before .before .before .before .before .before .before .before .before .before .before .before .before .before .label-row .ensures .0,
       (
         table .long,
         (
@@ -113,8 +113,8 @@ pub row-lines-spec : {M : Type 1} → statement M
 row-lines-spec =
     tie.close
     (tie.spec
-    slice-aggregate-label-listed
-    label-listed-requires
+    slice-aggregate-label-row
+    label-row-requires
     word-at-requires
     set-line-requires
     kind-requires

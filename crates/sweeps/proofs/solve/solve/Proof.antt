@@ -2,7 +2,6 @@
 use mathlib.Core.Path.{_∙_, subst}
 use Prim.Native.Nat.{ℕ, _<_}
 use native.Mathlib.Omega.{arith}
-use borrow.Author.Needs.{needs}
 use Rattle.game.specs.Position.{positions}
 use Rattle.turns.specs.Buffers.{rankIn}
 use Rattle.game.specs.Model.{arenaOf}
@@ -13,10 +12,10 @@ use Rattle.sweeps.proofs.solve.solve.Statement.{statement}
 use Rattle.sweeps.proofs.solve.solve.Tie as tie
 
 first-ranks-requires : tie.Need-first-ranks-requires
-first-ranks-requires c κs = (c .before .before .before .before .pre .0, (c .before .before .before .before .pre .1 .0 .0, c .before .before .before .before .pre .1 .0 .2))
+first-ranks-requires c κs = let pre = c .before .before .before .before .pre in (pre .0, (pre .1 .0 .0, pre .1 .0 .2))
 
 settle-places-requires : tie.Need-settle-places-requires
-settle-places-requires c κs = (c .before .before .before .before .before .before .before .before .pre .0, ((c .before .before .before .before .before .before .before .before .pre .1 .0 .0, c .before .before .before .before .before .before .before .before .pre .1 .0 .1, omega (arith, c .before .before .before .before .before .before .before .before .pre .1 .0 .2, c .before .before .before .first-ranks .ensures .1)), c .before .before .before .before .before .before .before .before .pre .1 .1))
+settle-places-requires c κs = let pre = c .before .before .before .before .before .before .before .before .pre in (pre .0, ((pre .1 .0 .0, pre .1 .0 .1, omega (arith, pre .1 .0 .2, c .before .before .before .first-ranks .ensures .1)), pre .1 .1))
 
 same-length : tie.Need-same-length
 same-length c = c .before .before .settle-places .ensures .long ∙ c .before .before .before .before .before .before .first-ranks .ensures .1

@@ -1,12 +1,13 @@
--- `is_listed` asks for a reply, or for a move and, where it matters, for where it leads. Assumes nothing.
+-- `is_listed` asks for a reply, or for a move: where it leads, if that matters, and what it costs. Assumes nothing.
 use mathlib.Core.Bool.{Bool, true, false}
-use mathlib.Core.Path.{_≡_, sym, _∙_, subst}
-use native.Mathlib.Omega.{arith}
+use mathlib.Core.Path.{sym, subst}
+use Prim.Native.Nat.{ℕ}
 use borrow.Author.Needs.{needs}
 use borrow.Author.Tests.{not-true, not-false}
-use Prim.Native.Nat.{ℕ}
-use Rattle.block.specs.Inner.Tests.{Decides, holds, fails}
+use Rattle.block.specs.Inner.Tests.{Decides, fails}
 use Rattle.block.proofs.Decide as D
+use Rattle.game.specs.Position.{MoveOf}
+use Rattle.game.specs.Model.{bit, structureOf, coalitionOf}
 use Rattle.ways.specs.Listing.{Listable}
 use Rattle.ways.proofs.listing.is_listed.Statement.{statement}
 use Rattle.ways.proofs.listing.is_listed.Tie as tie
@@ -15,26 +16,43 @@ is-reply-requires : tie.Need-is-reply-requires
 is-reply-requires c κs = search needs
 
 returns : tie.Need-returns
-returns c = subst (λ (t : Bool). Decides (Listable (c .before .before .before .before .args .block .now) (c .before .before .before .before .args .row) (c .before .before .before .before .args .s) t (c .before .before .before .before .args .m)) (c .is-reply .result)) (sym (not-true (c .before .before .before .before .args .ours) (c .before .if1 .taken))) (c .is-reply .ensures)
+returns c =
+    let args = c .before .before .before .before .args in
+    subst (λ (t : Bool). Decides (Listable (args .block .now) (args .row) (args .s) t (args .m)) (c .is-reply .result)) (sym (not-true (args .ours) (c .before .if1 .taken))) (c .is-reply .ensures)
 
-is-way-requires : tie.Need-is-way-requires
-is-way-requires c κs = search needs
+team-requires : tie.Need-team-requires
+team-requires c κs = search needs
+
+is-move-requires : tie.Need-is-move-requires
+is-move-requires c κs = search needs
 
 -- past the first test, a move is asked for
 ours : (c : tie.Else1) → (r : Bool) → Decides (Listable (c .before .before .before .args .block .now) (c .before .before .before .args .row) (c .before .before .before .args .s) true (c .before .before .before .args .m)) r → Decides (Listable (c .before .before .before .args .block .now) (c .before .before .before .args .row) (c .before .before .before .args .s) (c .before .before .before .args .ours) (c .before .before .before .args .m)) r
-ours c r = subst (λ (t : Bool). Decides (Listable (c .before .before .before .args .block .now) (c .before .before .before .args .row) (c .before .before .before .args .s) t (c .before .before .before .args .m)) r) (sym (not-false (c .before .before .before .args .ours) (c .if1 .left)))
+ours c r =
+    let args = c .before .before .before .args in
+    subst (λ (t : Bool). Decides (Listable (args .block .now) (args .row) (args .s) t (args .m)) r) (sym (not-false (args .ours) (c .if1 .left)))
+
+-- whether it is one
+asked : (c : tie.After-is-move) → Decides (MoveOf (structureOf (c .before .before .before .before .before .args .block .now)) (coalitionOf (c .before .before .before .before .before .args .block .now) (c .before .before .before .before .before .args .row .index)) (c .before .before .before .before .before .args .s) (c .before .before .before .before .before .args .m)) (c .is-move .result)
+asked c =
+    let args = c .before .before .before .before .before .args in
+    subst (λ (team : ℕ). Decides (MoveOf (structureOf (args .block .now)) (bit team) (args .s) (args .m)) (c .is-move .result)) (c .before .team .ensures) (c .is-move .ensures)
 
 returns-2 : tie.Need-returns-2
-returns-2 c = ours ((c .before .before)) false (fails (λ useful. D.falsity (c .before .is-way .ensures) (not-true _ (c .if2 .taken)) (useful .0)))
+returns-2 c = ours (c .before .before .before) false (fails (λ useful. D.falsity (asked (c .before)) (not-true _ (c .if2 .taken)) (useful .0 .0)))
 
-leads-into-requires : tie.Need-leads-into-requires
-leads-into-requires c κs = (c .before .before .before .before .before .before .pre .0, (c .before .before .before .before .before .before .pre .1 .0, (D.truth (c .before .before .is-way .ensures) (not-false _ (c .before .if2 .left)) .0, c .before .before .before .before .before .before .pre .1 .1 (not-false _ (c .before .before .before .if1 .left)))))
+matters-requires : tie.Need-matters-requires
+matters-requires c κs = let pre = c .before .before .before .before .before .before .pre in (pre .0, (pre .1 .0, (D.truth (asked (c .before)) (not-false _ (c .if2 .left)), pre .1 .1 (not-false _ (c .before .before .before .if1 .left)))))
 
 returns-3 : tie.Need-returns-3
-returns-3 c = ours ((c .before .before .before .before)) (c .leads-into .result) (D.same (c .leads-into .ensures) (λ leads. (D.truth (c .before .before .before .is-way .ensures) (not-false _ (c .before .before .if2 .left)), λ _. leads)) (λ useful. useful .1 (c .before .if3 .taken)))
+returns-3 c = ours (c .before .before .before .before .before) false (fails (λ useful. D.falsity (c .before .matters .ensures) (not-true _ (c .if3 .taken)) (useful .1)))
+
+payable-at-all-requires : tie.Need-payable-at-all-requires
+payable-at-all-requires c κs = let pre = c .before .before .before .before .before .before .before .before .pre in (pre .0, ((pre .1 .0 .0 .inside, pre .1 .0 .0 .strategic, pre .1 .0 .1), D.truth (asked (c .before .before .before)) (not-false _ (c .before .before .if2 .left))))
 
 returns-4 : tie.Need-returns-4
-returns-4 c = ours ((c .before .before .before)) true (holds (D.truth (c .before .before .is-way .ensures) (not-false _ (c .before .if2 .left)), λ into. let z : _≡_ {A = Bool} true false = sym into ∙ c .if3 .left in absurd (let e : _≡_ {A = ℕ} 0 1 = cc in omega arith)))
+returns-4 c = ours (c .before .before .before .before .before .before) (c .payable-at-all .result)
+    (D.same (c .payable-at-all .ensures) (λ paid. ((D.truth (asked (c .before .before .before .before)) (not-false _ (c .before .before .before .if2 .left)), paid), D.truth (c .before .before .matters .ensures) (not-false _ (c .before .if3 .left)))) (λ useful. useful .0 .1))
 
 pub is-listed-spec : {M : Type 1} → statement M
 is-listed-spec =
@@ -42,8 +60,10 @@ is-listed-spec =
     (tie.spec
     is-reply-requires
     returns
-    is-way-requires
+    team-requires
+    is-move-requires
     returns-2
-    leads-into-requires
+    matters-requires
     returns-3
+    payable-at-all-requires
     returns-4)
