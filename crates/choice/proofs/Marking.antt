@@ -1,23 +1,25 @@
 -- The rank of a position of a next row by the listed moves: those that lead into the set. Assumes nothing.
 use mathlib.Core.Bool.{true}
 use mathlib.Core.List.{List}
-use mathlib.Core.Path.{_≡_}
-use Prim.Native.Nat.{ℕ, _/_, _%_, _^_, _<_}
+use mathlib.Core.Path.{_≡_, sym, _∙_}
+use Prim.Native.Nat.{ℕ, _-_, _/_, _%_, _^_, _<_}
+use native.Mathlib.Omega.{arith}
 use Rattle.block.specs.Decide.{Bit}
 use Rattle.block.specs.Layout as L
 use Rattle.block.specs.Layout.{Block}
 use Rattle.block.specs.Inner.Valid.{Valid}
-use Rattle.game.specs.Position.{Arena, Position, Affordable}
+use Rattle.game.specs.Position.{Arena, Position, Affordable, Allowed}
 use Rattle.game.specs.Inner.Facts.{CanForce, CanAnswer}
 use Rattle.game.specs.Model.{arenaOf}
 use Rattle.game.proofs.Numbers.Decide.{eq?}
 use Rattle.game.proofs.Solving.Sides.{unforced}
 use Rattle.ways.specs.Lines.{countIn, numberIn}
-use Rattle.ways.specs.Listing.{Useful, Listed}
+use Rattle.ways.specs.Listing.{LeadsInto, Useful, Listed}
 use Rattle.ways.specs.Places.{PlacedAt}
 use Rattle.ways.specs.Rows.{Playable}
 use Rattle.ways.specs.declared.rows.Row.{Row}
-use Rattle.ways.proofs.Leading.{ever-allowed, move-here}
+use Rattle.ways.proofs.Leading.{ever-allowed, move-here, free-allowed}
+use Rattle.choice.specs.Choices.{LastFree}
 use Rattle.choice.proofs.Moving.{into-aimed, aimed-into}
 use Rattle.choice.proofs.Searching.{line-none}
 
@@ -31,10 +33,19 @@ module _ (b : Block) (valid : Valid b) (row : Row) (playable : Playable b row) (
       let allowed = move-here b valid row playable s x m p placed (useful .0 .0) paid in
       (m, allowed, into-aimed b valid row s m p (placed .state) (allowed .0) (useful .1 soon))
 
+  -- so does the last one where it takes nothing, whatever the place
+  pub free-forces : (ways : List ℕ) → Listed b row ways → s < L.states b → LastFree ways s → CanForce G p (λ y. Bit (row .set) (y .state))
+  free-forces ways listed state (some, nothing) =
+      let k = countIn ways s true - 1 in
+      let last : k < countIn ways s true = omega arith in
+      let useful = listed .states s state .lines true .only k last in
+      way-forces (numberIn ways s true k) useful (free-allowed b valid row playable s x (numberIn ways s true k) p placed (useful .0, useful .1 soon, sym (listed .states s state .takes k last) ∙ nothing) .1)
+
   -- and where no listed move is paid, each can be answered
   pub none-answers : (ways : List ℕ) → Listed b row ways → s < L.states b → ((k : ℕ) → k < countIn ways s true → Affordable G p (numberIn ways s true k) → ⊥) → CanAnswer G p (λ y. Bit (row .set) (y .state) → ⊥)
   none-answers ways listed state none =
       unforced G p (λ y. Bit (row .set) (y .state)) (λ y. eq? (row .set / 2 ^ y .state % 2) 1)
       (λ (m, allowed, all).
-      line-none (Useful b row s) (λ n. Useful b row s n × Affordable G p n) (listed .states s state .lines true) (λ n h. h .0) (λ k small h. none k small (h .1)) m
-      ((ever-allowed b valid row playable s x m p placed allowed, λ _. aimed-into b valid row s m p (placed .state) (allowed .0) all), allowed .1))
+      line-none (Useful b row s) (λ n. Allowed G p n × LeadsInto b (row .index) s n (row .set)) (listed .states s state .lines true)
+      (λ n (here, into) smaller. (ever-allowed b valid row playable s x n p placed here, (λ _. into), λ _ k less free. smaller k less (free-allowed b valid row playable s x k p placed free, free .1)))
+      (λ k small h. none k small (h .0 .1)) m (allowed, aimed-into b valid row s m p (placed .state) (allowed .0) all))

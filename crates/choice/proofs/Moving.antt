@@ -33,7 +33,7 @@ use Rattle.ways.specs.Listing.{LeadsInto, Useful}
 use Rattle.ways.specs.Places.{PlacedAt}
 use Rattle.ways.specs.declared.rows.Row.{Row}
 use Rattle.ways.specs.Rows.{Playable}
-use Rattle.ways.proofs.Leading.{ever-allowed}
+use Rattle.ways.proofs.Leading.{ever-allowed, free-allowed}
 use Rattle.ways.proofs.Placing.{number-placed}
 use Rattle.choice.specs.Choices.{Sought, GoodBy}
 use Rattle.choice.specs.Kinds.{ClaimsBy, MetBy, AimBy}
@@ -80,12 +80,17 @@ module _ (b : Block) (valid : Valid b) (row : Row) where
     aimed-into all r reply = let here = subst (λ (q : ℕ). ReplyTo b (row .index) q r) (sym is-state) reply in subst (Bit (row .set)) (outcome-next r here) (all r here)
 
   module _ (kind : ℕ) (sought : Sought b row kind) (ranks : List ℕ) (s x own : ℕ) (p : Position) (placed : PlacedAt G s x p) where
-    -- a good move is listed
-    pub good-useful : (m : ℕ) → GoodBy b row ranks kind own p m → Useful b row s m
-    good-useful m (allowed, all) = (
+    -- the smallest good move is listed: in a next row one that takes nothing is good at every position
+    next-aim : row .into ≡ true → (m r : ℕ) → AimBy kind (row .set) own (outcome G p m r .state) (rankIn ranks (number G (outcome G p m r))) ≡ Bit (row .set) (outcome G p m r .state)
+    next-aim into m r = ap (λ (k : ℕ). AimBy k (row .set) own (outcome G p m r .state) (rankIn ranks (number G (outcome G p m r)))) (eqb-true kind 3 (sym (sought .into-is) ∙ into))
+
+    pub good-useful : (m : ℕ) → GoodBy b row ranks kind own p m → ((k : ℕ) → k < m → GoodBy b row ranks kind own p k → ⊥) → Useful b row s m
+    good-useful m (allowed, all) none = (
       ever-allowed b valid row (sought .playable) s x m p placed allowed,
-      λ into. aimed-into s m p (placed .state) (allowed .0)
-          (λ r reply. transport (ap (λ (k : ℕ). AimBy k (row .set) own (outcome G p m r .state) (rankIn ranks (number G (outcome G p m r)))) (eqb-true kind 3 (sym (sought .into-is) ∙ into))) (all r reply)),
+      λ into. aimed-into s m p (placed .state) (allowed .0) (λ r reply. transport (next-aim into m r) (all r reply)),
+      λ into k less free.
+          let paid = free-allowed b valid row (sought .playable) s x k p placed free in
+          none k less (paid, λ r reply. transport (sym (next-aim into k r)) (into-aimed s k p (placed .state) (paid .0) (free .1) r reply)),
     )
 
     module _ (own-is : rankIn ranks (number G p) ≡ own) (right : ℕ) where

@@ -24,20 +24,16 @@ use Rattle.ways.specs.Rows.{Playable}
 use Rattle.ways.specs.declared.rows.Row.{Row}
 use Rattle.ways.specs.declared.landing.Landing.{Landing}
 use Rattle.ways.specs.declared.landing.Landing.the-variants.{At, Unpaid}
-use Rattle.ways.proofs.Leading.{ever-allowed, reply-leads}
+use Rattle.ways.proofs.Leading.{reply-leads}
 use Rattle.choice.specs.Choices.{CountersBy, Makes}
 use Rattle.choice.specs.Kinds.{ClaimsBy, CounterBy, FailedBy}
 use Rattle.choice.proofs.ByKind.{claims-by, failed-by, counter-by, words-decided}
 use Rattle.choice.proofs.Moving.{outcome-next}
 
--- a listed move where it lands; and where all moves are listed, each that is allowed is among them
+-- a listed move where it lands
 pub way-makes : (b : Block) (row : Row) (s x m : ℕ) (r : Landing) → MoveOf (structureOf b) (coalitionOf b (row .index)) s m → Lands (arenaOf b (row .index)) s x m r → Makes b row s x m r
 way-makes b row s x m (At y) move lands = (move, lands)
 way-makes b row s x m Unpaid move lands = λ p placed allowed. lands p placed (allowed .1)
-
-pub allowed-useful : (b : Block) → Valid b → (row : Row) → Playable b row → row .into ≡ false → (s x : ℕ) (p : Position) → PlacedAt (arenaOf b (row .index)) s x p → (m : ℕ) → Allowed (arenaOf b (row .index)) p m → Useful b row s m
-allowed-useful b valid row playable all s x p placed m allowed =
-    (ever-allowed b valid row playable s x m p placed allowed, λ into. let z : _≡_ {A = ℕ} 0 1 = cc in absurd (omega arith))
 
 module _ (b : Block) (valid : Valid b) (row : Row) (playable : Playable b row) (ranks : List ℕ) (kind own s m y : ℕ) (made : Made b row s m y)
     (p : Position) (is-state : p .state ≡ s) (leaves : Leaves (arenaOf b (row .index)) p m y) where

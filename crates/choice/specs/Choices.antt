@@ -1,8 +1,8 @@
 -- A move or a reply at one position, by the ranks where it leads; the row's set is that of its left row.
-use mathlib.Core.Bool.{Bool}
+use mathlib.Core.Bool.{Bool, true}
 use mathlib.Core.List.{List}
 use mathlib.Core.Path.{_≡_}
-use Prim.Native.Nat.{ℕ}
+use Prim.Native.Nat.{ℕ, _-_, _<_}
 use lib.Dec.{eqb}
 use Rattle.block.specs.Inner.Tests.{Decides}
 use Rattle.block.specs.Layout as L
@@ -12,6 +12,7 @@ use Rattle.game.specs.Table.{Smallest}
 use Rattle.game.specs.Model.{structureOf, coalitionOf, arenaOf}
 use Rattle.turns.specs.Buffers.{rankIn}
 use Rattle.ways.specs.Landing.{Leaves, Lands}
+use Rattle.ways.specs.Lines.{countIn, takenIn}
 use Rattle.ways.specs.Places.{PlacedAt}
 use Rattle.ways.specs.Rows.{Playable}
 use Rattle.ways.specs.declared.rows.Row.{Row}
@@ -52,6 +53,10 @@ module _ (b : Block) (row : Row) (ranks : List ℕ) (kind own : ℕ) where
   FirstCounter s m y r =
       (p : Position) → IsPosition (arenaOf b (row .index)) p → p .state ≡ s → Leaves (arenaOf b (row .index)) p m y
       → (k : ℕ) → CountersBy p m k → Smallest (CountersBy p m) r
+
+-- the last listed move of state s takes nothing
+abbrev pub LastFree : List ℕ → ℕ → Type 0
+LastFree ways s = (0 < countIn ways s true) × (takenIn ways s (countIn ways s true - 1) ≡ 0)
 
 -- whether the number m is a move that place x of state s pays, and the place that it leads to
 abbrev pub Makes : Block → Row → ℕ → ℕ → ℕ → Landing → Type 0

@@ -10,24 +10,42 @@ use ways::rows::Row;
 use ways::rows::Spot;
 ghost use mathlib.Core.Bool.{true};
 ghost use mathlib.Core.Path.{_≡_};
-ghost use Prim.Native.Nat.{_+_, _*_, _<_};
+ghost use Prim.Native.Nat.{_+_, _*_, _≤_, _<_};
 ghost use lib.ListN.{length};
+ghost use Rattle.block.specs.Inner.Tests.{Decides};
 ghost use Rattle.block.specs.Layout as L;
 ghost use Rattle.block.specs.Inner.Valid.{Valid};
 ghost use Rattle.turns.specs.Buffers.{rankIn};
 ghost use Rattle.turns.specs.Sizes.{roomBytes};
+ghost use Rattle.ways.specs.Lines.{waysBytes, countIn};
 ghost use Rattle.ways.specs.Listing.{Listed};
 ghost use Rattle.ways.specs.Rows.{Playable};
+ghost use Rattle.choice.specs.Choices.{LastFree};
 ghost use Rattle.choice.specs.Filling.{FilledTo, NextRight};
 ghost use Rattle.choice.specs.Tables.{NextRanks};
 
-// The rank of a position, where only moves into the set are listed: 1 where one of them can be paid.
-fn next_rank(block: &[u8], row: Row, ways: &[u8], spot: Spot) -> usize
+// Whether the last listed move of state s takes nothing.
+fn last_free(ways: &[u8], s: usize) -> bool
+    requires { ⌜ (length (now ways) ≡ waysBytes) × (s < L.maxStates) × (countIn (now ways) s true ≤ L.maxJoint) ⌝ }
+    ensures { λ r. ⌜ Decides (LastFree (now (ways .entry)) s) r ⌝ }
+{
+    let n = lines::count(ways, s, true);
+    if n == 0 {
+        return false;
+    }
+    lines::taken(ways, s, n - 1) == 0
+}
+
+// The rank of a position, where only moves into the set are listed: 1 where one of them can be paid. Every stock pays one that is free.
+fn next_rank(block: &[u8], row: Row, ways: &[u8], spot: Spot, free: bool) -> usize
     requires { ⌜ Valid (now block) ⌝ }
     requires { ⌜ Playable (now block) row × (row .into ≡ true) × Listed (now block) row (now ways) ⌝ }
-    requires { ⌜ (spot .state < L.states (now block)) × (spot .place < row .places) ⌝ }
+    requires { ⌜ (spot .state < L.states (now block)) × (spot .place < row .places) × (free ≡ true → LastFree (now ways) (spot .state)) ⌝ }
     ensures { λ v. ⌜ NextRight (now (block .entry)) (row .index) (row .set) (spot .state * row .places + spot .place) v × (v < 65536) ⌝ }
 {
+    if free {
+        return 1;
+    }
     let n = lines::count(ways, spot.state, true);
     for k in 0..n {
         if let Landing::At(_) = landing::lands(block, row, ways, spot, k) {
@@ -46,9 +64,11 @@ fn next_places(block: &[u8], row: Row, ways: &[u8], s: usize, ranks: &mut [u8])
     ensures { λ _. ⌜ length (now (ranks .exit)) ≡ length (now (ranks .entry)) ⌝ }
 {
     let c = row.places;
+    let free = last_free(ways, s);
     for x in 0..c {
         let spot = Spot { state: s, place: x };
-        buffers::set_rank(ranks, s * c + x, next_rank(block, row, ways, spot));
+        let rank = next_rank(block, row, ways, spot, free);
+        buffers::set_rank(ranks, s * c + x, rank);
     }
 }
 

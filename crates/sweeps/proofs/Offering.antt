@@ -21,7 +21,7 @@ use Rattle.ways.specs.Places.{PlacedAt}
 use Rattle.ways.specs.Rows.{Playable}
 use Rattle.ways.specs.declared.rows.Row.{Row}
 use Rattle.ways.specs.declared.landing.Landing.the-variants.{At, Unpaid}
-use Rattle.ways.proofs.Leading.{ever-allowed, move-here}
+use Rattle.ways.proofs.Leading.{ever-allowed, move-here, allowed-useful}
 use Rattle.ways.proofs.Placing.{place-position}
 use Rattle.sweeps.specs.Values.{Gathered, MoveOffers, OneOf}
 use Rattle.sweeps.proofs.Gathering.{gathered-nothing}
@@ -64,6 +64,5 @@ module _ (b : Block) (valid : Valid b) (row : Row) (playable : Playable b row) (
 
   pub all-list : (v : ℕ) → OneOf 64 offers v → OneOf (countIn ways s true) (λ k. offers (numberIn ways s true k)) v
   all-list v (m, l, (p, placed, allowed, worst)) =
-      let useful : Useful b row s m = (ever-allowed b valid row playable s x m p placed allowed, λ (into : row .into ≡ true). absurd (let z : _≡_ {A = Bool} false true = sym all ∙ into in let e : _≡_ {A = ℕ} 0 1 = cc in omega arith)) in
-      let (k, below, e) = listed .states s state .lines true .each m useful in
+      let (k, below, e) = listed .states s state .lines true .each m (allowed-useful b valid row playable all s x p placed m allowed) in
       (k, below, subst (λ (y : ℕ). offers y v) (sym e) (p, placed, allowed, worst))

@@ -2,7 +2,7 @@
 use mathlib.Core.Bool.{Bool, true, false, cond}
 use mathlib.Core.Logic.{inl, inr, ⊎-elim}
 use mathlib.Core.Path.{_≡_, refl, sym, _∙_, ap}
-use Prim.Native.Nat.{ℕ, zero, suc, _%_, _^_, _≤_, _<_}
+use Prim.Native.Nat.{ℕ, zero, suc, _+_, _-_, _%_, _^_, _≤_, _<_}
 use native.Mathlib.Nat.{pow-le-pow-right, div-eq-of-lt}
 use native.Mathlib.Omega.{arith}
 use Rattle.block.specs.Layout as L
@@ -23,6 +23,9 @@ cond-same false d h = sym (h refl)
 cond-small : (t : Bool) (m a : ℕ) → cond t (digit m a) 0 < 4
 cond-small true m a = omega arith
 cond-small false m a = omega arith
+
+pub part-small : (A : Coalition) (m : ℕ) → partOf A m < 64
+part-small A m = omega (arith, cond-small (A 0) m 0, cond-small (A 1) m 1, cond-small (A 2) m 2)
 
 -- past the agents there are no digits
 digit-beyond : (m n a : ℕ) → m < 4 ^ n → n ≤ a → digit m a ≡ 0
@@ -79,3 +82,24 @@ module _ (b : Block) (valid : Valid b) (A : Coalition) (s m : ℕ) (state : s < 
           (omega (arith, is-part, cond-small (A 0) m 0, cond-small (A 1) m 1, cond-small (A 2) m 2))
           (omega (arith, is-part, cond-small (A 0) m 0, cond-small (A 1) m 1, cond-small (A 2) m 2))
           (omega (arith, is-part, cond-small (A 0) m 0, cond-small (A 1) m 1, cond-small (A 2) m 2))
+
+  -- the digits of a move are at most those of the largest joint action
+  pub move-below : MoveOf (structureOf b) A s m → m < partOf A (4 ^ L.agents b - 1) + 1
+  move-below move = go (L.agents b) (valid .sized .agents-fit .0) (valid .sized .agents-fit .1) (move .0)
+    where
+      most : (a d : ℕ) → digit m a ≤ d → cond (A a) (digit m a) 0 ≤ cond (A a) d 0
+      most a d small = at (A a)
+        where
+          at : (t : Bool) → cond t (digit m a) 0 ≤ cond t d 0
+          at true = small
+          at false = omega arith
+
+      is-part : partOf A m ≡ m
+      is-part = move-part move .1
+
+      go : (n : ℕ) → 1 ≤ n → n ≤ 3 → m < 4 ^ n → m < partOf A (4 ^ n - 1) + 1
+      go zero some few small = absurd (omega arith)
+      go (suc zero) some few small = omega (arith, is-part, most 0 3 (omega arith), most 1 0 (omega arith), most 2 0 (omega arith))
+      go (suc (suc zero)) some few small = omega (arith, is-part, most 0 3 (omega arith), most 1 3 (omega arith), most 2 0 (omega arith))
+      go (suc (suc (suc zero))) some few small = omega (arith, is-part, most 0 3 (omega arith), most 1 3 (omega arith), most 2 3 (omega arith))
+      go (suc (suc (suc (suc n)))) some few small = absurd (omega arith)

@@ -2,7 +2,7 @@
 use block::joint;
 use block::layout;
 ghost use mathlib.Core.Path.{_≡_};
-ghost use Prim.Native.Nat.{_^_, _≤_, _<_};
+ghost use Prim.Native.Nat.{ℕ, _^_, _≤_, _<_};
 ghost use Rattle.block.specs.Inner.Tests.{Decides};
 ghost use Rattle.block.specs.Layout.{maxJoint, rows, states, resources, agents, kind, Strategic, digit};
 ghost use Rattle.block.specs.Inner.Valid.{Valid};
@@ -10,7 +10,10 @@ ghost use Rattle.game.specs.Rbatl.{moveCost};
 ghost use Rattle.game.specs.Position.{MoveOf};
 ghost use Rattle.game.specs.Inner.Parts.{partOf};
 ghost use Rattle.game.specs.Model.{bit, structureOf};
-ghost use Rattle.turns.specs.Inner.Rules.{ReplyTo};
+ghost use Rattle.turns.specs.Inner.Rules.{ReplyTo, SideMove};
+
+// The mask of all agents.
+const ALL_AGENTS: usize = 7;
 
 // A team's part of a joint action: the digits of its agents, and 0 for the others.
 fn part(team: usize, joint: usize) -> usize
@@ -86,5 +89,19 @@ pub fn is_reply(block: &[u8], i: usize, s: usize, r: usize) -> bool
     requires { ⌜ (i < rows (now block)) × Strategic (kind (now block) i) × (s < states (now block)) ⌝ }
     ensures { λ t. ⌜ Decides (ReplyTo (now (block .entry)) i s r) t ⌝ }
 {
-    is_move(block, s, 7 - layout::team(block, i), r)
+    is_move(block, s, ALL_AGENTS - layout::team(block, i), r)
+}
+
+// A number past those of row i's moves where ours, and else of the replies: one more than the side's part of the largest joint action.
+pub fn numbers(block: &[u8], i: usize, ours: bool) -> usize
+    requires { ⌜ Valid (now block) ⌝ }
+    requires { ⌜ (i < rows (now block)) × Strategic (kind (now block) i) ⌝ }
+    ensures { λ n. ⌜ (n ≤ maxJoint) × ((s m : ℕ) → s < states (now (block .entry)) → SideMove (now (block .entry)) i ours s m → m < n) ⌝ }
+{
+    let last = joint_actions(block) - 1;
+    let team = layout::team(block, i);
+    if ours {
+        return part(team, last) + 1;
+    }
+    part(ALL_AGENTS - team, last) + 1
 }

@@ -2,7 +2,7 @@
 use block::layout;
 
 // The stocks of one resource, the stock places of a state with two resources, and the most positions of a row.
-const MAX_STOCKS: usize = layout::MAX_UNITS + 1;
+pub const MAX_STOCKS: usize = layout::MAX_UNITS + 1;
 
 pub const MAX_STOCK_PLACES: usize = MAX_STOCKS * MAX_STOCKS;
 

@@ -17,6 +17,10 @@ use Rattle.ways.specs.Lines.{waysBytes, fieldPlace, fieldIn, countAt, li
 use Rattle.ways.specs.Listing.{Listable, LineOf, TakesOf, StateListed, SameOutside}
 use Rattle.ways.specs.declared.rows.Row.{Row}
 
+-- a test has one value
+pub apart : (t : Bool) → t ≡ true → t ≡ false → ⊥
+apart t is not = let z : _≡_ {A = ℕ} 0 1 = cc in omega arith
+
 -- the first n of the numbers `at` are those below j of which P holds, rising
 pub record LineBelow (P : ℕ → Type 0) (j : ℕ) (at : ℕ → ℕ) (n : ℕ) : Type 0 where
   pub each : (m : ℕ) → m < j → P m → (k : ℕ) × (k < n) × (at k ≡ m)
@@ -151,7 +155,7 @@ takes-more s k v l f inside so-far is j small = go (eq? j k)
 pub replies-kept : (P : ℕ → Type 0) (s : ℕ) (ours : Bool) (l l′ : List ℕ) → ours ≡ true → SameOutside (fieldPlace s (lineAt ours)) (fieldPlace s (lineAt ours) + 64) l l′
     → LineOf P (numberIn l s false) (countIn l s false) → LineOf P (numberIn l′ s false) (countIn l′ s false)
 replies-kept P s true l l′ e same line = line-moved P s false l l′ (same .same (fieldPlace s 1) (inl (omega arith))) (λ k small. same .same (fieldPlace s (66 + k)) (inr (omega arith))) line
-replies-kept P s false l l′ e same line = let z : _≡_ {A = ℕ} 0 1 = cc in absurd (omega arith)
+replies-kept P s false l l′ e same line = absurd (apart false e refl)
 
 -- what is stored in the next place of a line
 pub number-put : (s n v : ℕ) (ours : Bool) (l : List ℕ) → fieldPlace s (lineAt ours + n) < length l → numberIn (set l (fieldPlace s (lineAt ours + n)) v) s ours n ≡ v
@@ -159,6 +163,18 @@ number-put s n v ours l inside = getD-set-same l (fieldPlace s (lineAt ours + n)
 
 pub number-before : (s n v : ℕ) (ours : Bool) (l : List ℕ) (k : ℕ) → k < n → numberIn (set l (fieldPlace s (lineAt ours + n)) v) s ours k ≡ numberIn l s ours k
 number-before s n v ours l k less = getD-set-other l (fieldPlace s (lineAt ours + n)) (fieldPlace s (lineAt ours + k)) v 0 (λ e. omega arith)
+
+-- one more number is stored at the end of a line
+pub line-stored : (P : ℕ → Type 0) (s : ℕ) (ours : Bool) (m n : ℕ) (l₀ l l′ : List ℕ) → s < 24 → n < 64 → length l ≡ waysBytes → l′ ≡ set l (fieldPlace s (lineAt ours + n)) m
+    → LineBelow P m (numberIn l s ours) n → P m → SameOutside (fieldPlace s (lineAt ours)) (fieldPlace s (lineAt ours) + 64) l₀ l
+    → LineBelow P (m + 1) (numberIn l′ s ours) (n + 1) × SameOutside (fieldPlace s (lineAt ours)) (fieldPlace s (lineAt ours) + 64) l₀ l′
+line-stored P s ours m n l₀ l l′ state small long put line here same =
+    let place = fieldPlace s (lineAt ours + n) in
+    let there : place < length l = omega (arith, line-at-small ours) in
+    subst (λ (x : List ℕ). LineBelow P (m + 1) (numberIn x s ours) (n + 1) × SameOutside (fieldPlace s (lineAt ours)) (fieldPlace s (lineAt ours) + 64) l₀ x) (sym put) (
+      line-more P m n (numberIn l s ours) (numberIn (set l place m) s ours) (number-put s n m ours l there) (number-before s n m ours l) line here,
+      outside-both same (set-outside (fieldPlace s (lineAt ours)) (fieldPlace s (lineAt ours) + 64) place m l (omega arith) (omega arith)),
+    )
 
 -- a line whose count is stored
 pub line-counted : (P : ℕ → Type 0) (s n : ℕ) (ours : Bool) (l : List ℕ) → fieldPlace s (countAt ours) < length l → LineOf P (numberIn l s ours) n

@@ -2,7 +2,7 @@
 use mathlib.Core.Bool.{Bool, true, false, not}
 use mathlib.Core.List.{List}
 use mathlib.Core.Logic.{inl}
-use mathlib.Core.Path.{_≡_, sym, _∙_, ap, ap₂, subst}
+use mathlib.Core.Path.{_≡_, refl, sym, _∙_, ap, ap₂, subst}
 use Prim.Native.Nat.{ℕ, _+_, _*_, _-_, _^_, _≤_, _<_}
 use native.Mathlib.Nat.{mul-le-mul}
 use native.Mathlib.Omega.{arith}
@@ -11,30 +11,31 @@ use Rattle.block.specs.Layout.{Block}
 use Rattle.block.specs.Inner.Valid.{Valid}
 use Rattle.game.specs.Rbatl.{Fits}
 use Rattle.game.specs.Position.{Arena, Position, IsPosition, stockBound, fullStock, number, positions, full, cost, opponents, MoveOf, Affordable, Allowed, Reply, outcome}
-use Rattle.game.specs.Inner.Stocks.{stocksOf, stockPlaces, offset}
+use Rattle.game.specs.Inner.Stocks.{taken, stocksOf, stockPlaces, offset}
 use Rattle.game.specs.Model.{structureOf, coalitionOf, arenaOf}
 use Rattle.game.proofs.Blocks.Passing.{valid-proper, few-stocks}
 use Rattle.game.proofs.Blocks.Reading.{outcome-state}
 use Rattle.game.proofs.Bridge.Moves.{idle-move}
 use Rattle.game.proofs.Bridge.Plays.{outcome-fits}
 use Rattle.game.proofs.Bridge.Truth.{full-fits}
-use Rattle.game.proofs.Numbers.Decide.{eq?}
+use Rattle.game.proofs.Numbers.Decide.{eq?, lt?}
+use Rattle.game.proofs.Numbers.Stocks.{taken-fits}
 use Rattle.turns.specs.Buffers.{rankIn}
-use Rattle.turns.specs.Inner.Rules.{ReplyTo}
+use Rattle.turns.specs.Inner.Rules.{ReplyTo, SideMove}
 use Rattle.turns.proofs.Opponents.{joint-small, next-state}
 use Rattle.ways.specs.Extremes.{Beyond, Extreme, BestOf, Worst}
 use Rattle.ways.specs.Landing.{Leaves, Lands, Made, rankAfter, WorstWithin}
-use Rattle.ways.specs.Lines.{fieldPlace, countIn, numberIn, takenIn}
-use Rattle.ways.specs.Listing.{Listed, StateListed, Useful, Listable, SameOutside}
+use Rattle.ways.specs.Lines.{fieldPlace, packedIn, countIn, numberIn, takenIn}
+use Rattle.ways.specs.Listing.{Listed, StateListed, Eligible, Free, Ends, Useful, Listable, SameOutside}
 use Rattle.ways.specs.Places.{PlacedAt}
 use Rattle.ways.specs.Rows.{Playable}
-use Rattle.ways.specs.Packed.{Packs, Covers}
+use Rattle.ways.specs.Packed.{Packs, Narrow, Covers}
 use Rattle.ways.specs.declared.rows.Row.{Row}
 use Rattle.ways.specs.declared.landing.Landing.the-variants.{At, Unpaid}
-use Rattle.ways.proofs.Filling.{state-same}
-use Rattle.ways.proofs.Offsets.{state-and-stocks, remains-number}
+use Rattle.ways.proofs.Filling.{apart, state-same}
+use Rattle.ways.proofs.Offsets.{number-zero, state-and-stocks, remains-number}
 use Rattle.ways.proofs.Placing.{stocks-below, place-position}
-use Rattle.ways.proofs.Packing.{full-pays, pays-covers, covers-pays}
+use Rattle.ways.proofs.Packing.{full-pays, position-narrow, pays-covers, covers-pays}
 
 -- a row has at most 256 stock places
 pub few : (b : Block) → Valid b → (row : Row) → Playable b row → row .places ≤ 256
@@ -62,6 +63,18 @@ module _ (b : Block) (valid : Valid b) (row : Row) (playable : Playable b row) w
   pub move-here : (s x m : ℕ) (p : Position) → PlacedAt G s x p → MoveOf (structureOf b) (coalitionOf b (row .index)) s m → Affordable G p m → Allowed G p m
   move-here s x m p placed move paid = (subst (λ (q : ℕ). MoveOf (structureOf b) (coalitionOf b (row .index)) q m) (sym (placed .state)) move, paid)
 
+  -- where all moves are listed, each that is allowed is among them
+  pub allowed-useful : row .into ≡ false → (s x : ℕ) (p : Position) → PlacedAt G s x p → (m : ℕ) → Allowed G p m → Useful b row s m
+  allowed-useful all s x p placed m allowed =
+      (ever-allowed s x m p placed allowed, (λ into. absurd (apart (row .into) into all)), λ into. absurd (apart (row .into) into all))
+
+  -- every position of the state pays a move that takes nothing
+  pub free-allowed : (s x m : ℕ) (p : Position) → PlacedAt G s x p → Free b row s m → Allowed G p m
+  free-allowed s x m p placed (allowed, _, nothing) = move-here s x m p placed (allowed .0)
+      (λ r l.
+      let none = number-zero G (G .structure .resources) (record { state = 0; stock = λ j. taken (G .bounds j) (cost G (full G s) m j) }) nothing r l in
+      subst (λ (q : ℕ). Fits (cost G (full G q) m r) (stockBound (G .bounds r) (p .stock r))) (sym (placed .state)) (taken-fits (G .bounds r) (p .stock r) (cost G (full G s) m r) .0 (omega arith)))
+
   -- the k-th listed move at a place: what it takes tells whether the place pays, and what is left
   module _ (ways : List ℕ) (listed : Listed b row ways) (s x k o : ℕ) (state : s < L.states b) (place : x < row .places) (small : k < countIn ways s true) (takes : o ≡ takenIn ways s k) where
     abbrev m : ℕ
@@ -76,11 +89,22 @@ module _ (b : Block) (valid : Valid b) (row : Row) (playable : Playable b row) w
     pub taken-small : o < stockPlaces G
     taken-small = omega (arith, offset-o, remains-number G (full G s) m 0 (full-fits G s state) (way .0 .1), stocks-below G (full G s) (full-fits G s state))
 
+    -- a place that has what is taken has the larger number
+    module _ (covers : Covers ways x o) where
+      paid-at : (p : Position) → PlacedAt G s x p → Affordable G p m
+      paid-at p placed = covers-pays b valid (row .index) (playable .inside) (playable .strategic) ways (listed .packed) s x m (way .0 .1) p placed (subst (Covers ways x) offset-o covers)
+
+      pub taken-below : o ≤ x
+      taken-below =
+          let (p, placed) = place-position G s x state (omega (arith, playable .places-are)) in
+          let here : offset G (full G s) m ≡ offset G p m = ap (λ (q : ℕ). offset G (full G q) m) (sym (placed .state)) in
+          omega (arith, remains-number G p m 0 (placed .fits) (paid-at p placed), placed .place, here, offset-o)
+
     pub lands-at : Covers ways x o → Lands G s x m (At (x - o))
     lands-at covers = (
-      omega (arith, covers .0, playable .places-are),
+      omega (arith, playable .places-are),
       λ p placed.
-          let paid = covers-pays b valid (row .index) (playable .inside) (playable .strategic) ways (listed .packed) s x m (way .0 .1) p placed (subst (Covers ways x) offset-o covers) in
+          let paid = paid-at covers p placed in
           let here : offset G (full G s) m ≡ offset G p m = ap (λ (q : ℕ). offset G (full G q) m) (sym (placed .state)) in
           (paid, λ r. omega (arith, remains-number G p m r (placed .fits) paid, placed .place, here, offset-o)),
     )
@@ -127,10 +151,46 @@ module _ (b : Block) (valid : Valid b) (row : Row) (playable : Playable b row) w
   pub some-reply : (s : ℕ) (ways : List ℕ) → s < L.states b → StateListed b row s ways → 0 < countIn ways s false
   some-reply s ways state listed = let (k, l, _) = listed .lines false .each 0 (idle-move (structureOf b) (valid-proper b valid) (opponents (coalitionOf b (row .index))) s state) in omega arith
 
-  -- listed numbers are those of joint actions
-  pub listable-small : (s : ℕ) (ours : Bool) (m : ℕ) → Listable b row s ours m → m < 4 ^ L.agents b
-  listable-small s true m useful = useful .0 .0 .0
-  listable-small s false m reply = reply .0
+  -- what is packed of a stock place
+  pub place-narrow : (ways : List ℕ) → Packs G ways → (s x : ℕ) → s < L.states b → x < stockPlaces G → Narrow (packedIn ways x)
+  place-narrow ways packs s x state place =
+      let (p, placed) = place-position G s x state place in
+      subst Narrow (sym (packs p (placed .fits)) ∙ ap (packedIn ways) (placed .place)) (position-narrow b valid (row .index) (playable .inside) (playable .strategic) p (placed .fits))
+
+  -- a number is listed if it is eligible and no smaller one ends the line
+  module _ (s : ℕ) where
+    pub listable : (ours : Bool) (m : ℕ) → Eligible b row s ours m → ((k : ℕ) → k < m → Ends b row s ours k → ⊥) → Listable b row s ours m
+    listable true m (allowed, into) none = (allowed, into, λ soon k less free. none k less (refl, soon, free))
+    listable false m reply none = reply
+
+    pub eligible : (ours : Bool) (m : ℕ) → Listable b row s ours m → Eligible b row s ours m
+    eligible true m (allowed, into, _) = (allowed, into)
+    eligible false m reply = reply
+
+    pub unended : (ours : Bool) (m : ℕ) → Listable b row s ours m → (k : ℕ) → k < m → Ends b row s ours k → ⊥
+    unended true m (_, _, none) k less (_, soon, free) = none soon k less free
+    unended false m reply k less (ours, _, _) = apart false ours refl
+
+    -- and once a number ends the line, none above it is listed
+    pub listed-below : (ours : Bool) (j : ℕ) → Ends b row s ours j → (m : ℕ) → Listable b row s ours m → m < j + 1
+    listed-below ours j ends m listed = go (lt? j m)
+      where
+        go : Dec (j < m) → m < j + 1
+        go (yes less) = absurd (unended ours m listed j less ends)
+        go (no more) = omega arith
+
+    pub eligible-move : (ours : Bool) (m : ℕ) → Eligible b row s ours m → SideMove b (row .index) ours s m
+    eligible-move true m (allowed, _) = allowed .0
+    eligible-move false m reply = reply
+
+    -- a number that ends a line is eligible
+    pub ends-eligible : (ours : Bool) (m : ℕ) → Ends b row s ours m → Eligible b row s ours m
+    ends-eligible true m (_, _, (allowed, into, _)) = (allowed, λ _. into)
+    ends-eligible false m (ours, _, _) = absurd (apart false ours refl)
+
+    pub eligible-ends : (ours : Bool) (m : ℕ) → Eligible b row s ours m → (ours ≡ true) × (row .into ≡ true) × (offset G (full G s) m ≡ 0) → Ends b row s ours m
+    eligible-ends true m (allowed, into) (ours, soon, nothing) = (ours, soon, (allowed, into soon, nothing))
+    eligible-ends false m reply (ours, _, _) = absurd (apart false ours refl)
 
 -- one more state is listed, and the states and packed stocks before it stay
 module _ (b : Block) (row : Row) (s : ℕ) (l l′ : List ℕ) (same : SameOutside (fieldPlace s 0) (fieldPlace (s + 1) 0) l l′) where

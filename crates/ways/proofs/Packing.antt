@@ -1,6 +1,6 @@
--- Packed stocks add up as stocks do, and only so: a place pays what a move takes exactly if the packed stocks add up. Assumes nothing.
+-- Packed stocks have the stocks as digits, so that a place pays what a move takes exactly if no digit is too small. Assumes nothing.
 use mathlib.Core.List.{List}
-use mathlib.Core.Path.{_≡_, refl, sym, _∙_, ap, ap₂, subst}
+use mathlib.Core.Path.{_≡_, refl, sym, _∙_, ap, subst, subst₂}
 use Prim.Native.Nat.{ℕ, zero, suc, _+_, _*_, _-_, _/_, _%_, _≤_, _<_}
 use native.Mathlib.Nat.{mul-add-div-right, mul-add-mod-self-right, mod-eq-of-lt, mod-lt, div-eq-of-lt}
 use native.Mathlib.Omega.{arith}
@@ -14,31 +14,45 @@ use Rattle.game.specs.Rbatl.{Bound, limit, unlimited, Fits}
 use Rattle.game.specs.Position.{Arena, Position, IsPosition, places, fullStock, stockBound, remaining, number, numberUpTo, full, cost, Affordable}
 use Rattle.game.specs.Inner.Stocks.{taken, stocksOf, offset}
 use Rattle.game.specs.Model.{boundsOf, arenaOf}
-use Rattle.game.proofs.Numbers.Decide.{eq?}
-use Rattle.game.proofs.Numbers.Stocks.{remaining-fits, taken-fits}
+use Rattle.game.proofs.Numbers.Decide.{eq?, lt?}
+use Rattle.game.proofs.Numbers.Stocks.{taken-fits}
 use Rattle.game.proofs.Blocks.Passing.{few-places}
-use Rattle.ways.proofs.Offsets.{taken-back, remains-number}
 use Rattle.ways.specs.Places.{PlacedAt}
-use Rattle.ways.specs.Packed.{packedFrom, PackedAt, Packs, Covers}
-use Rattle.ways.proofs.Placing.{stocks-below, place-position}
+use Rattle.ways.specs.Packed.{packedFrom, PackedAt, Packs, Narrow, Covers}
 
-packs-add : (n : ℕ) (q z p : Position) (a b c : ℕ) → a + b ≡ c → ((r : ℕ) → r < n → q .stock r + z .stock r ≡ p .stock r) → packedFrom n q a + packedFrom n z b ≡ packedFrom n p c
-packs-add zero q z p a b c e stocks = e
-packs-add (suc n) q z p a b c e stocks =
-    packs-add n q z p (a * 32 + q .stock n) (b * 32 + z .stock n) (c * 32 + p .stock n) (omega (arith, stocks n (omega arith))) (λ r l. stocks r (omega arith))
+-- the stocks of n resources are the digits of w
+record Digits (n : ℕ) (p : Position) (w : ℕ) : Type 0 where
+  low : w % 32 ≡ p .stock 0
+  high : 1 < n → w / 32 ≡ p .stock 1
+  none : n ≤ 1 → w / 32 ≡ 0
 
--- with two stocks below 16 no sum carries
-packs-split : (n : ℕ) (q z p : Position) (a b c : ℕ) → ((r : ℕ) → r < n → (q .stock r < 16) × (z .stock r < 16) × (p .stock r < 16)) → packedFrom n q a + packedFrom n z b ≡ packedFrom n p c
-    → (a + b ≡ c) × ((r : ℕ) → r < n → q .stock r + z .stock r ≡ p .stock r)
-packs-split zero q z p a b c small e = (e, λ r l. absurd (omega arith))
-packs-split (suc n) q z p a b c small e =
-    let (before, stocks) = packs-split n q z p (a * 32 + q .stock n) (b * 32 + z .stock n) (c * 32 + p .stock n) (λ r l. small r (omega arith)) e in
-    let (x, y, w) = small n (omega arith) in
-    (omega arith, λ r l. at r l stocks (omega arith) (eq? r n))
-  where
-    at : (r : ℕ) → r < suc n → ((j : ℕ) → j < n → q .stock j + z .stock j ≡ p .stock j) → q .stock n + z .stock n ≡ p .stock n → Dec (r ≡ n) → q .stock r + z .stock r ≡ p .stock r
-    at r l stocks last (yes is) = subst (λ (j : ℕ). q .stock j + z .stock j ≡ p .stock j) (sym is) last
-    at r l stocks last (no ne) = stocks r (omega arith)
+digits : (n : ℕ) → 1 ≤ n → n ≤ 2 → (p : Position) → ((r : ℕ) → r < n → p .stock r < 16) → Digits n p (packedFrom n p 0)
+digits zero some few p small = absurd (omega arith)
+digits (suc zero) some few p small = record { low = omega (arith, small 0 (omega arith)); high = λ l. absurd (omega arith); none = λ _. omega (arith, small 0 (omega arith)) }
+digits (suc (suc zero)) some few p small = record { low = omega (arith, small 0 (omega arith)); high = λ _. omega (arith, small 0 (omega arith)); none = λ l. absurd (omega arith) }
+digits (suc (suc (suc n))) some few p small = absurd (omega arith)
+
+module _ (n : ℕ) (some : 1 ≤ n) (few : n ≤ 2) (p : Position) (small : (r : ℕ) → r < n → p .stock r < 16) where
+  packed-narrow : Narrow (packedFrom n p 0)
+  packed-narrow = let d = digits n some few p small in (omega (arith, d .low, small 0 (omega arith)), go (lt? 1 n))
+    where
+      go : Dec (1 < n) → packedFrom n p 0 / 32 < 16
+      go (yes l) = omega (arith, digits n some few p small .high l, small 1 l)
+      go (no l) = omega (arith, digits n some few p small .none (omega arith))
+
+  -- no digit is smaller than another position's exactly if no stock is
+  module _ (z : Position) (small-z : (r : ℕ) → r < n → z .stock r < 16) where
+    at-most-packed : ((r : ℕ) → r < n → z .stock r ≤ p .stock r) → (packedFrom n z 0 % 32 ≤ packedFrom n p 0 % 32) × (packedFrom n z 0 / 32 ≤ packedFrom n p 0 / 32)
+    at-most-packed less = (omega (arith, digits n some few p small .low, digits n some few z small-z .low, less 0 (omega arith)), go (lt? 1 n))
+      where
+        go : Dec (1 < n) → packedFrom n z 0 / 32 ≤ packedFrom n p 0 / 32
+        go (yes l) = omega (arith, digits n some few p small .high l, digits n some few z small-z .high l, less 1 l)
+        go (no l) = omega (arith, digits n some few z small-z .none (omega arith))
+
+    packed-at-most : (packedFrom n z 0 % 32 ≤ packedFrom n p 0 % 32) × (packedFrom n z 0 / 32 ≤ packedFrom n p 0 / 32) → (r : ℕ) → r < n → z .stock r ≤ p .stock r
+    packed-at-most (low, high) zero l = omega (arith, digits n some few p small .low, digits n some few z small-z .low)
+    packed-at-most (low, high) (suc zero) l = omega (arith, digits n some few p small .high l, digits n some few z small-z .high l)
+    packed-at-most (low, high) (suc (suc r)) l = absurd (omega arith)
 
 -- what a stock pays, the full stock pays
 pub full-pays : (bound : Bound) (s c : ℕ) → s < places bound → Fits c (stockBound bound s) → Fits c (stockBound bound (fullStock bound))
@@ -106,6 +120,14 @@ packs-more G l l′ x v put so-far one y small = go (eq? y x)
     go (yes e) = subst (λ (z : ℕ). PackedAt G z (packedIn l′ z)) (sym e) (subst (PackedAt G x) (sym (put .stored)) one)
     go (no ne) = subst (PackedAt G y) (sym (put .others y ne)) (so-far y (omega arith))
 
+-- stocks are below 16
+stocks-small : (b : Block) → Valid b → (i : ℕ) → i < L.rows b → L.Strategic (L.kind b i) → (q : Position) → IsPosition (arenaOf b i) q → (r : ℕ) → r < L.resources b → q .stock r < 16
+stocks-small b valid i row strategic q fits r l = omega (arith, fits .1 r l, few-places b valid i (valid .row-fits i row) strategic r l)
+
+-- what is packed of a position
+pub position-narrow : (b : Block) → Valid b → (i : ℕ) → i < L.rows b → L.Strategic (L.kind b i) → (q : Position) → IsPosition (arenaOf b i) q → Narrow (packedFrom (L.resources b) q 0)
+position-narrow b valid i row strategic q fits = packed-narrow (L.resources b) (valid .sized .resources-fit .0) (valid .sized .resources-fit .1) q (stocks-small b valid i row strategic q fits)
+
 module _ (b : Block) (valid : Valid b) (i : ℕ) (row : i < L.rows b) (strategic : L.Strategic (L.kind b i)) (packs : List ℕ) (are : Packs (arenaOf b i) packs)
     (s x m : ℕ) (ever : Affordable (arenaOf b i) (full (arenaOf b i) s) m) (p : Position) (placed : PlacedAt (arenaOf b i) s x p) where
   abbrev G : Arena
@@ -119,34 +141,22 @@ module _ (b : Block) (valid : Valid b) (i : ℕ) (row : i < L.rows b) (strategic
   takes-fit = (placed .fits .0, λ r l. full-taken (G .bounds r) (cost G (full G s) m r) (ever r l))
 
   small : (q : Position) → IsPosition G q → (r : ℕ) → r < L.resources b → q .stock r < 16
-  small q fits r l = omega (arith, fits .1 r l, few-places b valid i (valid .row-fits i row) strategic r l)
+  small = stocks-small b valid i row strategic
 
   same-cost : (r : ℕ) → cost G (full G s) m r ≡ cost G p m r
   same-cost r = ap (λ (q : ℕ). cost G (full G q) m r) (sym (placed .state))
 
+  packed-here : packedIn packs x ≡ packedFrom (L.resources b) p 0
+  packed-here = ap (packedIn packs) (sym (placed .place)) ∙ are p (placed .fits)
+
   pub pays-covers : Affordable G p m → Covers packs x (offset G (full G s) m)
   pays-covers paid =
-      let q : Position = record { state = p .state; stock = λ r. remaining (G .bounds r) (p .stock r) (cost G p m r) } in
-      let rest : number G (stocksOf G q) + offset G p m ≡ number G (stocksOf G p) = remains-number G p m 0 (placed .fits) paid in
-      let off : offset G (full G s) m ≡ offset G p m = ap (λ (k : ℕ). offset G (full G k) m) (sym (placed .state)) in
-      let at : x - offset G (full G s) m ≡ number G (stocksOf G q) = omega (arith, placed .place) in
-      let sum = packs-add (L.resources b) q takes p 0 0 0 refl
-      (λ r l. ap (λ (c : ℕ). remaining (G .bounds r) (p .stock r) (cost G p m r) + taken (G .bounds r) c) (same-cost r) ∙ taken-back (G .bounds r) (p .stock r) (cost G p m r) (placed .fits .1 r l) (paid r l)) in (
-        omega (arith, placed .place),
-        ap₂ (λ (u v : ℕ). u + v)
-            (ap (λ (k : ℕ). packedIn packs k) at ∙ are q (placed .fits .0, λ r l. remaining-fits (G .bounds r) (p .stock r) (cost G p m r) (placed .fits .1 r l)))
-            (are takes takes-fit)
-            ∙ sum
-            ∙ sym (ap (λ (k : ℕ). packedIn packs k) (sym (placed .place)) ∙ are p (placed .fits)),
-      )
+      subst₂ (λ (w v : ℕ). (v % 32 ≤ w % 32) × (v / 32 ≤ w / 32)) (sym packed-here) (sym (are takes takes-fit))
+      (at-most-packed (L.resources b) (valid .sized .resources-fit .0) (valid .sized .resources-fit .1) p (small p (placed .fits)) takes (small takes takes-fit)
+      (λ r l. taken-fits (G .bounds r) (p .stock r) (cost G (full G s) m r) .1 (subst (λ (c : ℕ). Fits c (stockBound (G .bounds r) (p .stock r))) (sym (same-cost r)) (paid r l))))
 
   pub covers-pays : Covers packs x (offset G (full G s) m) → Affordable G p m
-  covers-pays (below, e) =
-      let (q, there) = place-position G (p .state) (x - offset G (full G s) m) (placed .fits .0) (omega (arith, stocks-below G p (placed .fits), placed .place)) in
-      let sum : packedFrom (L.resources b) q 0 + packedFrom (L.resources b) takes 0 ≡ packedFrom (L.resources b) p 0 =
-      sym (ap₂ (λ (u v : ℕ). u + v) (ap (λ (k : ℕ). packedIn packs k) (sym (there .place)) ∙ are q (there .fits)) (are takes takes-fit))
-      ∙ e
-      ∙ ap (λ (k : ℕ). packedIn packs k) (sym (placed .place))
-      ∙ are p (placed .fits) in
-      let digits = packs-split (L.resources b) q takes p 0 0 0 (λ r l. (small q (there .fits) r l, small takes takes-fit r l, small p (placed .fits) r l)) sum .1 in
-      λ r l. subst (λ (c : ℕ). Fits c (stockBound (G .bounds r) (p .stock r))) (same-cost r) (taken-fits (G .bounds r) (p .stock r) (cost G (full G s) m r) .0 (omega (arith, digits r l)))
+  covers-pays covers r l =
+      let enough = packed-at-most (L.resources b) (valid .sized .resources-fit .0) (valid .sized .resources-fit .1) p (small p (placed .fits)) takes (small takes takes-fit)
+      (subst₂ (λ (w v : ℕ). (v % 32 ≤ w % 32) × (v / 32 ≤ w / 32)) packed-here (are takes takes-fit) covers) r l in
+      subst (λ (c : ℕ). Fits c (stockBound (G .bounds r) (p .stock r))) (same-cost r) (taken-fits (G .bounds r) (p .stock r) (cost G (full G s) m r) .0 enough)

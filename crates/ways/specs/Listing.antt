@@ -20,9 +20,26 @@ use Rattle.ways.specs.declared.rows.Row.{Row}
 abbrev pub LeadsInto : Block → ℕ → ℕ → ℕ → ℕ → Type 0
 LeadsInto b i s m set = (r : ℕ) → ReplyTo b i s r → Bit set (L.next b s (m + r))
 
+-- a move that full stock pays, and that leads into the set where only such moves matter; or, where not ours, a reply
+abbrev pub Eligible : Block → Row → ℕ → Bool → ℕ → Type 0
+Eligible b row s true m = Allowed (arenaOf b (row .index)) (full (arenaOf b (row .index)) s) m × (row .into ≡ true → LeadsInto b (row .index) s m (row .set))
+Eligible b row s false m = ReplyTo b (row .index) s m
+
+-- a move into the set that takes nothing: every stock pays it, so no larger move matters
+abbrev pub Free : Block → Row → ℕ → ℕ → Type 0
+Free b row s m =
+    Allowed (arenaOf b (row .index)) (full (arenaOf b (row .index)) s) m × LeadsInto b (row .index) s m (row .set)
+    × (offset (arenaOf b (row .index)) (full (arenaOf b (row .index)) s) m ≡ 0)
+
+-- a line ends with it, if it is of moves into the set
+abbrev pub Ends : Block → Row → ℕ → Bool → ℕ → Type 0
+Ends b row s ours m = (ours ≡ true) × (row .into ≡ true) × Free b row s m
+
 -- a move that full stock pays and that matters to the row
 abbrev pub Useful : Block → Row → ℕ → ℕ → Type 0
-Useful b row s m = Allowed (arenaOf b (row .index)) (full (arenaOf b (row .index)) s) m × (row .into ≡ true → LeadsInto b (row .index) s m (row .set))
+Useful b row s m =
+    Allowed (arenaOf b (row .index)) (full (arenaOf b (row .index)) s) m × (row .into ≡ true → LeadsInto b (row .index) s m (row .set))
+    × (row .into ≡ true → (k : ℕ) → k < m → Free b row s k → ⊥)
 
 -- such a move where ours, and else a reply
 abbrev pub Listable : Block → Row → ℕ → Bool → ℕ → Type 0

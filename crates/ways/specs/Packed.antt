@@ -1,15 +1,20 @@
--- Stocks as one number in base 32, where stocks are added with no carry: so a sum tells whether one stock place pays what another takes.
+-- Stocks as one number. Each is a digit in a base of twice as many as there are stocks, so that a bit above each is free: with these bits set, one
+-- subtraction tells of all stocks at once whether there is enough.
 use mathlib.Core.List.{List}
 use mathlib.Core.Path.{_≡_}
-use Prim.Native.Nat.{ℕ, zero, suc, _+_, _*_, _-_, _≤_}
+use Prim.Native.Nat.{ℕ, zero, suc, _+_, _*_, _/_, _%_, _≤_, _<_}
 use Rattle.game.specs.Position.{Arena, Position, IsPosition, number}
 use Rattle.game.specs.Inner.Stocks.{stocksOf}
+use Rattle.turns.specs.Sizes.{maxStocks}
 use Rattle.ways.specs.Lines.{packedIn}
+
+abbrev pub packBase : ℕ
+packBase = 2 * maxStocks
 
 -- the first n stocks, the last of them first, after what stands before
 abbrev pub packedFrom : ℕ → Position → ℕ → ℕ
 packedFrom zero p before = before
-packedFrom (suc n) p before = packedFrom n p (before * 32 + p .stock n)
+packedFrom (suc n) p before = packedFrom n p (before * packBase + p .stock n)
 
 -- w is the packed stocks at place x
 abbrev pub PackedAt : Arena → ℕ → ℕ → Type 0
@@ -19,6 +24,10 @@ PackedAt G x w = (p : Position) → IsPosition G p → number G (stocksOf G p) �
 abbrev pub Packs : Arena → List ℕ → Type 0
 Packs G l = (p : Position) → IsPosition G p → packedIn l (number G (stocksOf G p)) ≡ packedFrom (G .structure .resources) p 0
 
--- what stands at place o can be taken from place x
+-- both digits of w are stocks
+abbrev pub Narrow : ℕ → Type 0
+Narrow w = (w % packBase < maxStocks) × (w / packBase < maxStocks)
+
+-- what stands at place o can be taken from place x: each digit is at most the other's
 abbrev pub Covers : List ℕ → ℕ → ℕ → Type 0
-Covers l x o = (o ≤ x) × (packedIn l (x - o) + packedIn l o ≡ packedIn l x)
+Covers l x o = (packedIn l o % packBase ≤ packedIn l x % packBase) × (packedIn l o / packBase ≤ packedIn l x / packBase)

@@ -14,10 +14,11 @@ ghost use Rattle.block.specs.Inner.Tests.{Decides};
 ghost use Rattle.block.specs.Layout as L;
 ghost use Rattle.block.specs.Inner.Valid.{Valid};
 ghost use Rattle.game.specs.Position.{MoveOf, Affordable, full};
+ghost use Rattle.game.specs.Inner.Stocks.{offset};
 ghost use Rattle.game.specs.Model.{structureOf, coalitionOf, arenaOf};
 ghost use Rattle.turns.specs.Inner.Rules.{ReplyTo};
 ghost use Rattle.ways.specs.Lines.{waysBytes, fieldPlace, countIn, numberIn, countAt, lineAt, takesAt};
-ghost use Rattle.ways.specs.Listing.{LeadsInto, Useful, Listable, LineOf, TakesOf, StateListed, Listed, SameOutside};
+ghost use Rattle.ways.specs.Listing.{LeadsInto, Eligible, Listable, LineOf, TakesOf, StateListed, Listed, SameOutside};
 ghost use Rattle.ways.specs.Rows.{Playable};
 
 // Whether full stock pays the move m of row i's team in state s.
@@ -69,13 +70,13 @@ fn matters(block: &[u8], row: Row, ways: &[u8], s: usize, m: usize) -> bool
     true
 }
 
-// Whether the number m is listed: as a move that matters and that full stock pays where ours, and else as a reply. The cost is asked for last,
-// since it takes most time.
-fn is_listed(block: &[u8], row: Row, ways: &[u8], s: usize, ours: bool, m: usize) -> bool
+// Whether the number m can be listed: as a move that full stock pays where ours, and else as a reply. The cost is asked for last, since it
+// takes most time.
+fn is_eligible(block: &[u8], row: Row, ways: &[u8], s: usize, ours: bool, m: usize) -> bool
     requires { ⌜ Valid (now block) ⌝ }
     requires { ⌜ Playable (now block) row × (s < L.states (now block)) × (length (now ways) ≡ waysBytes) ⌝ }
     requires { ⌜ (ours ≡ true → LineOf (ReplyTo (now block) (row .index) s) (numberIn (now ways) s false) (countIn (now ways) s false)) ⌝ }
-    ensures { λ r. ⌜ Decides (Listable (now (block .entry)) row s ours m) r ⌝ }
+    ensures { λ r. ⌜ Decides (Eligible (now (block .entry)) row s ours m) r ⌝ }
 {
     let i = row.index;
     if !ours {
@@ -90,6 +91,22 @@ fn is_listed(block: &[u8], row: Row, ways: &[u8], s: usize, ours: bool, m: usize
     payable_at_all(block, i, s, m)
 }
 
+// Whether a line of moves into the set ends with the move m, since it takes nothing.
+fn ends_line(block: &[u8], row: Row, s: usize, ours: bool, m: usize) -> bool
+    requires { ⌜ Valid (now block) ⌝ }
+    requires { ⌜ Playable (now block) row × (s < L.states (now block)) ⌝ }
+    requires { ⌜ (ours ≡ true → MoveOf (structureOf (now block)) (coalitionOf (now block) (row .index)) s m) ⌝ }
+    ensures { λ r. ⌜ Decides ((ours ≡ true) × (row .into ≡ true) × (offset (arenaOf (now (block .entry)) (row .index)) (full (arenaOf (now (block .entry)) (row .index)) s) m ≡ 0)) r ⌝ }
+{
+    if !ours {
+        return false;
+    }
+    if !row.into {
+        return false;
+    }
+    positions::offset(block, row.index, s, m) == 0
+}
+
 // Lists the moves of state s, or the replies there, in rising order. Answers how many there are.
 fn list_line(block: &[u8], row: Row, s: usize, ours: bool, ways: &mut [u8]) -> usize
     requires { ⌜ Valid (now block) ⌝ }
@@ -98,12 +115,15 @@ fn list_line(block: &[u8], row: Row, s: usize, ours: bool, ways: &mut [u8]) -> u
     ensures { λ n. ⌜ LineOf (Listable (now (block .entry)) row s ours) (numberIn (now (ways .exit)) s ours) n ⌝ }
     ensures { λ _. ⌜ SameOutside (fieldPlace s (lineAt ours)) (fieldPlace s (lineAt ours) + L.maxJoint) (now (ways .entry)) (now (ways .exit)) ⌝ }
 {
-    let limit = moves::joint_actions(block);
+    let limit = moves::numbers(block, row.index, ours);
     let mut n = 0;
     for m in 0..limit {
-        if is_listed(block, row, ways, s, ours, m) {
+        if is_eligible(block, row, ways, s, ours, m) {
             lines::set_number(ways, s, ours, n, m);
             n += 1;
+            if ends_line(block, row, s, ours, m) {
+                return n;
+            }
         }
     }
     n

@@ -1,25 +1,34 @@
-// Stock places by their stocks in base 32, where a sum has no carry: so a place is asked for what it can pay without a division.
+// Stock places by their stocks, packed in one number with a free bit above each stock: so a place is asked for what it can pay by one
+// subtraction.
 use crate::lines;
 use crate::rows::Row;
 use block::layout;
 use turns::positions;
+use turns::sizes;
 ghost use mathlib.Core.Path.{_≡_};
-ghost use Prim.Native.Nat.{ℕ, _≤_, _<_};
-ghost use lib.ListN.{length, getD};
+ghost use Prim.Native.Nat.{_^_, _<_};
+ghost use lib.ListN.{length};
 ghost use Rattle.block.specs.Inner.Tests.{Decides};
 ghost use Rattle.block.specs.Layout as L;
 ghost use Rattle.block.specs.Inner.Valid.{Valid};
 ghost use Rattle.game.specs.Model.{arenaOf};
 ghost use Rattle.turns.specs.Sizes.{maxStockPlaces};
-ghost use Rattle.ways.specs.Lines.{waysBytes};
+ghost use Rattle.ways.specs.Lines.{waysBytes, packedIn};
 ghost use Rattle.ways.specs.Rows.{Playable};
-ghost use Rattle.ways.specs.Packed.{PackedAt, Packs, Covers};
+ghost use Rattle.ways.specs.Packed.{packBase, PackedAt, Packs, Narrow, Covers};
+
+const PACK_BASE: usize = 2 * sizes::MAX_STOCKS;
+
+// The free bit above the stock of resource 0, and that above the stock of resource 1.
+const LOW_GUARD: usize = sizes::MAX_STOCKS;
+
+const HIGH_GUARD: usize = PACK_BASE * sizes::MAX_STOCKS;
 
 // The packed stocks at place x.
 fn pack_at(block: &[u8], i: usize, x: usize) -> usize
     requires { ⌜ Valid (now block) ⌝ }
     requires { ⌜ (i < L.rows (now block)) × L.Strategic (L.kind (now block) i) ⌝ }
-    ensures { λ r. ⌜ PackedAt (arenaOf (now (block .entry)) i) x r × (r < 1024) ⌝ }
+    ensures { λ r. ⌜ PackedAt (arenaOf (now (block .entry)) i) x r × (r < packBase ^ L.maxResources) ⌝ }
 {
     let mut j = layout::resources(block);
     let mut rest = x;
@@ -27,7 +36,7 @@ fn pack_at(block: &[u8], i: usize, x: usize) -> usize
     while 0 < j {
         j -= 1;
         let c = positions::places(block, i, j);
-        packed = packed * 32 + rest % c;
+        packed = packed * PACK_BASE + rest % c;
         rest = rest / c;
     }
     packed
@@ -49,10 +58,12 @@ pub fn fill_packs(block: &[u8], row: Row, ways: &mut [u8])
 // Whether place x has what stands at place o.
 pub fn covers(ways: &[u8], x: usize, o: usize) -> bool
     requires { ⌜ (length (now ways) ≡ waysBytes) × (x < maxStockPlaces) × (o < maxStockPlaces) ⌝ }
+    requires { ⌜ Narrow (packedIn (now ways) x) × Narrow (packedIn (now ways) o) ⌝ }
     ensures { λ r. ⌜ Decides (Covers (now (ways .entry)) x o) r ⌝ }
 {
-    if x < o {
+    let rest = lines::packed(ways, x) + (LOW_GUARD + HIGH_GUARD) - lines::packed(ways, o);
+    if rest / LOW_GUARD % 2 == 0 {
         return false;
     }
-    lines::packed(ways, x - o) + lines::packed(ways, o) == lines::packed(ways, x)
+    rest / HIGH_GUARD % 2 == 1
 }

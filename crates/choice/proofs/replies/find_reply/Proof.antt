@@ -118,7 +118,7 @@ returns c =
     let small = within (c .before .before .before .before .before .before .before) in
     let line = pre .1 .0 .1 .states (args .step .state) (pre .1 .1 .0) .lines false in (
       λ p fits is-state leaves _ _. subst (Smallest (Counters (c .before .before .before .before .before .before .before .before) p is-state leaves)) (sym (c .before .before .before .before .before .before .number .ensures))
-          (line-first (ReplyTo (args .block .now) (args .row .index) (args .step .state)) (Counters (c .before .before .before .before .before .before .before .before) p is-state leaves) line (listed (c .before .before .before .before .before .before .before .before) p is-state leaves) k small
+          (line-first (ReplyTo (args .block .now) (args .row .index) (args .step .state)) (Counters (c .before .before .before .before .before .before .before .before) p is-state leaves) line (λ m counters _. listed (c .before .before .before .before .before .before .before .before) p is-state leaves m counters) k small
           (λ j less. none-so-far (c .before .before .before .before .before .before .before .before) p is-state leaves j less (omega arith))
           (counters-here (args .block .now) (pre .0) (args .row) (pre .1 .0 .0) (args .ranks .now) (args .aim .kind) (args .aim .own) (args .step .state) (args .step .number) (args .step .place) (pre .1 .1) p is-state leaves (numberIn (args .ways .now) (args .step .state) false k) (reply (c .before .before .before .before .before .before .before .before .before .before .before .before .before) k small)
           (transport (tested (c .before)) (D.truth (c .before .counters .ensures) (c .if1 .taken))))),
@@ -144,7 +144,7 @@ returns-2 c =
     let pre = c .before .before .before .before .before .before .pre in
     let args = c .before .before .before .before .before .before .args in (
       λ p fits is-state leaves k counter. absurd (line-none (ReplyTo (args .block .now) (args .row .index) (args .step .state)) (Counters (c .before) p is-state leaves)
-          (pre .1 .0 .1 .states (args .step .state) (pre .1 .1 .0) .lines false) (listed (c .before) p is-state leaves)
+          (pre .1 .0 .1 .states (args .step .state) (pre .1 .1 .0) .lines false) (λ m counters _. listed (c .before) p is-state leaves m counters)
           (λ j small. none-so-far (c .before) p is-state leaves j (omega (arith, c .loop-test .left, c .before .before .count .ensures)) small) k counter),
       omega arith,
     )

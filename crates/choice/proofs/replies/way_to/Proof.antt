@@ -4,8 +4,9 @@ use mathlib.Core.Path.{_≡_, sym, _∙_, subst}
 use Prim.Native.Nat.{ℕ, _-_, _≤_, _<_}
 use native.Mathlib.Omega.{arith}
 use Rattle.ways.specs.Lines.{countIn, numberIn}
+use Rattle.ways.proofs.Leading.{allowed-useful}
 use Rattle.choice.specs.Choices.{Makes}
-use Rattle.choice.proofs.Replying.{way-makes, allowed-useful}
+use Rattle.choice.proofs.Replying.{way-makes}
 use Rattle.choice.proofs.Searching.{none-more}
 use Rattle.choice.proofs.replies.way_to.Statement.{statement}
 use Rattle.choice.proofs.replies.way_to.Tie as tie

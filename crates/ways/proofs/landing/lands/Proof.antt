@@ -3,7 +3,7 @@ use mathlib.Core.Bool.{true}
 use Prim.Native.Nat.{_<_}
 use native.Mathlib.Omega.{arith}
 use Rattle.block.proofs.Decide as D
-use Rattle.ways.proofs.Leading.{few, taken-small, lands-at, lands-nowhere}
+use Rattle.ways.proofs.Leading.{few, taken-small, taken-below, place-narrow, lands-at, lands-nowhere}
 use Rattle.ways.proofs.landing.lands.Statement.{statement}
 use Rattle.ways.proofs.landing.lands.Tie as tie
 
@@ -14,10 +14,20 @@ taken-requires : tie.Need-taken-requires
 taken-requires c κs = (c .before .before .pre .1 .0 .1 .long, state-small (c .before .before), omega (arith, c .before .before .pre .1 .1 .2, c .before .before .pre .1 .0 .1 .states (c .before .before .args .spot .state) (c .before .before .pre .1 .1 .0) .lines true .few))
 
 covers-requires : tie.Need-covers-requires
-covers-requires c κs = (c .before .before .before .pre .1 .0 .1 .long, omega (arith, c .before .before .before .pre .1 .1 .1, few (c .before .before .before .args .block .now) (c .before .before .before .pre .0) (c .before .before .before .args .row) (c .before .before .before .pre .1 .0 .0)), c .taken .ensures .1)
+covers-requires c κs =
+    let args = c .before .before .before .args in
+    let pre = c .before .before .before .pre in
+    let small = taken-small (args .block .now) (pre .0) (args .row) (pre .1 .0 .0) (args .ways .now) (pre .1 .0 .1) (args .spot .state) (args .spot .place) (args .k) (c .taken .result) (pre .1 .1 .0) (pre .1 .1 .1) (pre .1 .1 .2) (c .taken .ensures .0) in
+    let narrow = place-narrow (args .block .now) (pre .0) (args .row) (pre .1 .0 .0) (args .ways .now) (pre .1 .0 .1 .packed) (args .spot .state) in (
+      (pre .1 .0 .1 .long, omega (arith, pre .1 .1 .1, few (args .block .now) (pre .0) (args .row) (pre .1 .0 .0)), c .taken .ensures .1),
+      (narrow (args .spot .place) (pre .1 .1 .0) (omega (arith, pre .1 .1 .1, pre .1 .0 .0 .places-are)), narrow (c .taken .result) (pre .1 .1 .0) small),
+    )
 
 sub-t9 : tie.Need-sub-t9
-sub-t9 c = omega (arith, D.truth (c .before .covers .ensures) (c .if1 .taken) .0)
+sub-t9 c =
+    let args = c .before .before .before .before .before .args in
+    let pre = c .before .before .before .before .before .pre in
+    taken-below (args .block .now) (pre .0) (args .row) (pre .1 .0 .0) (args .ways .now) (pre .1 .0 .1) (args .spot .state) (args .spot .place) (args .k) (c .before .before .taken .result) (pre .1 .1 .0) (pre .1 .1 .1) (pre .1 .1 .2) (c .before .before .taken .ensures .0) (D.truth (c .before .covers .ensures) (c .if1 .taken))
 
 returns : tie.Need-returns
 returns c =

@@ -1,4 +1,4 @@
--- `is_listed` asks for a reply, or for a move: where it leads, if that matters, and what it costs. Assumes nothing.
+-- `is_eligible` asks for a reply, or for a move: where it leads, if that matters, and what it costs. Assumes nothing.
 use mathlib.Core.Bool.{Bool, true, false}
 use mathlib.Core.Path.{sym, subst}
 use Prim.Native.Nat.{ℕ}
@@ -8,9 +8,9 @@ use Rattle.block.specs.Inner.Tests.{Decides, fails}
 use Rattle.block.proofs.Decide as D
 use Rattle.game.specs.Position.{MoveOf}
 use Rattle.game.specs.Model.{bit, structureOf, coalitionOf}
-use Rattle.ways.specs.Listing.{Listable}
-use Rattle.ways.proofs.listing.is_listed.Statement.{statement}
-use Rattle.ways.proofs.listing.is_listed.Tie as tie
+use Rattle.ways.specs.Listing.{Eligible}
+use Rattle.ways.proofs.listing.is_eligible.Statement.{statement}
+use Rattle.ways.proofs.listing.is_eligible.Tie as tie
 
 is-reply-requires : tie.Need-is-reply-requires
 is-reply-requires c κs = search needs
@@ -18,7 +18,7 @@ is-reply-requires c κs = search needs
 returns : tie.Need-returns
 returns c =
     let args = c .before .before .before .before .args in
-    subst (λ (t : Bool). Decides (Listable (args .block .now) (args .row) (args .s) t (args .m)) (c .is-reply .result)) (sym (not-true (args .ours) (c .before .if1 .taken))) (c .is-reply .ensures)
+    subst (λ (t : Bool). Decides (Eligible (args .block .now) (args .row) (args .s) t (args .m)) (c .is-reply .result)) (sym (not-true (args .ours) (c .before .if1 .taken))) (c .is-reply .ensures)
 
 team-requires : tie.Need-team-requires
 team-requires c κs = search needs
@@ -27,10 +27,10 @@ is-move-requires : tie.Need-is-move-requires
 is-move-requires c κs = search needs
 
 -- past the first test, a move is asked for
-ours : (c : tie.Else1) → (r : Bool) → Decides (Listable (c .before .before .before .args .block .now) (c .before .before .before .args .row) (c .before .before .before .args .s) true (c .before .before .before .args .m)) r → Decides (Listable (c .before .before .before .args .block .now) (c .before .before .before .args .row) (c .before .before .before .args .s) (c .before .before .before .args .ours) (c .before .before .before .args .m)) r
+ours : (c : tie.Else1) → (r : Bool) → Decides (Eligible (c .before .before .before .args .block .now) (c .before .before .before .args .row) (c .before .before .before .args .s) true (c .before .before .before .args .m)) r → Decides (Eligible (c .before .before .before .args .block .now) (c .before .before .before .args .row) (c .before .before .before .args .s) (c .before .before .before .args .ours) (c .before .before .before .args .m)) r
 ours c r =
     let args = c .before .before .before .args in
-    subst (λ (t : Bool). Decides (Listable (args .block .now) (args .row) (args .s) t (args .m)) r) (sym (not-false (args .ours) (c .if1 .left)))
+    subst (λ (t : Bool). Decides (Eligible (args .block .now) (args .row) (args .s) t (args .m)) r) (sym (not-false (args .ours) (c .if1 .left)))
 
 -- whether it is one
 asked : (c : tie.After-is-move) → Decides (MoveOf (structureOf (c .before .before .before .before .before .args .block .now)) (coalitionOf (c .before .before .before .before .before .args .block .now) (c .before .before .before .before .before .args .row .index)) (c .before .before .before .before .before .args .s) (c .before .before .before .before .before .args .m)) (c .is-move .result)
@@ -54,8 +54,8 @@ returns-4 : tie.Need-returns-4
 returns-4 c = ours (c .before .before .before .before .before .before) (c .payable-at-all .result)
     (D.same (c .payable-at-all .ensures) (λ paid. ((D.truth (asked (c .before .before .before .before)) (not-false _ (c .before .before .before .if2 .left)), paid), D.truth (c .before .before .matters .ensures) (not-false _ (c .before .if3 .left)))) (λ useful. useful .0 .1))
 
-pub is-listed-spec : {M : Type 1} → statement M
-is-listed-spec =
+pub is-eligible-spec : {M : Type 1} → statement M
+is-eligible-spec =
     tie.close
     (tie.spec
     is-reply-requires
