@@ -5,8 +5,7 @@ use mathlib.Core.Logic.{_⊎_}
 use mathlib.Core.Path.{_≡_}
 use Prim.Native.Nat.{ℕ, zero, suc, _+_, _≤_, _<_}
 use Rattle.game.specs.Rbatl.{Fits, Computation, Strategy, prefix, IsStrategy, Within, NextOn, AlwaysOn, UntilOn}
-use Rattle.game.specs.Position.{Arena, Position, IsPosition, joint, budget, Move, Reply, cost, Affordable, Allowed, outcome}
-use Rattle.game.specs.Inner.Parts.{part}
+use Rattle.game.specs.Position.{Arena, Position, IsPosition, joint, part, budget, Move, Reply, cost, Affordable, Allowed, outcome}
 
 -- what a strategic row asks of a play; left and right say in which states the lower rows are true
 pub data Objective : Type 1 where

@@ -48,6 +48,10 @@ abbrev pub joint : ℕ → Joint → ℕ
 joint zero σ = 0
 joint (suc n) σ = σ 0 + 4 * joint n (λ a. σ (suc a))
 
+-- A's part of a joint action: 0 for the agents outside A
+abbrev pub part : Coalition → Joint → Joint
+part A σ a = cond (A a) (σ a) 0
+
 abbrev pub opponents : Coalition → Coalition
 opponents A a = not (A a)
 

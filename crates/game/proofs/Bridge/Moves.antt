@@ -7,8 +7,7 @@ use native.Mathlib.Omega.{arith}
 use lib.Dec.{T}
 use Rattle.block.specs.Layout.{digit}
 use Rattle.game.specs.Rbatl.{Joint, Coalition, Structure, Available, IsMove, Agree, costUpTo, moveCost}
-use Rattle.game.specs.Position.{joint, opponents, MoveOf}
-use Rattle.game.specs.Inner.Parts.{part}
+use Rattle.game.specs.Position.{joint, opponents, MoveOf, part}
 use Rattle.game.proofs.Numbers.Joint.{joint-cong, joint-below, joint-digit, digit-joint, joint-parts}
 use Rattle.game.proofs.Bridge.Proper.{Proper}
 

@@ -8,8 +8,7 @@ use native.Mathlib.Omega.{arith}
 use lib.Dec.{T}
 use Rattle.block.specs.Layout.{digit}
 use Rattle.game.specs.Rbatl.{Fits, Joint, Coalition, Structure, Strategy, Computation, prefix, IsMove, IsStrategy, Agree, Consistent, moveCost, spent}
-use Rattle.game.specs.Position.{Arena, Position, joint, opponents, MoveOf, IsPosition, budget, Move, Reply, cost, outcome}
-use Rattle.game.specs.Inner.Parts.{part}
+use Rattle.game.specs.Position.{Arena, Position, joint, opponents, MoveOf, IsPosition, budget, Move, Reply, cost, outcome, part}
 use Rattle.game.specs.Play.{Play, CounterStrategy, Turn, RecallStrategy, RecallCounter, states, spentOn, From, Follows, Answers, IsCounterStrategy, past, FollowsRecall, AnswersRecall, IsRecallCounter, Afforded, KeepsWithin}
 use Rattle.game.proofs.Numbers.Joint.{joint-cong, joint-parts, digit-joint}
 use Rattle.game.proofs.Bridge.Proper.{Proper}

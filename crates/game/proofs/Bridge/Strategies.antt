@@ -7,8 +7,7 @@ use Prim.Native.Nat.{ℕ, zero, suc, _<_}
 use lib.Dec.{T}
 use Rattle.block.specs.Layout.{digit}
 use Rattle.game.specs.Rbatl.{Fits, Coalition, Structure, Strategy, Computation, prefix, IsStrategy, Within, spent}
-use Rattle.game.specs.Position.{Arena, Position, places, joint, MoveOf, IsPosition, budget, Affordable, Allowed, outcome}
-use Rattle.game.specs.Inner.Parts.{part}
+use Rattle.game.specs.Position.{Arena, Position, places, joint, MoveOf, IsPosition, budget, Affordable, Allowed, outcome, part}
 use Rattle.game.specs.Play.{Play, states, spentOn, Follows, KeepsWithin}
 use Rattle.game.proofs.Numbers.Joint.{joint-cong, joint-digit}
 use Rattle.game.proofs.Bridge.Proper.{Proper}

@@ -7,8 +7,7 @@ use native.Mathlib.Nat.{div-div-eq-div-mul, div-one, pow-succ'}
 use native.Mathlib.Omega.{arith}
 use Rattle.block.specs.Layout.{digit}
 use Rattle.game.specs.Rbatl.{Joint, Coalition}
-use Rattle.game.specs.Position.{joint, opponents}
-use Rattle.game.specs.Inner.Parts.{part}
+use Rattle.game.specs.Position.{joint, opponents, part}
 
 digit-zero : (m : ℕ) → digit m 0 ≡ m % 4
 digit-zero m = rw div-one

@@ -1,13 +1,8 @@
--- A coalition's part of a joint action.
-use mathlib.Core.Bool.{cond}
+-- A coalition's part of a joint action, by its number.
 use Prim.Native.Nat.{ℕ}
 use Rattle.block.specs.Layout.{digit, maxAgents}
-use Rattle.game.specs.Rbatl.{Coalition, Joint}
-use Rattle.game.specs.Position.{joint}
-
--- a joint action with 0 for the agents outside A
-abbrev pub part : Coalition → Joint → Joint
-part A σ a = cond (A a) (σ a) 0
+use Rattle.game.specs.Rbatl.{Coalition}
+use Rattle.game.specs.Position.{joint, part}
 
 -- A's part of the joint action with number m: the digits of A's agents, and 0 for the others
 abbrev pub partOf : Coalition → ℕ → ℕ

@@ -7,7 +7,7 @@ use native.Mathlib.Omega.{arith}
 use borrow.Author.Needs.{needs}
 use borrow.Author.Tests.{eq-eqb, ne-eqb}
 use Rattle.block.specs.Layout.{digit}
-use Rattle.game.specs.Inner.Parts as Q
+use Rattle.game.specs.Position as Q
 use Rattle.game.specs.Model.{bit}
 use Rattle.turns.proofs.moves.part.Statement.{statement}
 use Rattle.turns.proofs.moves.part.Tie as tie
