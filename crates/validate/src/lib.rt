@@ -9,11 +9,6 @@ mod unused;
 use block::layout;
 use block::refusal::Answer;
 use block::refusal::Refusal;
-use nexts::nexts_bad;
-use rows::rows_bad;
-use sizes::sizes_bad;
-use states::states_bad;
-use unused::places_bad;
 ghost use Rattle.block.specs.Check.{Verdict};
 
 // Checks a block: the first of document 01's numbers 1 to 6 whose condition holds, or 0.
@@ -23,19 +18,19 @@ pub fn check(block: &[u8]) -> Answer
     if block.len() != layout::BLOCK_BYTES {
         return Answer::Refused(Refusal::Length);
     }
-    if sizes_bad(block) {
+    if sizes::bad(block) {
         return Answer::Refused(Refusal::Sizes);
     }
-    if states_bad(block) {
+    if states::bad(block) {
         return Answer::Refused(Refusal::State);
     }
-    if nexts_bad(block) {
+    if nexts::bad(block) {
         return Answer::Refused(Refusal::Next);
     }
-    if rows_bad(block) {
+    if rows::bad(block) {
         return Answer::Refused(Refusal::Row);
     }
-    if places_bad(block) {
+    if unused::bad(block) {
         return Answer::Refused(Refusal::Unused);
     }
     Answer::Value(0)

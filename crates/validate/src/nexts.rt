@@ -34,7 +34,7 @@ fn joints_bad(block: &[u8], s: usize) -> bool
     false
 }
 
-pub fn nexts_bad(block: &[u8]) -> bool
+pub fn bad(block: &[u8]) -> bool
     requires { ⌜ Sized (now block) ⌝ }
     ensures { λ r. ⌜ Decides (Some (states (now (block .entry))) (λ s. Some maxJoint (BadNext (now (block .entry)) s))) r ⌝ }
 {

@@ -91,7 +91,7 @@ fn row_bad(block: &[u8], i: usize) -> bool
     false
 }
 
-pub fn rows_bad(block: &[u8]) -> bool
+pub fn bad(block: &[u8]) -> bool
     requires { ⌜ Sized (now block) ⌝ }
     ensures { λ r. ⌜ Decides (Some (rows (now (block .entry))) (BadRow (now (block .entry)))) r ⌝ }
 {

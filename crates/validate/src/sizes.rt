@@ -20,7 +20,7 @@ pub fn outside(n: usize, high: usize) -> bool
     false
 }
 
-pub fn sizes_bad(block: &[u8]) -> bool
+pub fn bad(block: &[u8]) -> bool
     requires { ⌜ length (now block) ≡ blockBytes ⌝ }
     ensures { λ r. ⌜ Decides (BadSizes (now (block .entry))) r ⌝ }
 {

@@ -87,7 +87,7 @@ fn state_bad(block: &[u8], s: usize) -> bool
     agents_bad(block, s)
 }
 
-pub fn states_bad(block: &[u8]) -> bool
+pub fn bad(block: &[u8]) -> bool
     requires { ⌜ Sized (now block) ⌝ }
     ensures { λ r. ⌜ Decides (Some (states (now (block .entry))) (BadState (now (block .entry)))) r ⌝ }
 {

@@ -100,7 +100,7 @@ fn place_bad(block: &[u8], p: usize) -> bool
     !in_use(block, layout::place_at(p))
 }
 
-pub fn places_bad(block: &[u8]) -> bool
+pub fn bad(block: &[u8]) -> bool
     requires { ⌜ Sized (now block) × Counted (now block) ⌝ }
     ensures { λ r. ⌜ Decides (Some blockBytes (BadPlace (now (block .entry)))) r ⌝ }
 {

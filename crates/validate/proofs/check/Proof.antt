@@ -22,71 +22,71 @@ past-length : (c : tie.Else1) {a : Answer} → Answers (drop 1 (blockRules (byte
 past-length c f = past (λ h. h (c .if1 .left)) f
 
 past-sizes : (c : tie.Else2) {a : Answer} → Answers (drop 2 (blockRules (bytes (c .before .before)))) NoValue a → Verdict (bytes (c .before .before)) a
-past-sizes c f = past-length (c .before .before) (past (D.falsity (c .before .sizes-bad .ensures) (c .if2 .left)) f)
+past-sizes c f = past-length (c .before .before) (past (D.falsity (c .before .bad .ensures) (c .if2 .left)) f)
 
 past-states : (c : tie.Else3) {a : Answer} → Answers (drop 3 (blockRules (bytes (c .before .before .before .before)))) NoValue a → Verdict (bytes (c .before .before .before .before)) a
-past-states c f = past-sizes (c .before .before) (past (D.falsity (c .before .states-bad .ensures) (c .if3 .left)) f)
+past-states c f = past-sizes (c .before .before) (past (D.falsity (c .before .bad2 .ensures) (c .if3 .left)) f)
 
 past-nexts : (c : tie.Else4) {a : Answer} → Answers (drop 4 (blockRules (bytes (c .before .before .before .before .before .before)))) NoValue a → Verdict (bytes (c .before .before .before .before .before .before)) a
-past-nexts c f = past-states (c .before .before) (past (D.falsity (c .before .nexts-bad .ensures) (c .if4 .left)) f)
+past-nexts c f = past-states (c .before .before) (past (D.falsity (c .before .bad3 .ensures) (c .if4 .left)) f)
 
 past-rows : (c : tie.Else5) {a : Answer} → Answers (drop 5 (blockRules (bytes (c .before .before .before .before .before .before .before .before)))) NoValue a → Verdict (bytes (c .before .before .before .before .before .before .before .before)) a
-past-rows c f = past-nexts (c .before .before) (past (D.falsity (c .before .rows-bad .ensures) (c .if5 .left)) f)
+past-rows c f = past-nexts (c .before .before) (past (D.falsity (c .before .bad4 .ensures) (c .if5 .left)) f)
 
 is-sized : (c : tie.Else2) → Sized (bytes (c .before .before))
-is-sized c = sized (c .before .before .if1 .left) (D.falsity (c .before .sizes-bad .ensures) (c .if2 .left))
+is-sized c = sized (c .before .before .if1 .left) (D.falsity (c .before .bad .ensures) (c .if2 .left))
 
 returns : tie.Need-returns
 returns c = turned-down (c .if1 .taken)
 
-sizes-bad-requires : tie.Need-sizes-bad-requires
-sizes-bad-requires c κs = search needs
+bad-requires : tie.Need-bad-requires
+bad-requires c κs = search needs
 
 returns-2 : tie.Need-returns-2
-returns-2 c = past-length (c .before .before) (turned-down (D.truth (c .before .sizes-bad .ensures) (c .if2 .taken)))
+returns-2 c = past-length (c .before .before) (turned-down (D.truth (c .before .bad .ensures) (c .if2 .taken)))
 
-states-bad-requires : tie.Need-states-bad-requires
-states-bad-requires c κs = is-sized c
+bad-requires-2 : tie.Need-bad-requires-2
+bad-requires-2 c κs = is-sized c
 
 returns-3 : tie.Need-returns-3
-returns-3 c = past-sizes (c .before .before) (turned-down (D.truth (c .before .states-bad .ensures) (c .if3 .taken)))
+returns-3 c = past-sizes (c .before .before) (turned-down (D.truth (c .before .bad2 .ensures) (c .if3 .taken)))
 
-nexts-bad-requires : tie.Need-nexts-bad-requires
-nexts-bad-requires c κs = is-sized (c .before .before)
+bad-requires-3 : tie.Need-bad-requires-3
+bad-requires-3 c κs = is-sized (c .before .before)
 
 returns-4 : tie.Need-returns-4
-returns-4 c = past-states (c .before .before) (turned-down (D.truth (c .before .nexts-bad .ensures) (c .if4 .taken)))
+returns-4 c = past-states (c .before .before) (turned-down (D.truth (c .before .bad3 .ensures) (c .if4 .taken)))
 
-rows-bad-requires : tie.Need-rows-bad-requires
-rows-bad-requires c κs = is-sized (c .before .before .before .before)
+bad-requires-4 : tie.Need-bad-requires-4
+bad-requires-4 c κs = is-sized (c .before .before .before .before)
 
 returns-5 : tie.Need-returns-5
-returns-5 c = past-nexts (c .before .before) (turned-down (D.truth (c .before .rows-bad .ensures) (c .if5 .taken)))
+returns-5 c = past-nexts (c .before .before) (turned-down (D.truth (c .before .bad4 .ensures) (c .if5 .taken)))
 
-places-bad-requires : tie.Need-places-bad-requires
-places-bad-requires c κs =
+bad-requires-5 : tie.Need-bad-requires-5
+bad-requires-5 c κs =
     let past = c .before .before .before .before in
-    (is-sized (past .before .before), counted (bytes (past .before .before .before .before)) (D.falsity (past .before .states-bad .ensures) (past .if3 .left)))
+    (is-sized (past .before .before), counted (bytes (past .before .before .before .before)) (D.falsity (past .before .bad2 .ensures) (past .if3 .left)))
 
 returns-6 : tie.Need-returns-6
-returns-6 c = past-rows (c .before .before) (turned-down (D.truth (c .before .places-bad .ensures) (c .if6 .taken)))
+returns-6 c = past-rows (c .before .before) (turned-down (D.truth (c .before .bad5 .ensures) (c .if6 .taken)))
 
 returns-7 : tie.Need-returns-7
-returns-7 c = past-rows (c .before .before) (past (D.falsity (c .before .places-bad .ensures) (c .if6 .left)) (answered refl))
+returns-7 c = past-rows (c .before .before) (past (D.falsity (c .before .bad5 .ensures) (c .if6 .left)) (answered refl))
 
 pub check-spec : {M : Type 1} → statement M
 check-spec =
     tie.close
     (tie.spec
     returns
-    sizes-bad-requires
+    bad-requires
     returns-2
-    states-bad-requires
+    bad-requires-2
     returns-3
-    nexts-bad-requires
+    bad-requires-3
     returns-4
-    rows-bad-requires
+    bad-requires-4
     returns-5
-    places-bad-requires
+    bad-requires-5
     returns-6
     returns-7)

@@ -1,4 +1,4 @@
--- `rows_bad` decides number 5: it looks over the rows. Assumes nothing.
+-- `bad` decides number 5: it looks over the rows. Assumes nothing.
 use Prim.Native.Nat.{ℕ, _≤_, _<_, _-_}
 use native.Mathlib.Omega.{arith}
 use borrow.Author.Count.{below-none, below-more}
@@ -6,8 +6,8 @@ use Rattle.block.specs.Inner.Tests.{holds, fails}
 use Rattle.block.specs.Check.{BadRow}
 use Rattle.block.proofs.Decide as D
 use borrow.Author.Needs.{needs}
-use Rattle.validate.proofs.rows.rows_bad.Statement.{statement}
-use Rattle.validate.proofs.rows.rows_bad.Tie as tie
+use Rattle.validate.proofs.rows.bad.Statement.{statement}
+use Rattle.validate.proofs.rows.bad.Tie as tie
 
 abbrev Inv-loop : tie.InvT-loop
 Inv-loop block n i₀ i = (i ≤ n) × ((x : ℕ) → x < i → BadRow block x → ⊥)
@@ -39,8 +39,8 @@ loop-again c = (omega arith, below-more _ _ (c .before .before .before .loop .in
 returns-2 : tie.Need-returns-2 Inv-loop μ-loop
 returns-2 c = fails (D.nothing (omega arith) (c .before .loop .inv .1))
 
-pub rows-bad-spec : {M : Type 1} → statement M
-rows-bad-spec =
+pub bad-spec : {M : Type 1} → statement M
+bad-spec =
     tie.close
     (tie.spec
     Inv-loop

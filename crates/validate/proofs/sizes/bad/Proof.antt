@@ -1,4 +1,4 @@
--- `sizes_bad` decides number 2: the five sizes are tried one after the other. Assumes nothing.
+-- `bad` decides number 2: the five sizes are tried one after the other. Assumes nothing.
 use mathlib.Core.Bool.{Bool, false}
 use mathlib.Core.Path.{_≡_}
 use Prim.Native.Nat.{ℕ}
@@ -8,8 +8,8 @@ use Rattle.block.specs.Layout.{Block, maxAgents, maxResources, maxStates, maxPr
 use Rattle.block.specs.Check.{BadSizes, agents-range, resources-range, states-range, propositions-range, rows-range}
 use Rattle.block.proofs.Decide as D
 use borrow.Author.Needs.{needs}
-use Rattle.validate.proofs.sizes.sizes_bad.Statement.{statement}
-use Rattle.validate.proofs.sizes.sizes_bad.Tie as tie
+use Rattle.validate.proofs.sizes.bad.Statement.{statement}
+use Rattle.validate.proofs.sizes.bad.Tie as tie
 
 clear : {high n m : ℕ} {t : Bool} → n ≡ m → Decides (Outside 1 high n) t → t ≡ false → Outside 1 high m → ⊥
 clear e d f = rw e at (D.falsity d f)
@@ -79,8 +79,8 @@ returns-5 c =
     (clear (c4 .before .before .propositions .ensures) (c4 .before .outside4 .ensures) (c4 .if4 .left))
     (c .before .rows .ensures))
 
-pub sizes-bad-spec : {M : Type 1} → statement M
-sizes-bad-spec =
+pub bad-spec : {M : Type 1} → statement M
+bad-spec =
     tie.close
     (tie.spec
     agents-requires

@@ -1,4 +1,4 @@
--- `places_bad` decides number 6: it looks over the places. Assumes nothing.
+-- `bad` decides number 6: it looks over the places. Assumes nothing.
 use Prim.Native.Nat.{ℕ, _≤_, _<_, _-_}
 use native.Mathlib.Omega.{arith}
 use borrow.Author.Count.{below-none, below-more}
@@ -7,8 +7,8 @@ use Rattle.block.specs.Inner.Tests.{holds, fails}
 use Rattle.block.specs.Check.{BadPlace}
 use Rattle.block.proofs.Decide as D
 use borrow.Author.Needs.{needs}
-use Rattle.validate.proofs.unused.places_bad.Statement.{statement}
-use Rattle.validate.proofs.unused.places_bad.Tie as tie
+use Rattle.validate.proofs.unused.bad.Statement.{statement}
+use Rattle.validate.proofs.unused.bad.Tie as tie
 
 abbrev Inv-loop : tie.InvT-loop
 Inv-loop block p₀ p = (p ≤ blockBytes) × ((x : ℕ) → x < p → BadPlace block x → ⊥)
@@ -37,8 +37,8 @@ loop-again c = (omega arith, below-more _ _ (c .before .before .before .loop .in
 returns-2 : tie.Need-returns-2 Inv-loop μ-loop
 returns-2 c = fails (D.nothing (omega arith) (c .before .loop .inv .1))
 
-pub places-bad-spec : {M : Type 1} → statement M
-places-bad-spec =
+pub bad-spec : {M : Type 1} → statement M
+bad-spec =
     tie.close
     (tie.spec
     Inv-loop
