@@ -24,12 +24,10 @@ fn joints_bad(block: &[u8], s: usize) -> bool
     requires { ⌜ s < maxStates ⌝ }
     ensures { λ r. ⌜ Decides (Some maxJoint (BadNext (now (block .entry)) s)) r ⌝ }
 {
-    let mut joint = 0;
-    while joint < layout::JOINT_ACTIONS {
+    for joint in 0..layout::JOINT_ACTIONS {
         if next_bad(block, s, joint) {
             return true;
         }
-        joint += 1;
     }
     false
 }
@@ -39,12 +37,10 @@ pub fn bad(block: &[u8]) -> bool
     ensures { λ r. ⌜ Decides (Some (states (now (block .entry))) (λ s. Some maxJoint (BadNext (now (block .entry)) s))) r ⌝ }
 {
     let n = layout::states(block);
-    let mut s = 0;
-    while s < n {
+    for s in 0..n {
         if joints_bad(block, s) {
             return true;
         }
-        s += 1;
     }
     false
 }

@@ -28,12 +28,10 @@ fn bounds_bad(block: &[u8], i: usize) -> bool
     ensures { λ r. ⌜ Decides (Some (resources (now (block .entry))) (BadBound (now (block .entry)) i)) r ⌝ }
 {
     let n = layout::resources(block);
-    let mut j = 0;
-    while j < n {
+    for j in 0..n {
         if bound_bad(block, i, j) {
             return true;
         }
-        j += 1;
     }
     false
 }
@@ -96,12 +94,10 @@ pub fn bad(block: &[u8]) -> bool
     ensures { λ r. ⌜ Decides (Some (rows (now (block .entry))) (BadRow (now (block .entry)))) r ⌝ }
 {
     let n = layout::rows(block);
-    let mut i = 0;
-    while i < n {
+    for i in 0..n {
         if row_bad(block, i) {
             return true;
         }
-        i += 1;
     }
     false
 }

@@ -31,12 +31,10 @@ fn action_bad(block: &[u8], s: usize, a: usize, k: usize) -> bool
     ensures { λ r. ⌜ Decides (Some (resources (now (block .entry))) (BadCost (now (block .entry)) s a k)) r ⌝ }
 {
     let n = layout::resources(block);
-    let mut j = 0;
-    while j < n {
+    for j in 0..n {
         if cost_bad(block, s, a, k, j) {
             return true;
         }
-        j += 1;
     }
     false
 }
@@ -50,12 +48,10 @@ fn actions_bad(block: &[u8], s: usize, a: usize) -> bool
     if outside(n, layout::MAX_ACTIONS) {
         return true;
     }
-    let mut k = 0;
-    while k < n {
+    for k in 0..n {
         if action_bad(block, s, a, k) {
             return true;
         }
-        k += 1;
     }
     false
 }
@@ -66,12 +62,10 @@ fn agents_bad(block: &[u8], s: usize) -> bool
     ensures { λ r. ⌜ Decides (Some (agents (now (block .entry))) (BadActions (now (block .entry)) s)) r ⌝ }
 {
     let n = layout::agents(block);
-    let mut a = 0;
-    while a < n {
+    for a in 0..n {
         if actions_bad(block, s, a) {
             return true;
         }
-        a += 1;
     }
     false
 }
@@ -92,12 +86,10 @@ pub fn bad(block: &[u8]) -> bool
     ensures { λ r. ⌜ Decides (Some (states (now (block .entry))) (BadState (now (block .entry)))) r ⌝ }
 {
     let n = layout::states(block);
-    let mut s = 0;
-    while s < n {
+    for s in 0..n {
         if state_bad(block, s) {
             return true;
         }
-        s += 1;
     }
     false
 }

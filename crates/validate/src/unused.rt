@@ -104,12 +104,10 @@ pub fn bad(block: &[u8]) -> bool
     requires { ⌜ Sized (now block) × Counted (now block) ⌝ }
     ensures { λ r. ⌜ Decides (Some blockBytes (BadPlace (now (block .entry)))) r ⌝ }
 {
-    let mut p = 0;
-    while p < layout::BLOCK_BYTES {
+    for p in 0..layout::BLOCK_BYTES {
         if place_bad(block, p) {
             return true;
         }
-        p += 1;
     }
     false
 }
