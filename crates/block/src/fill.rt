@@ -12,10 +12,8 @@ pub fn zeros(buffer: &mut [u8], at: usize)
     requires { ⌜ at ≤ length (now buffer) ⌝ }
     ensures { λ _. ⌜ now (buffer .exit) ≡ take at (now (buffer .entry)) ++ replicate (length (now (buffer .entry)) - at) 0 ⌝ }
 {
-    let mut i = at;
-    while i < buffer.len() {
+    for i in at..buffer.len() {
         buffer[i] = 0;
-        i += 1;
     }
 }
 

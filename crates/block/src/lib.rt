@@ -1,47 +1,7 @@
-// The block of a job: what each of its bytes means, and the check of document 01's numbers 1 to 6.
-mod bits;
+// The block of a job: what each of its bytes means; refusals and answers; what a call leaves in lent buffers.
 pub mod fill;
 pub mod joint;
 pub mod kinds;
 pub mod layout;
-mod nexts;
 pub mod refusal;
-mod rows;
-mod sizes;
-mod states;
-mod unused;
 pub mod widths;
-
-use nexts::nexts_bad;
-use refusal::Answer;
-use refusal::Refusal;
-use rows::rows_bad;
-use sizes::sizes_bad;
-use states::states_bad;
-use unused::places_bad;
-ghost use Rattle.block.specs.Check.{Verdict};
-
-// Checks a block: the first of document 01's numbers 1 to 6 whose condition holds, or 0.
-pub fn check(block: &[u8]) -> Answer
-    ensures { λ r. ⌜ Verdict (now (block .entry)) r ⌝ }
-{
-    if block.len() != layout::BLOCK_BYTES {
-        return Answer::Refused(Refusal::Length);
-    }
-    if sizes_bad(block) {
-        return Answer::Refused(Refusal::Sizes);
-    }
-    if states_bad(block) {
-        return Answer::Refused(Refusal::State);
-    }
-    if nexts_bad(block) {
-        return Answer::Refused(Refusal::Next);
-    }
-    if rows_bad(block) {
-        return Answer::Refused(Refusal::Row);
-    }
-    if places_bad(block) {
-        return Answer::Refused(Refusal::Unused);
-    }
-    Answer::Value(0)
-}

@@ -22,7 +22,7 @@ fn code(a: Answer) -> i32
 pub extern "C" fn rbatl_check(block: &[u8]) -> i32
     ensures { λ r. ⌜ CheckAnswer (now (block .entry)) r ⌝ }
 {
-    code(block::check(block))
+    code(validate::check(block))
 }
 
 #[no_mangle]

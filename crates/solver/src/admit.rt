@@ -9,7 +9,7 @@ ghost use Rattle.solver.specs.Calls.{setRules, rowRules};
 pub fn any_row(block: &[u8], i: usize) -> Answer
     ensures { λ r. ⌜ Answers (setRules (now (block .entry)) i) NoValue r ⌝ }
 {
-    match block::check(block) {
+    match validate::check(block) {
         Answer::Value(_) => {
             if layout::rows(block) <= i {
                 return Answer::Refused(Refusal::RowChoice);

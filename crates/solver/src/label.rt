@@ -113,7 +113,7 @@ pub fn label(block: &[u8], sets: &mut [u8], room: &mut [u8]) -> Answer
     if room.len() != sizes::ROOM_BYTES {
         return Answer::Refused(Refusal::Length);
     }
-    match block::check(block) {
+    match validate::check(block) {
         Answer::Value(_) => {
             fill::zeros(sets, 0);
             let mut ways = [0u8; lines::WAYS_BYTES];

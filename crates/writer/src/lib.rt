@@ -19,7 +19,7 @@ pub fn write(block: &[u8], text: &mut [u8]) -> Answer
     if text.len() != TEXT_BYTES {
         return Answer::Refused(Refusal::Length);
     }
-    match block::check(block) {
+    match validate::check(block) {
         Answer::Value(_) => {
             let length = job(block, text);
             fill::zeros(text, length);

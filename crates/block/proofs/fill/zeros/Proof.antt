@@ -8,10 +8,10 @@ use Rattle.block.proofs.fill.zeros.Statement.{statement}
 use Rattle.block.proofs.fill.zeros.Tie as tie
 
 abbrev Inv-loop : tie.InvT-loop
-Inv-loop buffer₀ at i₀ buffer i = (at ≤ i) × ((i ≤ length buffer) × ((length buffer ≡ length buffer₀) × Zeroed buffer₀ at buffer i))
+Inv-loop buffer₀ at i₀ n buffer i = (at ≤ i) × ((i ≤ n) × ((length buffer ≡ length buffer₀) × Zeroed buffer₀ at buffer i))
 
 abbrev μ-loop : tie.MeasureT-loop
-μ-loop buffer₀ at i₀ buffer i = length buffer - i
+μ-loop buffer₀ at i₀ n buffer i = n - i
 
 loop-holds : tie.Need-loop-holds Inv-loop μ-loop
 loop-holds c = (omega arith, (omega arith, (refl, zeroed-none)))
@@ -23,10 +23,10 @@ add-i : tie.Need-add-i Inv-loop μ-loop
 add-i c = omega arith
 
 loop-less : tie.Need-loop-less Inv-loop μ-loop
-loop-less c = simp length-set (omega arith)
+loop-less c = omega arith
 
 loop-again : tie.Need-loop-again Inv-loop μ-loop
-loop-again c = (omega arith, (simp length-set (omega arith), (simp length-set (omega arith), zeroed-more (c .before .loop .inv .1 .1 .1) (omega arith) (omega arith))))
+loop-again c = (omega arith, (omega arith, (simp length-set (omega arith), zeroed-more (c .before .loop .inv .1 .1 .1) (omega arith) (omega arith))))
 
 same-length : tie.Need-same-length Inv-loop μ-loop
 same-length c = omega arith
