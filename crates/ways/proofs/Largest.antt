@@ -69,10 +69,10 @@ module _ (most : Bool) (f : ℕ → ℕ) where
           (v, subst (λ (j : ℕ). Extreme most j f v) one (extreme-next (k + 1) (f (k + 1)) best v refl so-far step))
 
   -- where the first values are past the limit, so is the extreme
-  pub best-early : (k n best limit : ℕ) → k < n → Extreme most k f best → Beyond most limit best → BestOf most n f limit limit
+  pub best-early : (k n best limit : ℕ) → k ≤ n → Extreme most k f best → Beyond most limit best → BestOf most n f limit limit
   best-early k n best limit l so-far past =
-      let (v, all) = extreme-found n (omega arith) in
       let (j, below, e) = so-far .taken in
+      let (v, all) = extreme-found n (omega arith) in
       let further : Beyond most limit v = beyond-trans most limit best v past (subst (λ (x : ℕ). Beyond most x v) e (all .beyond j (omega arith))) in
       record {
         worst = v;

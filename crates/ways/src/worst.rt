@@ -87,8 +87,11 @@ pub fn worst_at(
     ensures { λ r. ⌜ WorstWithin (now (block .entry)) row (now (ranks .entry)) (step .state) (step .number) (step .place) (limit .most) (limit .rank) r ⌝ }
     ensures { λ r. ⌜ (limit .rank < 65536 → r < 65536) ⌝ }
 {
-    let n = lines::count(ways, step.state, false);
     let mut best = rank_after(block, row, ways, ranks, step, 0);
+    if beyond(limit.most, limit.rank, best) {
+        return limit.rank; // mostly the first reply does
+    }
+    let n = lines::count(ways, step.state, false);
     for k in 1..n {
         if beyond(limit.most, limit.rank, best) {
             return limit.rank;
