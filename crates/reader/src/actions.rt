@@ -61,26 +61,24 @@ fn costs(
     text: &[u8],
     at: Step,
     job: &mut [u8],
-    count: usize,
+    resources: usize,
     who: Actor,
     k: usize,
     n: usize,
 ) -> Step
     requires { ⌜ Inside (now text) at × (length (now job) ≡ blockBytes) ⌝ }
-    requires { ⌜ (who .state < maxStates) × (who .agent < maxAgents) × (k + n < maxActions) × (count ≤ maxResources) ⌝ }
-    ensures { λ r. ⌜ ((f : Format) → resume (now (text .entry)) at (read (J.costs (who .state) (who .agent) n k count 0 f) (now (job .entry))) ≡ resume (now (text .entry)) r (read f (now (job .exit)))) ⌝ }
+    requires { ⌜ (who .state < maxStates) × (who .agent < maxAgents) × (k + n < maxActions) × (resources ≤ maxResources) ⌝ }
+    ensures { λ r. ⌜ ((f : Format) → resume (now (text .entry)) at (read (J.costs (who .state) (who .agent) n k resources 0 f) (now (job .entry))) ≡ resume (now (text .entry)) r (read f (now (job .exit)))) ⌝ }
     ensures { λ r. ⌜ Inside (now (text .entry)) r ⌝ }
 {
     let mut next = at;
-    let mut j = 0;
-    while j < count {
-        next = cost(text, next, job, who, k, j, n + (count - (j + 1)));
-        j += 1;
+    for j in 0..resources {
+        next = cost(text, next, job, who, k, j, n + (resources - (j + 1)));
     }
     next
 }
 
-// The costs of the actions, count of them.
+// The costs of the actions.
 pub fn actions(
     text: &[u8],
     at: Step,
@@ -88,19 +86,17 @@ pub fn actions(
     z: Sizes,
     s: usize,
     a: usize,
-    count: usize,
+    actions: usize,
 ) -> Step
     requires { ⌜ Inside (now text) at × (length (now job) ≡ blockBytes) ⌝ }
-    requires { ⌜ Fitting z × ((s < maxStates) × (a < maxAgents) × (count ≤ maxActions)) ⌝ }
-    ensures { λ r. ⌜ ((f : Format) → resume (now (text .entry)) at (read (J.actions z s a count 0 f) (now (job .entry))) ≡ resume (now (text .entry)) r (read f (now (job .exit)))) ⌝ }
+    requires { ⌜ Fitting z × ((s < maxStates) × (a < maxAgents) × (actions ≤ maxActions)) ⌝ }
+    ensures { λ r. ⌜ ((f : Format) → resume (now (text .entry)) at (read (J.actions z s a actions 0 f) (now (job .entry))) ≡ resume (now (text .entry)) r (read f (now (job .exit)))) ⌝ }
     ensures { λ r. ⌜ Inside (now (text .entry)) r ⌝ }
 {
     let who = Actor { state: s, agent: a };
     let mut next = at;
-    let mut k = 0;
-    while k < count {
-        next = costs(text, next, job, z.resources, who, k, count - (k + 1));
-        k += 1;
+    for k in 0..actions {
+        next = costs(text, next, job, z.resources, who, k, actions - (k + 1));
     }
     next
 }

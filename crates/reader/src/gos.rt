@@ -20,17 +20,15 @@ ghost use Rattle.text.specs.Format.{Format, read};
 ghost use Rattle.text.specs.Job as J;
 ghost use Rattle.scan.specs.Inner.Step.{resume, Inside, Fitting};
 
-// The actions of a joint action, one for each of n agents.
-fn joint_fields(text: &[u8], at: Step, joint: usize, n: usize) -> Step
-    requires { ⌜ Inside (now text) at × (n ≤ maxAgents) ⌝ }
-    ensures { λ r. ⌜ ((f : Format) (b : Block) → resume (now (text .entry)) at (read (J.jointFields joint n 0 f) b) ≡ resume (now (text .entry)) r (read f b)) ⌝ }
+// The actions of a joint action, one for each agent.
+fn joint_fields(text: &[u8], at: Step, joint: usize, agents: usize) -> Step
+    requires { ⌜ Inside (now text) at × (agents ≤ maxAgents) ⌝ }
+    ensures { λ r. ⌜ ((f : Format) (b : Block) → resume (now (text .entry)) at (read (J.jointFields joint agents 0 f) b) ≡ resume (now (text .entry)) r (read f b)) ⌝ }
     ensures { λ r. ⌜ Inside (now (text .entry)) r ⌝ }
 {
     let mut next = at;
-    let mut a = 0;
-    while a < n {
+    for a in 0..agents {
         next = past_index(text, next, digit(joint, a));
-        a += 1;
     }
     next
 }
@@ -93,10 +91,8 @@ pub fn gos(
     ensures { λ r. ⌜ Inside (now (text .entry)) r ⌝ }
 {
     let mut next = at;
-    let mut joint = 0;
-    while joint < layout::JOINT_ACTIONS {
+    for joint in 0..layout::JOINT_ACTIONS {
         next = go(text, next, job, z, s, counts, joint);
-        joint += 1;
     }
     next
 }

@@ -20,7 +20,8 @@ ghost use Rattle.block.specs.Layout.{blockBytes};
 ghost use Rattle.text.specs.Format.{end, read};
 ghost use Rattle.text.specs.Job as J;
 ghost use Rattle.scan.specs.Inner.Step.{resume, Inside};
-ghost use Rattle.text.specs.Text.{outcomeOf, readCall, answerTo, blockAfter, Exact, Numbered};
+ghost use Rattle.text.specs.Inner.Reading.{outcomeOf};
+ghost use Rattle.text.specs.Text.{readCall, answerTo, blockAfter, Exact, Numbered};
 
 // All lines of the text.
 fn lines(text: &[u8], job: &mut [u8]) -> Step

@@ -27,17 +27,15 @@ ghost use Rattle.text.specs.Format.{Format, value, read};
 ghost use Rattle.text.specs.Job as J;
 ghost use Rattle.scan.specs.Inner.Step.{resume, Inside, Fitting};
 
-fn bounds(text: &[u8], at: Step, job: &mut [u8], i: usize, count: usize) -> Step
+fn bounds(text: &[u8], at: Step, job: &mut [u8], i: usize, resources: usize) -> Step
     requires { ⌜ Inside (now text) at × (length (now job) ≡ blockBytes) ⌝ }
-    requires { ⌜ (i < maxRows) × (count ≤ maxResources) ⌝ }
-    ensures { λ r. ⌜ ((f : Format) → resume (now (text .entry)) at (read (J.boundFields i count 0 f) (now (job .entry))) ≡ resume (now (text .entry)) r (read f (now (job .exit)))) ⌝ }
+    requires { ⌜ (i < maxRows) × (resources ≤ maxResources) ⌝ }
+    ensures { λ r. ⌜ ((f : Format) → resume (now (text .entry)) at (read (J.boundFields i resources 0 f) (now (job .entry))) ≡ resume (now (text .entry)) r (read f (now (job .exit)))) ⌝ }
     ensures { λ r. ⌜ Inside (now (text .entry)) r ⌝ }
 {
     let mut next = at;
-    let mut j = 0;
-    while j < count {
+    for j in 0..resources {
         next = past_bound(text, next, job, Place::Field(i, layout::BOUND_BYTE + j));
-        j += 1;
     }
     next
 }
@@ -143,7 +141,7 @@ fn row(text: &[u8], at: Step, job: &mut [u8], z: Sizes, i: usize) -> Step
     ensures { λ r. ⌜ Inside (now (text .entry)) r ⌝ }
 {
     let v = kind_at(text, at, job, Place::Field(i, layout::KIND_BYTE));
-    let k = value_or(0, v);
+    let k = value_or(layout::PROP_KIND, v);
     let next = team(text, past_value(v), job, z, i, k);
     operands(text, next, job, z, i, k)
 }
@@ -154,12 +152,10 @@ pub fn rows(text: &[u8], at: Step, job: &mut [u8], z: Sizes) -> Step
     ensures { λ r. ⌜ ((f : Format) → resume (now (text .entry)) at (read (J.rowLines z (z .rows) 0 f) (now (job .entry))) ≡ resume (now (text .entry)) r (read f (now (job .exit)))) ⌝ }
     ensures { λ r. ⌜ Inside (now (text .entry)) r ⌝ }
 {
-    let count = z.rows;
+    let rows = z.rows;
     let mut next = at;
-    let mut i = 0;
-    while i < count {
+    for i in 0..rows {
         next = row(text, next, job, z, i);
-        i += 1;
     }
     next
 }

@@ -50,14 +50,13 @@ fn moves(text: &[u8], at: Step, job: &mut [u8], z: Sizes, s: usize) -> Step
     ensures { λ r. ⌜ ((f : Format) → resume (now (text .entry)) at (read (J.agentLines z s (z .agents) 0 J.noCounts (λ counts. J.goLines z s counts maxJoint 0 f)) (now (job .entry))) ≡ resume (now (text .entry)) r (read f (now (job .exit)))) ⌝ }
     ensures { λ r. ⌜ Inside (now (text .entry)) r ⌝ }
 {
+    let agents = z.agents;
     let mut counts = [1usize; layout::MAX_AGENTS];
     let mut next = at;
-    let mut a = 0;
-    while a < z.agents {
+    for a in 0..agents {
         let agent = acts(text, next, job, z, s, a);
         counts[a] = agent.value;
         next = agent.next;
-        a += 1;
     }
     gos(text, next, job, z, s, counts)
 }
@@ -78,12 +77,10 @@ pub fn states(text: &[u8], at: Step, job: &mut [u8], z: Sizes) -> Step
     ensures { λ r. ⌜ ((f : Format) → resume (now (text .entry)) at (read (J.states z (z .states) 0 f) (now (job .entry))) ≡ resume (now (text .entry)) r (read f (now (job .exit)))) ⌝ }
     ensures { λ r. ⌜ Inside (now (text .entry)) r ⌝ }
 {
-    let count = z.states;
+    let states = z.states;
     let mut next = at;
-    let mut s = 0;
-    while s < count {
+    for s in 0..states {
         next = state_lines(text, next, job, z, s);
-        s += 1;
     }
     next
 }

@@ -15,7 +15,8 @@ use Rattle.block.proofs.Passing.{passing}
 use Rattle.block.proofs.Refusals.{no-refusal, past, rest}
 use Rattle.text.specs.Format.{Outcome, accepted, refused}
 use Rattle.text.specs.Job.{either}
-use Rattle.text.specs.Text.{textBytes, blank, readText, readCall, answerTo, blockAfter, outcomeOf}
+use Rattle.text.specs.Inner.Reading.{outcomeOf}
+use Rattle.text.specs.Text.{textBytes, blank, readText, readCall, answerTo, blockAfter}
 use Rattle.text.proofs.Formats.{never}
 use Rattle.text.proofs.Accepts.{accepts}
 use Rattle.turns.specs.Sizes.{roomBytes, movesBytes}

@@ -11,7 +11,7 @@ use block::layout::Place;
 ghost use mathlib.Core.Path.{_≡_};
 ghost use Prim.Native.Nat.{ℕ, _<_};
 ghost use lib.ListN.{length};
-ghost use Rattle.block.specs.Layout.{Block, blockBytes};
+ghost use Rattle.block.specs.Layout.{Block, blockBytes, kinds};
 ghost use Rattle.block.specs.Inner.Places.{InLayout};
 ghost use Rattle.text.specs.Format.{Format, exactly, value, read};
 ghost use Rattle.text.specs.Job as J;
@@ -83,7 +83,7 @@ pub fn kind_at(text: &[u8], at: Step, job: &mut [u8], x: Place) -> Value
     requires { ⌜ Inside (now text) at ⌝ }
     requires { ⌜ (length (now job) ≡ blockBytes) × InLayout x ⌝ }
     ensures { λ r. ⌜ ((d : ℕ) (k : ℕ → Format) → resume (now (text .entry)) at (read (value J.kindSpelling x k) (now (job .entry))) ≡ resume (now (text .entry)) (pastValue r) (read (k (valueOr d r)) (now (job .exit)))) ⌝ }
-    ensures { λ r. ⌜ Inside (now (text .entry)) (pastValue r) × Ranged 0 6 r ⌝ }
+    ensures { λ r. ⌜ Inside (now (text .entry)) (pastValue r) × Ranged 0 kinds r ⌝ }
 {
     match at {
         Step::Next(next) => kind(text, next, job, x),

@@ -17,15 +17,14 @@ fn stands(text: &[u8], at: usize, word: &[u8]) -> bool
     requires { ⌜ at ≤ length (now text) ⌝ }
     ensures { λ r. ⌜ Decides (Starts (now (word .entry)) (drop at (now (text .entry)))) r ⌝ }
 {
-    if text.len() - at < word.len() {
+    let n = word.len();
+    if text.len() - at < n {
         return false;
     }
-    let mut i = 0;
-    while i < word.len() {
+    for i in 0..n {
         if text[at + i] != word[i] {
             return false;
         }
-        i += 1;
     }
     true
 }

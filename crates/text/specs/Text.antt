@@ -45,11 +45,6 @@ abbrev pub blockAfter : Block → Outcome → Block
 blockAfter b (accepted c) = c
 blockAfter b (refused r) = b
 
--- the outcome that an answer and a block stand for
-abbrev pub outcomeOf : Answer → Block → Outcome
-outcomeOf (Value n) b = accepted b
-outcomeOf (Refused r) b = refused r
-
 -- a text is accepted as a block exactly where the block passes and the text is one of its texts
 abbrev pub Exact : List ℕ → Type 0
 Exact t = (b : Block) → (readText t ≡ accepted b) ↔ (Passes b × Spells job b t)

@@ -53,10 +53,9 @@ pub fn word(text: &mut [u8], at: usize, w: &[u8]) -> usize
     requires { ⌜ at + length (now w) ≤ length (now text) ⌝ }
     ensures { λ r. ⌜ Adds (now (w .entry)) (now (text .entry)) at (now (text .exit)) r × (r ≡ at + length (now (w .entry))) × Untouched (now (text .entry)) (now (text .exit)) r ⌝ }
 {
-    let mut i = 0;
-    while i < w.len() {
+    let n = w.len();
+    for i in 0..n {
         text[at + i] = w[i];
-        i += 1;
     }
-    at + i
+    at + n
 }

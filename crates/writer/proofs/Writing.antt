@@ -18,14 +18,14 @@ use Rattle.writer.specs.Inner.Writing.{Past, PastWith, countsTo}
 use Rattle.text.proofs.Loops.{Loop, left-more, turn, finish}
 
 -- the writer's loop has written j turns
-pub record Looped (loop : ℕ → ℕ → Format → Format) (count : ℕ) (b : Block) (t : List ℕ) (place : ℕ) (u : List ℕ) (next j : ℕ) : Type 0 where
-  pub so : (f : Format) → take next u ++ write (loop (count - j) j f) b ≡ take place t ++ write (loop count 0 f) b
+pub record Looped (loop : ℕ → ℕ → Format → Format) (count : ℕ) (b : Block) (t : List ℕ) (at : ℕ) (u : List ℕ) (next j : ℕ) : Type 0 where
+  pub so : (f : Format) → take next u ++ write (loop (count - j) j f) b ≡ take at t ++ write (loop count 0 f) b
 
-pub looped-none : {loop : ℕ → ℕ → Format → Format} {count : ℕ} {b : Block} {t : List ℕ} {place : ℕ} → Looped loop count b t place t place 0
+pub looped-none : {loop : ℕ → ℕ → Format → Format} {count : ℕ} {b : Block} {t : List ℕ} {at : ℕ} → Looped loop count b t at t at 0
 looped-none = record { so = λ f. rw sub-zero }
 
-module _ {loop body : ℕ → ℕ → Format → Format} {count j : ℕ} {b : Block} {t u : List ℕ} {place next : ℕ} (l : Loop loop body) (r : Looped loop count b t place u next j) where
-  pub looped-more : {v : List ℕ} {after : ℕ} → j < count → Past b (body (count - (j + 1)) j) u next v after → Looped loop count b t place v after (j + 1)
+module _ {loop body : ℕ → ℕ → Format → Format} {count j : ℕ} {b : Block} {t u : List ℕ} {at next : ℕ} (l : Loop loop body) (r : Looped loop count b t at u next j) where
+  pub looped-more : {v : List ℕ} {after : ℕ} → j < count → Past b (body (count - (j + 1)) j) u next v after → Looped loop count b t at v after (j + 1)
   looped-more {v} {after} h p = record {
     so = λ f.
         p (loop (count - (j + 1)) (j + 1) f)
@@ -33,7 +33,7 @@ module _ {loop body : ℕ → ℕ → Format → Format} {count j : ℕ} {b : Bl
         ∙ r .so f;
   }
 
-  pub looped-all : count ≤ j → Past b (loop count 0) t place u next
+  pub looped-all : count ≤ j → Past b (loop count 0) t at u next
   looped-all h f = ap (λ (g : Format). take next u ++ write g b) (sym (finish l count j f h)) ∙ r .so f
 
 -- a bound that is not unlimited is written as a number
@@ -42,31 +42,31 @@ unfolding boundField
 bound-number v h n = simp (ne-eqb v 255 n, lt-ltb v 256 h)
 
 -- the acts lines of a agents have been written; what follows all of them depends on their counts
-pub record Acted (z : Sizes) (s count : ℕ) (b : Block) (t : List ℕ) (place : ℕ) (u : List ℕ) (next a : ℕ) : Type 0 where
-  pub so : (f : List ℕ → Format) → take next u ++ write (agentLines z s (count - a) a (countsTo b s a) f) b ≡ take place t ++ write (agentLines z s count 0 noCounts f) b
+pub record Acted (z : Sizes) (s agents : ℕ) (b : Block) (t : List ℕ) (at : ℕ) (u : List ℕ) (next a : ℕ) : Type 0 where
+  pub so : (f : List ℕ → Format) → take next u ++ write (agentLines z s (agents - a) a (countsTo b s a) f) b ≡ take at t ++ write (agentLines z s agents 0 noCounts f) b
 
-pub acted-none : {z : Sizes} {s count : ℕ} {b : Block} {t : List ℕ} {place : ℕ} → Acted z s count b t place t place 0
+pub acted-none : {z : Sizes} {s agents : ℕ} {b : Block} {t : List ℕ} {at : ℕ} → Acted z s agents b t at t at 0
 acted-none = record { so = λ f. rw sub-zero }
 
-agents-turn : (z : Sizes) (s count a : ℕ) (counts : List ℕ) (f : List ℕ → Format) → a < count → agentLines z s (count - a) a counts f ≡ actsLine z s a (λ c. agentLines z s (count - suc a) (suc a) (set counts a c) f)
+agents-turn : (z : Sizes) (s agents a : ℕ) (counts : List ℕ) (f : List ℕ → Format) → a < agents → agentLines z s (agents - a) a counts f ≡ actsLine z s a (λ c. agentLines z s (agents - suc a) (suc a) (set counts a c) f)
 unfolding agentLines
-agents-turn z s count a counts f h = rw (left-more count a h, add-one a) refl
+agents-turn z s agents a counts f h = rw (left-more agents a h, add-one a) refl
 
-agents-done : (z : Sizes) (s count a : ℕ) (counts : List ℕ) (f : List ℕ → Format) → count ≤ a → agentLines z s (count - a) a counts f ≡ f counts
+agents-done : (z : Sizes) (s agents a : ℕ) (counts : List ℕ) (f : List ℕ → Format) → agents ≤ a → agentLines z s (agents - a) a counts f ≡ f counts
 unfolding agentLines
-agents-done z s count a counts f h = let none : count - a ≡ 0 = omega arith in rw none refl
+agents-done z s agents a counts f h = let none : agents - a ≡ 0 = omega arith in rw none refl
 
-module _ {z : Sizes} {s count a : ℕ} {b : Block} {t u : List ℕ} {place next : ℕ} (r : Acted z s count b t place u next a) where
-  pub acted-more : {v : List ℕ} {after : ℕ} → a < count → PastWith b (actsLine z s a) (L.count b s a) u next v after → Acted z s count b t place v after (a + 1)
+module _ {z : Sizes} {s agents a : ℕ} {b : Block} {t u : List ℕ} {at next : ℕ} (r : Acted z s agents b t at u next a) where
+  pub acted-more : {v : List ℕ} {after : ℕ} → a < agents → PastWith b (actsLine z s a) (L.count b s a) u next v after → Acted z s agents b t at v after (a + 1)
   acted-more {v} {after} h p = record {
     so = λ f. rw (add-one a) (
-        p (λ c. agentLines z s (count - suc a) (suc a) (set (countsTo b s a) a c) f)
-        ∙ ap (λ (g : Format). take next u ++ write g b) (sym (agents-turn z s count a (countsTo b s a) f h))
+        p (λ c. agentLines z s (agents - suc a) (suc a) (set (countsTo b s a) a c) f)
+        ∙ ap (λ (g : Format). take next u ++ write g b) (sym (agents-turn z s agents a (countsTo b s a) f h))
         ∙ r .so f);
   }
 
-  pub acted-all : count ≡ a → PastWith b (agentLines z s count 0 noCounts) (countsTo b s count) t place u next
+  pub acted-all : agents ≡ a → PastWith b (agentLines z s agents 0 noCounts) (countsTo b s agents) t at u next
   acted-all e f =
       ap (λ (n : ℕ). take next u ++ write (f (countsTo b s n)) b) e
-      ∙ ap (λ (g : Format). take next u ++ write g b) (sym (agents-done z s count a (countsTo b s a) f (omega arith)))
+      ∙ ap (λ (g : Format). take next u ++ write g b) (sym (agents-done z s agents a (countsTo b s a) f (omega arith)))
       ∙ r .so f

@@ -21,11 +21,9 @@ fn costs(block: &[u8], text: &mut [u8], at: usize, s: usize, a: usize, n: usize,
 {
     let resources = layout::resources(block);
     let mut next = at;
-    let mut j = 0;
-    while j < resources {
+    for j in 0..resources {
         let sep = cost_end(n + (resources - (j + 1)));
         next = number(text, next, layout::cost(block, s, a, k, j), sep);
-        j += 1;
     }
     next
 }
@@ -35,12 +33,10 @@ fn actions(block: &[u8], text: &mut [u8], at: usize, s: usize, a: usize) -> usiz
     requires { ⌜ (s < L.states (now block)) × (a < L.agents (now block)) ⌝ }
     ensures { λ r. ⌜ Past (now (block .entry)) (J.actions (sizesOf (now (block .entry))) s a (L.count (now (block .entry)) s a) 0) (now (text .entry)) at (now (text .exit)) r × (r ≤ at + actionsBytes) ⌝ }
 {
-    let count = layout::count(block, s, a);
+    let actions = layout::count(block, s, a);
     let mut next = at;
-    let mut k = 0;
-    while k < count {
-        next = costs(block, text, next, s, a, count - (k + 1), k);
-        k += 1;
+    for k in 0..actions {
+        next = costs(block, text, next, s, a, actions - (k + 1), k);
     }
     next
 }
@@ -66,10 +62,8 @@ pub fn agent_lines(block: &[u8], text: &mut [u8], at: usize, s: usize) -> usize
 {
     let agents = layout::agents(block);
     let mut next = at;
-    let mut a = 0;
-    while a < agents {
+    for a in 0..agents {
         next = acts_line(block, text, next, s, a);
-        a += 1;
     }
     next
 }
@@ -81,10 +75,8 @@ pub fn counts(block: &[u8], s: usize) -> [usize; layout::MAX_AGENTS]
 {
     let agents = layout::agents(block);
     let mut counts = [1usize; layout::MAX_AGENTS];
-    let mut a = 0;
-    while a < agents {
+    for a in 0..agents {
         counts[a] = layout::count(block, s, a);
-        a += 1;
     }
     counts
 }

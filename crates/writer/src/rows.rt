@@ -21,10 +21,8 @@ fn bounds(block: &[u8], text: &mut [u8], at: usize, i: usize) -> usize
 {
     let resources = layout::resources(block);
     let mut next = at;
-    let mut j = 0;
-    while j < resources {
+    for j in 0..resources {
         next = output::bound(text, next, layout::bound(block, i, j));
-        j += 1;
     }
     next
 }
@@ -75,10 +73,8 @@ pub fn row_lines(block: &[u8], text: &mut [u8], at: usize) -> usize
 {
     let rows = layout::rows(block);
     let mut next = at;
-    let mut i = 0;
-    while i < rows {
+    for i in 0..rows {
         next = row_line(block, text, next, i);
-        i += 1;
     }
     next
 }

@@ -7,12 +7,12 @@ use block::layout;
 use text::joint::possible;
 use text::output::word;
 ghost use mathlib.Core.Bool.{cond};
-ghost use Prim.Native.Nat.{_+_, _≤_, _<_};
+ghost use Prim.Native.Nat.{_+_, _-_, _≤_, _<_};
 ghost use Rattle.block.specs.Layout as L;
 ghost use Rattle.block.specs.Layout.{maxStates, maxJoint};
 ghost use Rattle.block.specs.Inner.Valid.{Valid};
 ghost use Rattle.text.specs.Job as J;
-ghost use Rattle.writer.specs.Inner.Lengths.{jointBytes, goLineBytes, goLinesBytes, stateLineBytes, stateLinesBytes, statesBytes};
+ghost use Rattle.writer.specs.Inner.Lengths.{fieldBytes, actionBytes, jointBytes, goLineBytes, goLinesBytes, stateLineBytes, stateLinesBytes, statesBytes};
 ghost use Rattle.text.specs.Inner.Fields.{sizesOf};
 ghost use Rattle.writer.specs.Inner.Writing.{Past, Room};
 
@@ -27,17 +27,15 @@ fn state_line(block: &[u8], text: &mut [u8], at: usize, s: usize) -> usize
     number(text, mask, layout::mask(block, s), b'\n')
 }
 
-// One action per agent.
+// One action per agent; the last is given the room of any number.
 fn joint_fields(block: &[u8], text: &mut [u8], at: usize, joint: usize) -> usize
-    requires { ⌜ Valid (now block) × Room (now text) (at + jointBytes + 2) ⌝ }
+    requires { ⌜ Valid (now block) × Room (now text) (at + jointBytes + (fieldBytes - actionBytes)) ⌝ }
     ensures { λ r. ⌜ Past (now (block .entry)) (J.jointFields joint (L.agents (now (block .entry))) 0) (now (text .entry)) at (now (text .exit)) r × (r ≤ at + jointBytes) ⌝ }
 {
     let agents = layout::agents(block);
     let mut next = at;
-    let mut a = 0;
-    while a < agents {
+    for a in 0..agents {
         next = number(text, next, digit(joint, a), b',');
-        a += 1;
     }
     next
 }
@@ -85,10 +83,8 @@ fn go_lines(
     ensures { λ r. ⌜ Past (now (block .entry)) (J.goLines (sizesOf (now (block .entry))) s counts maxJoint 0) (now (text .entry)) at (now (text .exit)) r × (r ≤ at + goLinesBytes) ⌝ }
 {
     let mut next = at;
-    let mut joint = 0;
-    while joint < layout::JOINT_ACTIONS {
+    for joint in 0..layout::JOINT_ACTIONS {
         next = go_line_if(block, text, next, s, counts, joint);
-        joint += 1;
     }
     next
 }
@@ -108,12 +104,10 @@ pub fn states(block: &[u8], text: &mut [u8], at: usize) -> usize
     requires { ⌜ Valid (now block) × Room (now text) (at + statesBytes) ⌝ }
     ensures { λ r. ⌜ Past (now (block .entry)) (J.states (sizesOf (now (block .entry))) (L.states (now (block .entry))) 0) (now (text .entry)) at (now (text .exit)) r × (r ≤ at + statesBytes) ⌝ }
 {
-    let count = layout::states(block);
+    let states = layout::states(block);
     let mut next = at;
-    let mut s = 0;
-    while s < count {
+    for s in 0..states {
         next = state_lines(block, text, next, s);
-        s += 1;
     }
     next
 }

@@ -7,7 +7,8 @@ use Rattle.block.specs.declared.refusal.Answer.{Answer}
 use Rattle.block.specs.declared.refusal.Answer.the-variants.{Value, Refused}
 use Rattle.block.proofs.Refusals.{no-refusal, turned-down, past, room-left, room-cleared}
 use Rattle.text.specs.Format.{accepted, refused}
-use Rattle.text.specs.Text.{blank, readCall, outcomeOf}
+use Rattle.text.specs.Inner.Reading.{outcomeOf}
+use Rattle.text.specs.Text.{blank, readCall}
 use Rattle.report.proofs.Printing.{outcome-is, read-valid, called}
 use borrow.Author.Needs.{needs}
 use Rattle.report.proofs.listing.Statement.{statement}

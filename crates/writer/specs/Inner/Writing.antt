@@ -11,11 +11,11 @@ use Rattle.text.specs.Text.{textBytes}
 
 -- a part of a format has been added, whatever follows it
 abbrev pub Past : Block → (Format → Format) → List ℕ → ℕ → List ℕ → ℕ → Type 0
-Past b part t place u next = (f : Format) → take next u ++ write f b ≡ take place t ++ write (part f) b
+Past b part t at u next = (f : Format) → take next u ++ write f b ≡ take at t ++ write (part f) b
 
 -- the same where what follows depends on a value v
 abbrev pub PastWith : {A : Type 0} → Block → ((A → Format) → Format) → A → List ℕ → ℕ → List ℕ → ℕ → Type 0
-PastWith {A} b part v t place u next = (f : A → Format) → take next u ++ write (f v) b ≡ take place t ++ write (part f) b
+PastWith {A} b part v t at u next = (f : A → Format) → take next u ++ write (f v) b ≡ take at t ++ write (part f) b
 
 -- the writer's buffer has room up to a place, and a byte to spare, since a number is always given four
 abbrev pub Room : List ℕ → ℕ → Type 0

@@ -13,10 +13,10 @@ use Rattle.reader.proofs.actions.actions.Statement.{statement}
 use Rattle.reader.proofs.actions.actions.Tie as tie
 
 abbrev Inv-loop : tie.InvT-loop
-Inv-loop text job₀ z s a count who next₀ k₀ job next k = Inside text next × (length job ≡ blockBytes) × (k ≤ count) × Reached (J.actions z s a) text count next₀ job₀ next job k
+Inv-loop text job₀ z s a actions who next₀ k₀ job next k = Inside text next × (length job ≡ blockBytes) × (k ≤ actions) × Reached (J.actions z s a) text actions next₀ job₀ next job k
 
 abbrev μ-loop : tie.MeasureT-loop
-μ-loop text job₀ z s a count who next₀ k₀ job next k = count - k
+μ-loop text job₀ z s a actions who next₀ k₀ job next k = actions - k
 
 loop-holds : tie.Need-loop-holds Inv-loop μ-loop
 loop-holds c = (search needs, search needs, search needs, reached-none)

@@ -11,10 +11,10 @@ use Rattle.reader.proofs.gos.joint_fields.Statement.{statement}
 use Rattle.reader.proofs.gos.joint_fields.Tie as tie
 
 abbrev Inv-loop : tie.InvT-loop
-Inv-loop text joint n next₀ a₀ next a = Inside text next × (a ≤ n) × ((b : Block) → Reached (J.jointFields joint) text n next₀ b next b a)
+Inv-loop text joint agents next₀ a₀ next a = Inside text next × (a ≤ agents) × ((b : Block) → Reached (J.jointFields joint) text agents next₀ b next b a)
 
 abbrev μ-loop : tie.MeasureT-loop
-μ-loop text joint n next₀ a₀ next a = n - a
+μ-loop text joint agents next₀ a₀ next a = agents - a
 
 loop-holds : tie.Need-loop-holds Inv-loop μ-loop
 loop-holds c = (search needs, search needs, λ b. reached-none)

@@ -13,10 +13,10 @@ use Rattle.reader.proofs.rows.bounds.Statement.{statement}
 use Rattle.reader.proofs.rows.bounds.Tie as tie
 
 abbrev Inv-loop : tie.InvT-loop
-Inv-loop text job₀ i count next₀ j₀ job next j = Inside text next × (length job ≡ blockBytes) × (j ≤ count) × Reached (J.boundFields i) text count next₀ job₀ next job j
+Inv-loop text job₀ i resources next₀ j₀ job next j = Inside text next × (length job ≡ blockBytes) × (j ≤ resources) × Reached (J.boundFields i) text resources next₀ job₀ next job j
 
 abbrev μ-loop : tie.MeasureT-loop
-μ-loop text job₀ i count next₀ j₀ job next j = count - j
+μ-loop text job₀ i resources next₀ j₀ job next j = resources - j
 
 loop-holds : tie.Need-loop-holds Inv-loop μ-loop
 loop-holds c = (search needs, search needs, search needs, reached-none)

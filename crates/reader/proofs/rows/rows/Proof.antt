@@ -13,10 +13,10 @@ use Rattle.reader.proofs.rows.rows.Statement.{statement}
 use Rattle.reader.proofs.rows.rows.Tie as tie
 
 abbrev Inv-loop : tie.InvT-loop
-Inv-loop text job₀ z count next₀ i₀ job next i = Inside text next × (length job ≡ blockBytes) × (i ≤ count) × Reached (J.rowLines z) text count next₀ job₀ next job i
+Inv-loop text job₀ z rows next₀ i₀ job next i = Inside text next × (length job ≡ blockBytes) × (i ≤ rows) × Reached (J.rowLines z) text rows next₀ job₀ next job i
 
 abbrev μ-loop : tie.MeasureT-loop
-μ-loop text job₀ z count next₀ i₀ job next i = count - i
+μ-loop text job₀ z rows next₀ i₀ job next i = rows - i
 
 loop-holds : tie.Need-loop-holds Inv-loop μ-loop
 loop-holds c = (search needs, search needs, search needs, reached-none)

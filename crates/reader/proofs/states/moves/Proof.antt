@@ -2,7 +2,6 @@
 use mathlib.Core.Path.{_≡_, refl, sym, _∙_}
 use Prim.Native.Nat.{_≤_, _-_}
 use native.Mathlib.Omega.{arith}
-use borrow.Author.Needs.{needs}
 use lib.ListN.{length, length-set}
 use Rattle.block.specs.Layout.{blockBytes, maxJoint}
 use Rattle.text.specs.Job as J
@@ -13,17 +12,17 @@ use Rattle.reader.proofs.states.moves.Statement.{statement}
 use Rattle.reader.proofs.states.moves.Tie as tie
 
 abbrev Inv-loop : tie.InvT-loop
-Inv-loop text job₀ z s counts₀ next₀ a₀ job counts next a = Inside text next × (length job ≡ blockBytes) × (a ≤ z .agents) × (length counts ≡ 3) × Acted z s text next₀ job₀ next job counts a
+Inv-loop text job₀ z s agents counts₀ next₀ a₀ job counts next a = Inside text next × (length job ≡ blockBytes) × (a ≤ z .agents) × (length counts ≡ 3) × Acted z s text next₀ job₀ next job counts a
 
 abbrev μ-loop : tie.MeasureT-loop
-μ-loop text job₀ z s counts₀ next₀ a₀ job counts next a = z .agents - a
+μ-loop text job₀ z s agents counts₀ next₀ a₀ job counts next a = z .agents - a
 
 loop-holds : tie.Need-loop-holds Inv-loop μ-loop
 loop-holds c = (search needs, search needs, search needs, refl, acted-none)
 
 acts-requires : tie.Need-acts-requires Inv-loop μ-loop
 acts-requires c κs =
-    let inv = c .before .before .before .loop .inv in
+    let inv = c .before .before .loop .inv in
     ((inv .0, inv .1), (search needs, omega arith))
 
 mul-counts : tie.Need-mul-counts Inv-loop μ-loop
@@ -40,23 +39,23 @@ loop-less c = omega arith
 
 loop-again : tie.Need-loop-again Inv-loop μ-loop
 loop-again c =
-    let inv = c .before .before .before .before .before .before .loop .inv in
+    let inv = c .before .before .before .before .before .loop .inv in
     let call = c .before .before .acts in
-    (call .ensures .1, call .kept .1 .1 .0 ∙ inv .1, omega arith, length-set (c .before .before .before .before .before .before .loop .counts) (c .before .before .before .before .before .before .loop .a) (call .result .value) ∙ inv .3, acted-more (inv .4) (call .result .value) (c .before .before .before .before .if1 .taken) (call .ensures .0))
+    (call .ensures .1, call .kept .1 .1 .0 ∙ inv .1, omega arith, length-set (c .before .before .before .before .before .loop .counts) (c .before .before .before .before .before .loop .a) (call .result .value) ∙ inv .3, acted-more (inv .4) (call .result .value) (c .before .before .before .before .loop-test .taken) (call .ensures .0))
 
 gos-requires : tie.Need-gos-requires Inv-loop μ-loop
 gos-requires c κs =
-    let inv = c .before .before .before .loop .inv in
+    let inv = c .before .before .loop .inv in
     ((inv .0, inv .1), search needs)
 
 same-length : tie.Need-same-length Inv-loop μ-loop
-same-length c = c .before .before .gos .kept .1 .1 .0 ∙ c .before .before .before .before .before .before .loop .inv .1 ∙ sym (c .before .before .before .before .before .before .before .before .before .pre .0 .1)
+same-length c = c .before .before .gos .kept .1 .1 .0 ∙ c .before .before .before .before .before .loop .inv .1 ∙ sym (c .before .before .before .before .before .before .before .before .pre .0 .1)
 
 returns : tie.Need-returns Inv-loop μ-loop
 returns c =
-    let g = c .before .before .before .before .before .before .before .before .before .args in (
+    let g = c .before .before .before .before .before .before .before .before .args in (
       λ f.
-          acted-all (c .before .before .before .before .before .before .loop .inv .4) (c .before .before .before .before .if1 .left) (λ counts. J.goLines (g .z) (g .s) counts maxJoint 0 f)
+          acted-all (c .before .before .before .before .before .loop .inv .4) (c .before .before .before .before .loop-test .left) (λ counts. J.goLines (g .z) (g .s) counts maxJoint 0 f)
           ∙ c .before .before .gos .ensures .0 f,
       c .before .before .gos .ensures .1,
     )

@@ -13,10 +13,10 @@ use Rattle.reader.proofs.states.states.Statement.{statement}
 use Rattle.reader.proofs.states.states.Tie as tie
 
 abbrev Inv-loop : tie.InvT-loop
-Inv-loop text job₀ z count next₀ s₀ job next s = Inside text next × (length job ≡ blockBytes) × (s ≤ count) × Reached (J.states z) text count next₀ job₀ next job s
+Inv-loop text job₀ z states next₀ s₀ job next s = Inside text next × (length job ≡ blockBytes) × (s ≤ states) × Reached (J.states z) text states next₀ job₀ next job s
 
 abbrev μ-loop : tie.MeasureT-loop
-μ-loop text job₀ z count next₀ s₀ job next s = count - s
+μ-loop text job₀ z states next₀ s₀ job next s = states - s
 
 loop-holds : tie.Need-loop-holds Inv-loop μ-loop
 loop-holds c = (search needs, search needs, search needs, reached-none)

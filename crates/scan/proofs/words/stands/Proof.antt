@@ -11,10 +11,10 @@ use Rattle.scan.proofs.words.stands.Statement.{statement}
 use Rattle.scan.proofs.words.stands.Tie as tie
 
 abbrev Inv-loop : tie.InvT-loop
-Inv-loop text at word i₀ i = (i ≤ length word) × ((x : ℕ) → x < i → getD text (at + x) 0 ≡ getD word x 0)
+Inv-loop text at word n i₀ i = (i ≤ length word) × ((x : ℕ) → x < i → getD text (at + x) 0 ≡ getD word x 0)
 
 abbrev μ-loop : tie.MeasureT-loop
-μ-loop text at word i₀ i = length word - i
+μ-loop text at word n i₀ i = length word - i
 
 sub-if1 : tie.Need-sub-if1 Inv-loop μ-loop
 sub-if1 c = omega arith

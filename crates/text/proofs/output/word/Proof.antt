@@ -8,10 +8,10 @@ use Rattle.text.proofs.output.word.Statement.{statement}
 use Rattle.text.proofs.output.word.Tie as tie
 
 abbrev Inv-loop : tie.InvT-loop
-Inv-loop text₀ at w i₀ text i = (i ≤ length w) × ((length text ≡ length text₀) × Begun w text₀ at text i)
+Inv-loop text₀ at w n i₀ text i = (i ≤ length w) × ((length text ≡ length text₀) × Begun w text₀ at text i)
 
 abbrev μ-loop : tie.MeasureT-loop
-μ-loop text₀ at w i₀ text i = length w - i
+μ-loop text₀ at w n i₀ text i = length w - i
 
 loop-holds : tie.Need-loop-holds Inv-loop μ-loop
 loop-holds c = (omega arith, (refl, begun-none))
@@ -41,7 +41,10 @@ same-length : tie.Need-same-length Inv-loop μ-loop
 same-length c = omega arith
 
 returns : tie.Need-returns Inv-loop μ-loop
-returns c = (begun-all (c .before .loop .inv .1 .1) (omega arith), omega arith, c .before .loop .inv .1 .1 .after)
+returns c =
+    let begun = c .before .loop .inv .1 .1 in
+    let all : c .before .loop .i ≡ length (c .before .before .args .w .now) = omega arith in
+    (rw all at (begun-all begun (omega arith)), omega arith, rw all at (begun .after))
 
 pub word-spec : {M : Type 1} → statement M
 word-spec =

@@ -12,10 +12,10 @@ use Rattle.writer.proofs.agents.actions.Statement.{statement}
 use Rattle.writer.proofs.agents.actions.Tie as tie
 
 abbrev Inv-loop : tie.InvT-loop
-Inv-loop block text₀ at s a count next₀ k₀ text next k = (k ≤ count) × ((length text ≡ length text₀) × ((next ≤ at + costsBytes * k) × Looped (J.actions (sizesOf block) s a) count block text₀ at text next k))
+Inv-loop block text₀ at s a actions next₀ k₀ text next k = (k ≤ actions) × ((length text ≡ length text₀) × ((next ≤ at + costsBytes * k) × Looped (J.actions (sizesOf block) s a) actions block text₀ at text next k))
 
 abbrev μ-loop : tie.MeasureT-loop
-μ-loop block text₀ at s a count next₀ k₀ text next k = count - k
+μ-loop block text₀ at s a actions next₀ k₀ text next k = actions - k
 
 count-requires : tie.Need-count-requires Inv-loop μ-loop
 count-requires c κs = omega arith

@@ -12,10 +12,10 @@ use Rattle.writer.proofs.states.states.Statement.{statement}
 use Rattle.writer.proofs.states.states.Tie as tie
 
 abbrev Inv-loop : tie.InvT-loop
-Inv-loop block text₀ at count next₀ s₀ text next s = (s ≤ count) × ((length text ≡ length text₀) × ((next ≤ at + stateLinesBytes * s) × Looped (J.states (sizesOf block)) count block text₀ at text next s))
+Inv-loop block text₀ at states next₀ s₀ text next s = (s ≤ states) × ((length text ≡ length text₀) × ((next ≤ at + stateLinesBytes * s) × Looped (J.states (sizesOf block)) states block text₀ at text next s))
 
 abbrev μ-loop : tie.MeasureT-loop
-μ-loop block text₀ at count next₀ s₀ text next s = count - s
+μ-loop block text₀ at states next₀ s₀ text next s = states - s
 
 states-requires : tie.Need-states-requires Inv-loop μ-loop
 states-requires c κs = omega arith
