@@ -27,7 +27,7 @@ sub-t9 : tie.Need-sub-t9
 sub-t9 c =
     let args = c .before .before .before .before .before .args in
     let pre = c .before .before .before .before .before .pre in
-    taken-below (args .block .now) (pre .0) (args .row) (pre .1 .0 .0) (args .ways .now) (pre .1 .0 .1) (args .spot .state) (args .spot .place) (args .k) (c .before .before .taken .result) (pre .1 .1 .0) (pre .1 .1 .1) (pre .1 .1 .2) (c .before .before .taken .ensures .0) (D.truth (c .before .covers .ensures) (c .if1 .taken))
+    omega (arith, taken-below (args .block .now) (pre .0) (args .row) (pre .1 .0 .0) (args .ways .now) (pre .1 .0 .1) (args .spot .state) (args .spot .place) (args .k) (c .before .before .taken .result) (pre .1 .1 .0) (pre .1 .1 .1) (pre .1 .1 .2) (c .before .before .taken .ensures .0) (D.truth (c .before .covers .ensures) (c .if1 .taken)))
 
 returns : tie.Need-returns
 returns c =
