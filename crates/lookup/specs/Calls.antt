@@ -1,6 +1,5 @@
 -- What the team's move and the reply calls promise (document 01, "When a row is true" and "Numbers for what is turned down").
 use mathlib.Core.List.{List, [], _∷_, _++_}
-use mathlib.Core.Logic.{_⊎_}
 use mathlib.Core.Path.{_≡_}
 use Prim.Native.Nat.{ℕ}
 use lib.ListN.{length}
@@ -8,14 +7,13 @@ use Rattle.block.specs.Layout.{Block}
 use Rattle.block.specs.Refusal.{Rule, _when_, Answers, RoomAfter}
 use Rattle.block.specs.declared.refusal.Refusal.the-variants as refusal
 use Rattle.block.specs.declared.refusal.Answer.{Answer}
-use Rattle.block.specs.declared.refusal.Answer.the-variants as answer
 use Rattle.game.specs.Position.{Position, position, Allowed}
 use Rattle.game.specs.Play.{CoalitionWins}
 use Rattle.game.specs.Model.{arenaOf, objectiveOf}
 use Rattle.game.specs.Demand.{RowMove, RowReply}
 use Rattle.turns.specs.Sizes.{roomBytes}
 use Rattle.solver.specs.Calls.{rowRules}
-use Rattle.lookup.specs.Aims.{NoPosition}
+use Rattle.lookup.specs.Positions.{NoPosition}
 
 -- the block and the row, then a position that there is not
 abbrev pub placeRules : Block → ℕ → ℕ → List ℕ → List Rule
@@ -49,15 +47,3 @@ MoveCall b i s stocks room = Call (moveRules b i s stocks room) (RowMove b i (po
 
 abbrev pub ReplyCall : Block → ℕ → ℕ → List ℕ → ℕ → List ℕ → List ℕ → Answer → Type 0
 ReplyCall b i s stocks m room = Call (replyRules b i s stocks m room) (RowReply b i (position s stocks) m) room
-
--- the same of a position that exists in a row that is chosen: 10, or a value
-abbrev pub CoalitionAnswer : Block → ℕ → Position → Answer → Type 0
-CoalitionAnswer b i p (answer.Value m) = RowMove b i p m
-CoalitionAnswer b i p (answer.Refused r) = (r ≡ refusal.WrongSide) × (CoalitionWins (arenaOf b i) (objectiveOf b i) p → ⊥)
-
--- 10, 11, or a reply
-abbrev pub OpponentsAnswer : Block → ℕ → Position → ℕ → Answer → Type 0
-OpponentsAnswer b i p m (answer.Value r) = RowReply b i p m r × Allowed (arenaOf b i) p m
-OpponentsAnswer b i p m (answer.Refused r) =
-    ((r ≡ refusal.WrongSide) × CoalitionWins (arenaOf b i) (objectiveOf b i) p)
-    ⊎ ((r ≡ refusal.Move) × ((CoalitionWins (arenaOf b i) (objectiveOf b i) p → ⊥) × (Allowed (arenaOf b i) p m → ⊥)))

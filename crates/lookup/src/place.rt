@@ -19,7 +19,7 @@ ghost use Rattle.ways.specs.Lines.{waysBytes};
 ghost use Rattle.ways.specs.Places.{PlacedAt};
 ghost use Rattle.solver.specs.Inner.Labels.{Prepared};
 ghost use Rattle.solver.specs.Inner.Rows.{RowRanked};
-ghost use Rattle.lookup.specs.Aims.{NoPosition};
+ghost use Rattle.lookup.specs.Positions.{NoPosition};
 ghost use Rattle.turns.specs.Sizes.{roomBytes};
 
 // A row made ready: as it is listed for its moves, with the set of its left row, and the set of its right row.

@@ -7,7 +7,7 @@ use Rattle.block.specs.Inner.Tests.{Decides, holds, fails}
 use Rattle.block.proofs.Decide as D
 use Rattle.game.specs.Position.{places}
 use Rattle.game.specs.Model.{boundsOf}
-use Rattle.lookup.specs.Aims.{NoPosition, no-state, no-stock}
+use Rattle.lookup.specs.Positions.{NoPosition, no-state, no-stock}
 use Rattle.choice.proofs.Searching.{none-more}
 use Rattle.lookup.proofs.place.no_position.Statement.{statement}
 use Rattle.lookup.proofs.place.no_position.Tie as tie
