@@ -5,11 +5,12 @@ use block::refusal::Refusal;
 use solver::admit;
 ghost use mathlib.Core.Path.{_≡_};
 ghost use lib.ListN.{length};
+ghost use Rattle.block.specs.Layout as L;
 ghost use Rattle.block.specs.Refusal.{Answers, NoValue};
 ghost use Rattle.lookup.specs.Calls.{placeRules};
 
 pub fn position(block: &[u8], i: usize, s: usize, stocks: &[u8]) -> Answer
-    requires { ⌜ length (now stocks) ≡ 2 ⌝ }
+    requires { ⌜ length (now stocks) ≡ L.maxResources ⌝ }
     ensures { λ r. ⌜ Answers (placeRules (now (block .entry)) i s (now (stocks .entry))) NoValue r ⌝ }
 {
     match admit::row(block, i) {

@@ -43,7 +43,7 @@ fn above(block: &[u8], i: usize, j: usize, stock: usize) -> bool
 // Whether there is no such position.
 pub fn no_position(block: &[u8], i: usize, s: usize, stocks: &[u8]) -> bool
     requires { ⌜ Valid (now block) ⌝ }
-    requires { ⌜ (i < L.rows (now block)) × L.Strategic (L.kind (now block) i) × (2 ≤ length (now stocks)) ⌝ }
+    requires { ⌜ (i < L.rows (now block)) × L.Strategic (L.kind (now block) i) × (L.maxResources ≤ length (now stocks)) ⌝ }
     ensures { λ r. ⌜ Decides (NoPosition (now (block .entry)) i s (now (stocks .entry))) r ⌝ }
 {
     if layout::states(block) <= s {

@@ -21,7 +21,7 @@ ghost use Rattle.ways.specs.Lines.{waysBytes};
 ghost use Rattle.turns.specs.Sizes.{setsBytes, roomBytes};
 
 // The word of all rows.
-const ALL_ROWS: usize = 4294967295;
+const ALL_ROWS: usize = (1 << layout::MAX_ROWS) - 1;
 
 // The set of the row that row i names left; 0 where it names none.
 pub fn left_set(block: &[u8], sets: &[u8], i: usize) -> usize

@@ -16,12 +16,12 @@ ghost use Rattle.game.specs.Model.{arenaOf};
 ghost use Rattle.ways.specs.Listing.{Listed};
 ghost use Rattle.ways.specs.Rows.{Playable};
 ghost use Rattle.sweeps.specs.Solving.{FirstRank, Solved};
-ghost use Rattle.turns.specs.Sizes.{roomBytes, maxPositions};
+ghost use Rattle.turns.specs.Sizes.{setBits, rankEnd, roomBytes, maxPositions};
 
 // The first rank of position n of count, in state s with c positions in each: 0 at a goal, and past the last position.
 fn first_rank(goal: usize, c: usize, count: usize, n: usize, s: usize) -> usize
-    requires { ⌜ (n < count → (n / c ≡ s) × (s < 32)) ⌝ }
-    ensures { λ r. ⌜ FirstRank goal c count n r × (r < 65536) ⌝ }
+    requires { ⌜ (n < count → (n / c ≡ s) × (s < setBits)) ⌝ }
+    ensures { λ r. ⌜ FirstRank goal c count n r × (r < rankEnd) ⌝ }
 {
     if count <= n {
         return 0;
