@@ -49,12 +49,10 @@ pub fn no_position(block: &[u8], i: usize, s: usize, stocks: &[u8]) -> bool
     if layout::states(block) <= s {
         return true;
     }
-    let mut j = 0;
-    while j < 2 {
+    for j in 0..layout::MAX_RESOURCES {
         if above(block, i, j, wide(stocks[j])) {
             return true;
         }
-        j += 1;
     }
     false
 }

@@ -83,12 +83,10 @@ fn label_rows(
     ensures { λ _. ⌜ RowsLabelled (now (block .entry)) (InWord n word) (now (sets .entry)) (now (sets .exit)) ⌝ }
     ensures { λ _. ⌜ (length (now (ways .exit)) ≡ length (now (ways .entry))) × (length (now (ranks .exit)) ≡ length (now (ranks .entry))) ⌝ }
 {
-    let mut i = 0;
-    while i < n {
+    for i in 0..n {
         if buffers::has_bit(word, i) {
             label_row(block, i, sets, ways, ranks);
         }
-        i += 1;
     }
 }
 
