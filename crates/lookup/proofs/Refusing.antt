@@ -19,7 +19,7 @@ use Rattle.game.proofs.Numbers.Decide.{lt?}
 use Rattle.solver.specs.Calls.{rowRules}
 use Rattle.solver.proofs.Calls.{row-admitted}
 use Rattle.lookup.specs.Positions.{NoPosition, no-state, no-stock}
-use Rattle.lookup.specs.Calls.{placeRules}
+use Rattle.lookup.specs.Calls.{positionRules}
 
 -- a position that is not refused is one of the row
 pub placed : (b : Block) → Valid b → (i s : ℕ) (stocks : List ℕ) → (NoPosition b i s stocks → ⊥) → IsPosition (arenaOf b i) (position s stocks)
@@ -34,8 +34,8 @@ placed b valid i s stocks fits = (state (lt? s (L.states b)), λ r l. stock r l 
     stock r l (no h) = absurd (fits (no-stock (r, omega (arith, valid .sized .resources-fit), omega arith)))
 
 -- a position that is admitted is one of a strategic row
-pub place-admitted : (b : Block) (i s : ℕ) (stocks : List ℕ) → Fails (placeRules b i s stocks) → Valid b × (((i < L.rows b) × L.Strategic (L.kind b i)) × IsPosition (arenaOf b i) (position s stocks))
-place-admitted b i s stocks fails =
+pub position-admitted : (b : Block) (i s : ℕ) (stocks : List ℕ) → Fails (positionRules b i s stocks) → Valid b × (((i < L.rows b) × L.Strategic (L.kind b i)) × IsPosition (arenaOf b i) (position s stocks))
+position-admitted b i s stocks fails =
     let (row, (fits, _)) = apart (rowRules b i) (refusal.Position when NoPosition b i s stocks ∷ []) fails in
     let (valid, chosen) = row-admitted b i row in
     (valid, (chosen, placed b valid i s stocks fits))

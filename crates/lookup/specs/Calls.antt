@@ -16,8 +16,8 @@ use Rattle.solver.specs.Calls.{rowRules}
 use Rattle.lookup.specs.Positions.{NoPosition}
 
 -- the block and the row, then a position that there is not
-abbrev pub placeRules : Block → ℕ → ℕ → List ℕ → List Rule
-placeRules b i s stocks = rowRules b i ++ (refusal.Position when NoPosition b i s stocks ∷ [])
+abbrev pub positionRules : Block → ℕ → ℕ → List ℕ → List Rule
+positionRules b i s stocks = rowRules b i ++ (refusal.Position when NoPosition b i s stocks ∷ [])
 
 -- the team's move where it does not win
 abbrev pub sideRules : Block → ℕ → Position → List Rule
@@ -32,10 +32,10 @@ answerRules b i p m =
 
 -- each call: a room of another length, then these
 abbrev pub moveRules : Block → ℕ → ℕ → List ℕ → List ℕ → List Rule
-moveRules b i s stocks room = refusal.Length when (length room ≡ roomBytes → ⊥) ∷ placeRules b i s stocks ++ sideRules b i (position s stocks)
+moveRules b i s stocks room = refusal.Length when (length room ≡ roomBytes → ⊥) ∷ positionRules b i s stocks ++ sideRules b i (position s stocks)
 
 abbrev pub replyRules : Block → ℕ → ℕ → List ℕ → ℕ → List ℕ → List Rule
-replyRules b i s stocks m room = refusal.Length when (length room ≡ roomBytes → ⊥) ∷ placeRules b i s stocks ++ answerRules b i (position s stocks) m
+replyRules b i s stocks m room = refusal.Length when (length room ≡ roomBytes → ⊥) ∷ positionRules b i s stocks ++ answerRules b i (position s stocks) m
 
 -- the answer, and the room before and after the call
 pub record Call (rules : List Rule) (Right : ℕ → Type 0) (room room′ : List ℕ) (a : Answer) : Type 0 where

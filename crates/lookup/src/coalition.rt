@@ -1,6 +1,6 @@
 // The team's move at a position.
 use crate::admit;
-use crate::place;
+use crate::spots;
 use block::fill;
 use block::layout;
 use block::refusal::Answer;
@@ -31,8 +31,8 @@ fn coalition_at(block: &[u8], i: usize, s: usize, stocks: &[u8], room: &mut [u8]
     ensures { λ _. ⌜ length (now (room .exit)) ≡ length (now (room .entry)) ⌝ }
 {
     let mut ways = [0u8; lines::WAYS_BYTES];
-    let ready = place::prepare(block, i, &mut ways, room);
-    let spot = place::spot_of(block, i, s, stocks);
+    let ready = spots::prepare(block, i, &mut ways, room);
+    let spot = spots::spot_of(block, i, s, stocks);
     let kind = layout::kind(block, i);
     let m = moves::move_at(block, ready.row, &ways, room, spot, kind);
     if m == sizes::NO_MOVE {

@@ -1,7 +1,7 @@
 // The reply of all others to the team's move at a position.
 use crate::admit;
-use crate::place;
-use crate::place::Ready;
+use crate::spots;
+use crate::spots::Ready;
 use block::fill;
 use block::layout;
 use block::refusal::Answer;
@@ -86,8 +86,8 @@ fn opponents_at(
     ensures { λ _. ⌜ length (now (room .exit)) ≡ length (now (room .entry)) ⌝ }
 {
     let mut ways = [0u8; lines::WAYS_BYTES];
-    let ready = place::prepare(block, i, &mut ways, room);
-    let spot = place::spot_of(block, i, s, stocks);
+    let ready = spots::prepare(block, i, &mut ways, room);
+    let spot = spots::spot_of(block, i, s, stocks);
     reply_at(block, i, ready, &mut ways, spot, m, room)
 }
 

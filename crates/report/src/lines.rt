@@ -40,9 +40,9 @@ pub fn set_line(out: &mut [u8], at: usize, i: usize, set: usize) -> usize
     ensures { λ r. ⌜ Adds (setLine i set) (now (out .entry)) at (now (out .exit)) r × (r ≤ at + 31) ⌝ }
 {
     let row = word(out, at, b"set,");
-    let count = number(out, row, i, b',');
+    let states_field = number(out, row, i, b',');
     let states = sets::count(set);
-    let word_field = number(out, count, states, b',');
+    let word_field = number(out, states_field, states, b',');
     number(out, word_field, set, b'\n')
 }
 

@@ -7,7 +7,7 @@ use Rattle.game.specs.Position.{position}
 use Rattle.game.proofs.Blocks.Rowwise.{row-demanded}
 use Rattle.turns.proofs.Bytes.{cleared}
 use Rattle.lookup.specs.Calls.{sideRules}
-use Rattle.lookup.proofs.Refusing.{place-admitted, not-length}
+use Rattle.lookup.proofs.Refusing.{position-admitted, not-length}
 use borrow.Author.Needs.{needs}
 use Rattle.lookup.proofs.coalition.coalition_move.Statement.{statement}
 use Rattle.lookup.proofs.coalition.coalition_move.Tie as tie
@@ -30,7 +30,7 @@ slice-aggregate-coalition-at c = search needs
 coalition-at-requires : tie.Need-coalition-at-requires
 coalition-at-requires c κs =
     let args = c .before .before .before .before .before .before .before .before .before .args in
-    let (valid, (row, fits)) = place-admitted (args .block .now) (args .i) (args .s) _ (none-holds (rw (c .before .before .enum-told .given .1) at (c .before .before .before .before .position .ensures))) in
+    let (valid, (row, fits)) = position-admitted (args .block .now) (args .i) (args .s) _ (none-holds (rw (c .before .before .enum-told .given .1) at (c .before .before .before .before .position .ensures))) in
     (valid, ((row .0, row .1, omega (arith, valid .sized .resources-fit), omega (arith, c .before .before .before .before .before .before .if1 .left)), fits))
 
 zeros-requires : tie.Need-zeros-requires
