@@ -4,6 +4,7 @@ use turns::buffers;
 use turns::sizes;
 ghost use Prim.Native.Nat.{_<_};
 ghost use Rattle.block.specs.Inner.Tests.{Decides};
+ghost use Rattle.turns.specs.Sizes.{setBits};
 ghost use Rattle.choice.specs.Kinds.{ClaimsBy, CounterBy, FailedBy};
 
 // Whether a rank says that the coalition wins.
@@ -21,7 +22,7 @@ pub fn claims(kind: usize, rank: usize) -> bool
 
 // Whether the opponents aim at an outcome in state q with this rank, from a position of rank own.
 pub fn counters(kind: usize, left: usize, own: usize, q: usize, rank: usize) -> bool
-    requires { ⌜ q < 32 ⌝ }
+    requires { ⌜ q < setBits ⌝ }
     ensures { λ r. ⌜ Decides (CounterBy kind left own q rank) r ⌝ }
 {
     if kind == layout::NEXT_KIND {
@@ -35,7 +36,7 @@ pub fn counters(kind: usize, left: usize, own: usize, q: usize, rank: usize) -> 
 
 // Whether the row has failed already in state q, at a position of rank own.
 pub fn failed(kind: usize, left: usize, right: usize, own: usize, q: usize) -> bool
-    requires { ⌜ q < 32 ⌝ }
+    requires { ⌜ q < setBits ⌝ }
     ensures { λ r. ⌜ Decides (FailedBy kind left right own q) r ⌝ }
 {
     if kind == layout::NEXT_KIND {

@@ -16,7 +16,7 @@ ghost use Rattle.block.specs.Inner.Tests.{Decides};
 ghost use Rattle.block.specs.Layout as L;
 ghost use Rattle.block.specs.Inner.Valid.{Valid};
 ghost use Rattle.turns.specs.Buffers.{rankIn};
-ghost use Rattle.turns.specs.Sizes.{roomBytes};
+ghost use Rattle.turns.specs.Sizes.{rankEnd, roomBytes};
 ghost use Rattle.ways.specs.Lines.{waysBytes, countIn};
 ghost use Rattle.ways.specs.Listing.{Listed};
 ghost use Rattle.ways.specs.Rows.{Playable};
@@ -41,7 +41,7 @@ fn next_rank(block: &[u8], row: Row, ways: &[u8], spot: Spot, free: bool) -> usi
     requires { ⌜ Valid (now block) ⌝ }
     requires { ⌜ Playable (now block) row × (row .into ≡ true) × Listed (now block) row (now ways) ⌝ }
     requires { ⌜ (spot .state < L.states (now block)) × (spot .place < row .places) × (free ≡ true → LastFree (now ways) (spot .state)) ⌝ }
-    ensures { λ v. ⌜ NextRight (now (block .entry)) (row .index) (row .set) (spot .state * row .places + spot .place) v × (v < 65536) ⌝ }
+    ensures { λ v. ⌜ NextRight (now (block .entry)) (row .index) (row .set) (spot .state * row .places + spot .place) v × (v < rankEnd) ⌝ }
 {
     if free {
         return 1;

@@ -44,7 +44,7 @@ fn find_reply(block: &[u8], row: Row, ways: &[u8], ranks: &[u8], step: Step, aim
     requires { ⌜ Valid (now block) ⌝ }
     requires { ⌜ Playable (now block) row × Listed (now block) row (now ways) × (roomBytes ≤ length (now ranks)) ⌝ }
     requires { ⌜ Made (now block) row (step .state) (step .number) (step .place) ⌝ }
-    ensures { λ r. ⌜ FirstCounter (now (block .entry)) row (now (ranks .entry)) (aim .kind) (aim .own) (step .state) (step .number) (step .place) r × (r < 64) ⌝ }
+    ensures { λ r. ⌜ FirstCounter (now (block .entry)) row (now (ranks .entry)) (aim .kind) (aim .own) (step .state) (step .number) (step .place) r × (r < L.maxJoint) ⌝ }
 {
     let c = row.places;
     let n = lines::count(ways, step.state, false);
@@ -74,7 +74,7 @@ pub fn reply_to(
     requires { ⌜ Playable (now block) row × Listed (now block) row (now ways) × (roomBytes ≤ length (now ranks)) ⌝ }
     requires { ⌜ Made (now block) row (step .state) (step .number) (step .place) × RanksOf (now block) (row .index) (row .set) right (now ranks) ⌝ }
     requires { ⌜ (ClaimsBy (L.kind (now block) (row .index)) own → ⊥) ⌝ }
-    ensures { λ r. ⌜ Replied (now (block .entry)) row right (now (ranks .entry)) own (step .state) (step .number) (step .place) r × (r < 64) ⌝ }
+    ensures { λ r. ⌜ Replied (now (block .entry)) row right (now (ranks .entry)) own (step .state) (step .number) (step .place) r × (r < L.maxJoint) ⌝ }
 {
     let kind = layout::kind(block, row.index);
     if kinds::failed(kind, row.set, right, own, step.state) {

@@ -6,7 +6,7 @@ use Rattle.block.specs.Layout as L
 use Rattle.block.specs.Layout.{Block, Strategic}
 use Rattle.block.specs.Inner.Valid.{Valid}
 use Rattle.game.specs.Position.{Arena, Position, IsPosition, number, Reply, Allowed, outcome}
-use Rattle.game.specs.Play.{Objective, CoalitionWins, OpponentsWin}
+use Rattle.game.specs.Play.{Objective}
 use Rattle.game.specs.Table.{Table, ReplyIs}
 use Rattle.game.specs.Inner.Facts.{Claims}
 use Rattle.turns.specs.Buffers.{rankIn}
@@ -16,7 +16,6 @@ use Rattle.game.proofs.Bridge.Proper.{Proper}
 use Rattle.game.proofs.Bridge.Plays.{outcome-fits}
 use Rattle.game.proofs.Local.Lower.{Retold, same-next, same-always, same-until}
 use Rattle.game.proofs.Blocks.Passing.{valid-proper}
-use Rattle.game.proofs.Blocks.Rowwise.{row-determined}
 use Rattle.game.proofs.Whole.Decided.{unclaimed-opponents, reply-by-plays}
 use Rattle.choice.specs.Kinds.{ClaimsBy}
 use Rattle.choice.specs.Tables.{ReplyFor}
@@ -47,10 +46,6 @@ module _ (G : Arena) (proper : Proper (G .structure)) (X : Table) (p : Position)
     failed = λ (no-left, no-right). at .failed ((λ h. no-left (l (p .state) (fits .0) .0 h)), λ h. no-right (l″ (p .state) (fits .0) .0 h));
     best = λ loses unfailed. at .best loses (λ (no-left, no-right). unfailed ((λ h. no-left (l (p .state) (fits .0) .1 h)), λ h. no-right (l″ (p .state) (fits .0) .1 h)));
   }
-
--- in no row of a block that passes do both sides win
-pub not-both : (b : Block) → Valid b → (i : ℕ) → (i < L.rows b) × Strategic (L.kind b i) → (p : Position) → IsPosition (arenaOf b i) p → OpponentsWin (arenaOf b i) (objectiveOf b i) p → CoalitionWins (arenaOf b i) (objectiveOf b i) p → ⊥
-not-both b valid i (inside, strategic) p fits loses wins = row-determined b valid i inside strategic .1 p fits .not-both wins loses
 
 -- what goes with the ranks is the row's reply, where the coalition does not win
 module _ {b : Block} (valid : Valid b) {i : ℕ} (inside : i < L.rows b) (strategic : Strategic (L.kind b i)) {left right : ℕ} {ranks : List ℕ} (ready : Prepared b i left right ranks)

@@ -1,6 +1,5 @@
 -- What the team's move and the reply calls promise (document 01, "When a row is true" and "Numbers for what is turned down").
 use mathlib.Core.List.{List, [], _∷_, _++_}
-use mathlib.Core.Logic.{_⊎_}
 use mathlib.Core.Path.{_≡_}
 use Prim.Native.Nat.{ℕ}
 use lib.ListN.{length}
@@ -8,18 +7,17 @@ use Rattle.block.specs.Layout.{Block}
 use Rattle.block.specs.Refusal.{Rule, _when_, Answers, RoomAfter}
 use Rattle.block.specs.declared.refusal.Refusal.the-variants as refusal
 use Rattle.block.specs.declared.refusal.Answer.{Answer}
-use Rattle.block.specs.declared.refusal.Answer.the-variants as answer
 use Rattle.game.specs.Position.{Position, position, Allowed}
 use Rattle.game.specs.Play.{CoalitionWins}
 use Rattle.game.specs.Model.{arenaOf, objectiveOf}
 use Rattle.game.specs.Demand.{RowMove, RowReply}
 use Rattle.turns.specs.Sizes.{roomBytes}
 use Rattle.solver.specs.Calls.{rowRules}
-use Rattle.lookup.specs.Aims.{NoPosition}
+use Rattle.lookup.specs.Positions.{NoPosition}
 
 -- the block and the row, then a position that there is not
-abbrev pub placeRules : Block → ℕ → ℕ → List ℕ → List Rule
-placeRules b i s stocks = rowRules b i ++ (refusal.Position when NoPosition b i s stocks ∷ [])
+abbrev pub positionRules : Block → ℕ → ℕ → List ℕ → List Rule
+positionRules b i s stocks = rowRules b i ++ (refusal.Position when NoPosition b i s stocks ∷ [])
 
 -- the team's move where it does not win
 abbrev pub sideRules : Block → ℕ → Position → List Rule
@@ -34,10 +32,10 @@ answerRules b i p m =
 
 -- each call: a room of another length, then these
 abbrev pub moveRules : Block → ℕ → ℕ → List ℕ → List ℕ → List Rule
-moveRules b i s stocks room = refusal.Length when (length room ≡ roomBytes → ⊥) ∷ placeRules b i s stocks ++ sideRules b i (position s stocks)
+moveRules b i s stocks room = refusal.Length when (length room ≡ roomBytes → ⊥) ∷ positionRules b i s stocks ++ sideRules b i (position s stocks)
 
 abbrev pub replyRules : Block → ℕ → ℕ → List ℕ → ℕ → List ℕ → List Rule
-replyRules b i s stocks m room = refusal.Length when (length room ≡ roomBytes → ⊥) ∷ placeRules b i s stocks ++ answerRules b i (position s stocks) m
+replyRules b i s stocks m room = refusal.Length when (length room ≡ roomBytes → ⊥) ∷ positionRules b i s stocks ++ answerRules b i (position s stocks) m
 
 -- the answer, and the room before and after the call
 pub record Call (rules : List Rule) (Right : ℕ → Type 0) (room room′ : List ℕ) (a : Answer) : Type 0 where
@@ -49,15 +47,3 @@ MoveCall b i s stocks room = Call (moveRules b i s stocks room) (RowMove b i (po
 
 abbrev pub ReplyCall : Block → ℕ → ℕ → List ℕ → ℕ → List ℕ → List ℕ → Answer → Type 0
 ReplyCall b i s stocks m room = Call (replyRules b i s stocks m room) (RowReply b i (position s stocks) m) room
-
--- the same of a position that exists in a row that is chosen: 10, or a value
-abbrev pub CoalitionAnswer : Block → ℕ → Position → Answer → Type 0
-CoalitionAnswer b i p (answer.Value m) = RowMove b i p m
-CoalitionAnswer b i p (answer.Refused r) = (r ≡ refusal.WrongSide) × (CoalitionWins (arenaOf b i) (objectiveOf b i) p → ⊥)
-
--- 10, 11, or a reply
-abbrev pub OpponentsAnswer : Block → ℕ → Position → ℕ → Answer → Type 0
-OpponentsAnswer b i p m (answer.Value r) = RowReply b i p m r × Allowed (arenaOf b i) p m
-OpponentsAnswer b i p m (answer.Refused r) =
-    ((r ≡ refusal.WrongSide) × CoalitionWins (arenaOf b i) (objectiveOf b i) p)
-    ⊎ ((r ≡ refusal.Move) × ((CoalitionWins (arenaOf b i) (objectiveOf b i) p → ⊥) × (Allowed (arenaOf b i) p m → ⊥)))

@@ -1,6 +1,6 @@
 // The team's move at a position.
 use crate::admit;
-use crate::place;
+use crate::spots;
 use block::fill;
 use block::layout;
 use block::refusal::Answer;
@@ -14,11 +14,12 @@ ghost use mathlib.Core.Path.{_≡_};
 ghost use Prim.Native.Nat.{_≤_, _<_};
 ghost use lib.ListN.{length};
 ghost use Rattle.block.specs.Layout as L;
+ghost use Rattle.block.specs.Refusal.{Answers};
 ghost use Rattle.block.specs.Inner.Valid.{Valid};
 ghost use Rattle.game.specs.Position.{position, IsPosition};
 ghost use Rattle.game.specs.Model.{arenaOf};
-ghost use Rattle.game.specs.Demand.{Demand3};
-ghost use Rattle.lookup.specs.Calls.{CoalitionAnswer, MoveCall};
+ghost use Rattle.game.specs.Demand.{RowMove, Demand3};
+ghost use Rattle.lookup.specs.Calls.{sideRules, MoveCall};
 ghost use Rattle.turns.specs.Sizes.{roomBytes};
 
 // The team's move at a position of a strategic row.
@@ -26,12 +27,12 @@ fn coalition_at(block: &[u8], i: usize, s: usize, stocks: &[u8], room: &mut [u8]
     requires { ⌜ Valid (now block) ⌝ }
     requires { ⌜ (i < L.rows (now block)) × L.Strategic (L.kind (now block) i) × (L.resources (now block) ≤ length (now stocks)) × (length (now room) ≡ roomBytes) ⌝ }
     requires { ⌜ IsPosition (arenaOf (now block) i) (position s (now stocks)) ⌝ }
-    ensures { λ a. ⌜ CoalitionAnswer (now (block .entry)) i (position s (now (stocks .entry))) a ⌝ }
+    ensures { λ a. ⌜ Answers (sideRules (now (block .entry)) i (position s (now (stocks .entry)))) (RowMove (now (block .entry)) i (position s (now (stocks .entry)))) a ⌝ }
     ensures { λ _. ⌜ length (now (room .exit)) ≡ length (now (room .entry)) ⌝ }
 {
     let mut ways = [0u8; lines::WAYS_BYTES];
-    let ready = place::prepare(block, i, &mut ways, room);
-    let spot = place::spot_of(block, i, s, stocks);
+    let ready = spots::prepare(block, i, &mut ways, room);
+    let spot = spots::spot_of(block, i, s, stocks);
     let kind = layout::kind(block, i);
     let m = moves::move_at(block, ready.row, &ways, room, spot, kind);
     if m == sizes::NO_MOVE {

@@ -2,5 +2,5 @@
 mod admit;
 pub mod coalition;
 pub mod opponents;
-mod place;
+mod spots;
 pub mod states;

@@ -1,7 +1,7 @@
 // The reply of all others to the team's move at a position.
 use crate::admit;
-use crate::place;
-use crate::place::Ready;
+use crate::spots;
+use crate::spots::Ready;
 use block::fill;
 use block::layout;
 use block::refusal::Answer;
@@ -21,15 +21,16 @@ ghost use mathlib.Core.Path.{_≡_};
 ghost use Prim.Native.Nat.{_≤_, _<_};
 ghost use lib.ListN.{length};
 ghost use Rattle.block.specs.Layout as L;
+ghost use Rattle.block.specs.Refusal.{Answers};
 ghost use Rattle.block.specs.Inner.Valid.{Valid};
 ghost use Rattle.game.specs.Position.{Position, position, IsPosition};
 ghost use Rattle.game.specs.Inner.Stocks.{stockPlaces};
 ghost use Rattle.game.specs.Model.{arenaOf};
-ghost use Rattle.game.specs.Demand.{Demand3};
+ghost use Rattle.game.specs.Demand.{RowReply, Demand3};
 ghost use Rattle.ways.specs.Lines.{waysBytes};
 ghost use Rattle.ways.specs.Places.{PlacedAt};
 ghost use Rattle.solver.specs.Inner.Labels.{Prepared};
-ghost use Rattle.lookup.specs.Calls.{OpponentsAnswer, ReplyCall};
+ghost use Rattle.lookup.specs.Calls.{answerRules, ReplyCall};
 ghost use Rattle.turns.specs.Sizes.{roomBytes};
 
 // The reply to the move m at a position of a strategic row whose ranks are there. All its moves are listed anew, since a move that does not
@@ -47,7 +48,7 @@ fn reply_at(
     requires { ⌜ (i < L.rows (now block)) × L.Strategic (L.kind (now block) i) × (length (now ways) ≡ waysBytes) × (roomBytes ≤ length (now ranks)) ⌝ }
     requires { ⌜ Prepared (now block) i (ready .row .set) (ready .right) (now ranks) ⌝ }
     requires { ⌜ (spot .state < L.states (now block)) × (spot .place < stockPlaces (arenaOf (now block) i)) ⌝ }
-    ensures { λ a. ⌜ ((p : Position) → PlacedAt (arenaOf (now (block .entry)) i) (spot .state) (spot .place) p → OpponentsAnswer (now (block .entry)) i p m a) ⌝ }
+    ensures { λ a. ⌜ ((p : Position) → PlacedAt (arenaOf (now (block .entry)) i) (spot .state) (spot .place) p → Answers (answerRules (now (block .entry)) i p m) (RowReply (now (block .entry)) i p m) a) ⌝ }
 {
     let row = rows::row_of(block, i, false, ready.row.set);
     let own = buffers::rank_at(ranks, spot.state * row.places + spot.place);
@@ -81,12 +82,12 @@ fn opponents_at(
     requires { ⌜ Valid (now block) ⌝ }
     requires { ⌜ (i < L.rows (now block)) × L.Strategic (L.kind (now block) i) × (L.resources (now block) ≤ length (now stocks)) × (length (now room) ≡ roomBytes) ⌝ }
     requires { ⌜ IsPosition (arenaOf (now block) i) (position s (now stocks)) ⌝ }
-    ensures { λ a. ⌜ OpponentsAnswer (now (block .entry)) i (position s (now (stocks .entry))) m a ⌝ }
+    ensures { λ a. ⌜ Answers (answerRules (now (block .entry)) i (position s (now (stocks .entry))) m) (RowReply (now (block .entry)) i (position s (now (stocks .entry))) m) a ⌝ }
     ensures { λ _. ⌜ length (now (room .exit)) ≡ length (now (room .entry)) ⌝ }
 {
     let mut ways = [0u8; lines::WAYS_BYTES];
-    let ready = place::prepare(block, i, &mut ways, room);
-    let spot = place::spot_of(block, i, s, stocks);
+    let ready = spots::prepare(block, i, &mut ways, room);
+    let spot = spots::spot_of(block, i, s, stocks);
     reply_at(block, i, ready, &mut ways, spot, m, room)
 }
 

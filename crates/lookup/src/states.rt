@@ -1,5 +1,6 @@
 // The states in which a row is true, listed in a lent buffer of 24 bytes.
 use block::fill;
+use block::layout;
 use block::refusal::Answer;
 use block::refusal::Refusal;
 use solver::admit;
@@ -15,10 +16,11 @@ ghost use Rattle.block.specs.Layout as L;
 ghost use Rattle.block.specs.Refusal.{Answers, NoValue};
 ghost use Rattle.block.specs.Inner.Valid.{Valid};
 ghost use Rattle.lookup.specs.States.{statesRules, StatesIn, frontOf, StatesCall, RefusalCall, PartCall};
+ghost use Rattle.turns.specs.Listed.{statesBytes};
 ghost use Rattle.turns.specs.Sizes.{roomBytes};
 
 // The list has a byte for each state that a job can have.
-const STATES_BYTES: usize = 24;
+const STATES_BYTES: usize = layout::MAX_STATES;
 
 // The refusal of a call with a list and a room of these lengths, or 0.
 fn turned_down(block: &[u8], i: usize, list: usize, room: usize) -> Answer
@@ -36,7 +38,7 @@ fn turned_down(block: &[u8], i: usize, list: usize, room: usize) -> Answer
 // Lists the states of row i.
 fn list_row(block: &[u8], i: usize, list: &mut [u8], room: &mut [u8]) -> usize
     requires { ⌜ Valid (now block) ⌝ }
-    requires { ⌜ (i < L.rows (now block)) × (length (now list) ≡ 24) × (length (now room) ≡ roomBytes) ⌝ }
+    requires { ⌜ (i < L.rows (now block)) × (length (now list) ≡ statesBytes) × (length (now room) ≡ roomBytes) ⌝ }
     ensures { λ r. ⌜ StatesIn (now (block .entry)) i (now (list .exit)) r × (length (now (room .exit)) ≡ roomBytes) ⌝ }
 {
     let mut words = [0u8; sizes::SETS_BYTES];

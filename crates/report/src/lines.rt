@@ -6,6 +6,7 @@ use turns::sets;
 ghost use mathlib.Core.Path.{_≡_};
 ghost use Prim.Native.Nat.{_+_, _^_, _≤_, _<_};
 ghost use lib.ListN.{length};
+ghost use Rattle.block.specs.Layout.{maxStates};
 ghost use Rattle.text.specs.Inner.Adding.{Adds};
 ghost use Rattle.text.specs.Numeral as F;
 ghost use Rattle.report.specs.Listing.{listLine, setLine, planLine, refusedLine};
@@ -35,13 +36,13 @@ pub fn refused_line(out: &mut [u8], at: usize, refusal: u8) -> usize
 }
 
 pub fn set_line(out: &mut [u8], at: usize, i: usize, set: usize) -> usize
-    requires { ⌜ (at + 31 ≤ length (now out)) × ((i < 10 ^ 8) × (set < 2 ^ 24)) ⌝ }
+    requires { ⌜ (at + 31 ≤ length (now out)) × ((i < 10 ^ 8) × (set < 2 ^ maxStates)) ⌝ }
     ensures { λ r. ⌜ Adds (setLine i set) (now (out .entry)) at (now (out .exit)) r × (r ≤ at + 31) ⌝ }
 {
     let row = word(out, at, b"set,");
-    let count = number(out, row, i, b',');
+    let states_field = number(out, row, i, b',');
     let states = sets::count(set);
-    let word_field = number(out, count, states, b',');
+    let word_field = number(out, states_field, states, b',');
     number(out, word_field, set, b'\n')
 }
 

@@ -45,7 +45,7 @@ pub fn plan_lines(
 ) -> usize
     requires { ⌜ Valid (now block) ⌝ }
     requires { ⌜ (i < L.rows (now block)) × L.Strategic (L.kind (now block) i) ⌝ }
-    requires { ⌜ (set < 2 ^ 24) × ((s : ℕ) → Bit set s → s < L.states (now block)) ⌝ }
+    requires { ⌜ (set < 2 ^ L.maxStates) × ((s : ℕ) → Bit set s → s < L.states (now block)) ⌝ }
     requires { ⌜ (roomBytes ≤ length (now ranks)) × (maxPositions ≤ length (now moves)) × (at + 984 ≤ length (now out)) ⌝ }
     ensures { λ r. ⌜ Adds (planLines (now (block .entry)) i set (tableIn (now (ranks .entry)) (now (moves .entry)))) (now (out .entry)) at (now (out .exit)) r × (r ≤ at + 984) ⌝ }
 {

@@ -74,10 +74,8 @@ pub fn job_lines(block: &[u8], out: &mut [u8], ranks: &mut [u8], moves: &mut [u8
     let mut sets = [0u8; sizes::SETS_BYTES];
     let n = layout::rows(block);
     let mut next = list_line(out, 0, n);
-    let mut i = 0;
-    while i < n {
+    for i in 0..n {
         next = row_lines(block, i, &mut sets, ranks, moves, out, next);
-        i += 1;
     }
     next
 }

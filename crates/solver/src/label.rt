@@ -21,7 +21,7 @@ ghost use Rattle.ways.specs.Lines.{waysBytes};
 ghost use Rattle.turns.specs.Sizes.{setsBytes, roomBytes};
 
 // The word of all rows.
-const ALL_ROWS: usize = 4294967295;
+const ALL_ROWS: usize = (1 << layout::MAX_ROWS) - 1;
 
 // The set of the row that row i names left; 0 where it names none.
 pub fn left_set(block: &[u8], sets: &[u8], i: usize) -> usize
@@ -83,12 +83,10 @@ fn label_rows(
     ensures { λ _. ⌜ RowsLabelled (now (block .entry)) (InWord n word) (now (sets .entry)) (now (sets .exit)) ⌝ }
     ensures { λ _. ⌜ (length (now (ways .exit)) ≡ length (now (ways .entry))) × (length (now (ranks .exit)) ≡ length (now (ranks .entry))) ⌝ }
 {
-    let mut i = 0;
-    while i < n {
+    for i in 0..n {
         if buffers::has_bit(word, i) {
             label_row(block, i, sets, ways, ranks);
         }
-        i += 1;
     }
 }
 

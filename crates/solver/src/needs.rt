@@ -7,6 +7,7 @@ ghost use Rattle.block.specs.Decide.{Bit};
 ghost use Rattle.block.specs.Inner.Tests.{Decides};
 ghost use Rattle.block.specs.Layout as L;
 ghost use Rattle.block.specs.Inner.Valid.{Valid};
+ghost use Rattle.turns.specs.Sizes.{setBits};
 ghost use Rattle.solver.specs.Inner.Needs.{Names, Needs};
 
 // Whether row i names a row right.
@@ -25,8 +26,8 @@ pub fn names_right(block: &[u8], i: usize) -> bool
 // The word w with the rows that row i names besides.
 fn with_named(block: &[u8], w: usize, i: usize) -> usize
     requires { ⌜ Valid (now block) ⌝ }
-    requires { ⌜ (i < L.rows (now block)) × (w < 2 ^ 32) ⌝ }
-    ensures { λ r. ⌜ (r < 2 ^ 32) × ((j : ℕ) → Bit r j ↔ (Bit w j ⊎ Names (now (block .entry)) i j)) ⌝ }
+    requires { ⌜ (i < L.rows (now block)) × (w < 2 ^ setBits) ⌝ }
+    ensures { λ r. ⌜ (r < 2 ^ setBits) × ((j : ℕ) → Bit r j ↔ (Bit w j ⊎ Names (now (block .entry)) i j)) ⌝ }
 {
     if layout::kind(block, i) == layout::PROP_KIND {
         return w;

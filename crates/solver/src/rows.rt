@@ -50,12 +50,10 @@ pub fn row_word(block: &[u8], i: usize, left: usize, right: usize, ranks: &[u8])
 {
     let n = layout::states(block);
     let mut w = 0;
-    let mut s = 0;
-    while s < n {
+    for s in 0..n {
         if true_at(block, i, left, right, ranks, s) {
             w = buffers::with_bit(w, s);
         }
-        s += 1;
     }
     w
 }
@@ -67,12 +65,10 @@ fn complement(block: &[u8], set: usize) -> usize
 {
     let n = layout::states(block);
     let mut w = 0;
-    let mut s = 0;
-    while s < n {
+    for s in 0..n {
         if !buffers::has_bit(set, s) {
             w = buffers::with_bit(w, s);
         }
-        s += 1;
     }
     w
 }

@@ -11,11 +11,11 @@ use Rattle.turns.specs.Buffers.{rankIn}
 use Rattle.sweeps.specs.Values.{Attacks, Defends}
 use Rattle.turns.specs.Sizes.{maxPositions}
 
--- the first rank of position n of count, with c of them in each state
-pub record FirstRank (goal c count n rank : ℕ) : Type 0 where
-  pub at-goal : n < count → Bit goal (n / c) → rank ≡ 0
-  pub elsewhere : n < count → (Bit goal (n / c) → ⊥) → rank ≡ never
-  pub outside : count ≤ n → rank ≡ 0
+-- the first rank of position n of so many positions, with c of them in each state
+pub record FirstRank (goal c positions n rank : ℕ) : Type 0 where
+  pub at-goal : n < positions → Bit goal (n / c) → rank ≡ 0
+  pub elsewhere : n < positions → (Bit goal (n / c) → ⊥) → rank ≡ never
+  pub outside : positions ≤ n → rank ≡ 0
 
 -- the ranks are right, and 0 past the last position
 pub record Solved (G : Arena) (most : Bool) (safe goal : ℕ) (ranks : List ℕ) : Type 0 where

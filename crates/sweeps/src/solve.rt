@@ -16,14 +16,14 @@ ghost use Rattle.game.specs.Model.{arenaOf};
 ghost use Rattle.ways.specs.Listing.{Listed};
 ghost use Rattle.ways.specs.Rows.{Playable};
 ghost use Rattle.sweeps.specs.Solving.{FirstRank, Solved};
-ghost use Rattle.turns.specs.Sizes.{roomBytes, maxPositions};
+ghost use Rattle.turns.specs.Sizes.{setBits, rankEnd, roomBytes, maxPositions};
 
-// The first rank of position n of count, in state s with c positions in each: 0 at a goal, and past the last position.
-fn first_rank(goal: usize, c: usize, count: usize, n: usize, s: usize) -> usize
-    requires { ⌜ (n < count → (n / c ≡ s) × (s < 32)) ⌝ }
-    ensures { λ r. ⌜ FirstRank goal c count n r × (r < 65536) ⌝ }
+// The first rank of position n, which is in state s, of so many positions, c in each state: 0 at a goal, and past the last position.
+fn first_rank(goal: usize, c: usize, positions: usize, n: usize, s: usize) -> usize
+    requires { ⌜ (n < positions → (n / c ≡ s) × (s < setBits)) ⌝ }
+    ensures { λ r. ⌜ FirstRank goal c positions n r × (r < rankEnd) ⌝ }
 {
-    if count <= n {
+    if positions <= n {
         return 0;
     }
     if buffers::has_bit(goal, s) {
@@ -40,12 +40,12 @@ fn first_ranks(block: &[u8], row: Row, goal: usize, ranks: &mut [u8])
     ensures { λ _. ⌜ length (now (ranks .exit)) ≡ length (now (ranks .entry)) ⌝ }
 {
     let c = row.places;
-    let count = positions::count(block, row.index);
+    let positions = positions::count(block, row.index);
     let mut n = 0;
     let mut s = 0;
     let mut x = 0;
     while n < sizes::MAX_POSITIONS {
-        buffers::set_rank(ranks, n, first_rank(goal, c, count, n, s));
+        buffers::set_rank(ranks, n, first_rank(goal, c, positions, n, s));
         n += 1;
         x += 1;
         if x == c {

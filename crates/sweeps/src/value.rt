@@ -18,7 +18,7 @@ ghost use Rattle.block.specs.Inner.Valid.{Valid};
 ghost use Rattle.game.specs.Position.{Position};
 ghost use Rattle.game.specs.Model.{arenaOf};
 ghost use Rattle.turns.specs.Buffers.{rankIn};
-ghost use Rattle.turns.specs.Sizes.{roomBytes};
+ghost use Rattle.turns.specs.Sizes.{rankEnd, roomBytes};
 ghost use Rattle.ways.specs.Lines.{countIn, numberIn};
 ghost use Rattle.ways.specs.Listing.{Listed};
 ghost use Rattle.ways.specs.Places.{PlacedAt};
@@ -39,7 +39,7 @@ fn offered(
     requires { ⌜ Playable (now block) row × Listed (now block) row (now ways) × (roomBytes ≤ length (now ranks)) ⌝ }
     requires { ⌜ (spot .state < L.states (now block)) × (spot .place < row .places) × (k < countIn (now ways) (spot .state) true) ⌝ }
     ensures { λ r. ⌜ Gathered (not (limit .most)) (MoveOffers (arenaOf (now (block .entry)) (row .index)) (limit .most) (rankIn (now (ranks .entry))) (spot .state) (spot .place) (numberIn (now (ways .entry)) (spot .state) true k)) (limit .rank) r ⌝ }
-    ensures { λ r. ⌜ (limit .rank < 65536 → r < 65536) ⌝ }
+    ensures { λ r. ⌜ (limit .rank < rankEnd → r < rankEnd) ⌝ }
 {
     match landing::lands(block, row, ways, spot, k) {
         Landing::At(y) => {
@@ -56,8 +56,8 @@ fn offered(
 
 // What a value is at first: no move is to do worse than the rank that stands, or the defence has nothing yet.
 fn first_value(most: bool, rank: usize) -> usize
-    requires { ⌜ (0 < rank) × (rank < 65536) ⌝ }
-    ensures { λ r. ⌜ (most ≡ true → r + 1 ≡ rank) × (most ≡ false → r ≡ 0) × (r < 65536) ⌝ }
+    requires { ⌜ (0 < rank) × (rank < rankEnd) ⌝ }
+    ensures { λ r. ⌜ (most ≡ true → r + 1 ≡ rank) × (most ≡ false → r ≡ 0) × (r < rankEnd) ⌝ }
 {
     if most {
         return rank - 1;
@@ -67,7 +67,7 @@ fn first_value(most: bool, rank: usize) -> usize
 
 // Whether no other move changes what becomes of the rank: the attack cannot do better, or the rank stays.
 fn is_final(most: bool, rank: usize, v: usize) -> bool
-    requires { ⌜ v < 65536 ⌝ }
+    requires { ⌜ v < rankEnd ⌝ }
     ensures { λ r. ⌜ Decides (Final most rank v) r ⌝ }
 {
     if most {
@@ -89,8 +89,8 @@ pub fn value_at(
     requires { ⌜ Valid (now block) ⌝ }
     requires { ⌜ Playable (now block) row × Listed (now block) row (now ways) × (roomBytes ≤ length (now ranks)) ⌝ }
     requires { ⌜ (row .into ≡ false) × (spot .state < L.states (now block)) × (spot .place < row .places) ⌝ }
-    requires { ⌜ (rank ≡ rankIn (now ranks) (spot .state * row .places + spot .place)) × (0 < rank) × (rank < 65536) ⌝ }
-    ensures { λ v. ⌜ ((p : Position) → PlacedAt (arenaOf (now (block .entry)) (row .index)) (spot .state) (spot .place) p → Valued (arenaOf (now (block .entry)) (row .index)) most (rankIn (now (ranks .entry))) p v) × (v < 65536) ⌝ }
+    requires { ⌜ (rank ≡ rankIn (now ranks) (spot .state * row .places + spot .place)) × (0 < rank) × (rank < rankEnd) ⌝ }
+    ensures { λ v. ⌜ ((p : Position) → PlacedAt (arenaOf (now (block .entry)) (row .index)) (spot .state) (spot .place) p → Valued (arenaOf (now (block .entry)) (row .index)) most (rankIn (now (ranks .entry))) p v) × (v < rankEnd) ⌝ }
 {
     let n = lines::count(ways, spot.state, true);
     let mut v = first_value(most, rank);

@@ -7,12 +7,13 @@ ghost use lib.ListN.{length};
 ghost use Rattle.block.specs.Decide.{Bit};
 ghost use Rattle.block.specs.Inner.Tests.{Decides};
 ghost use Rattle.turns.specs.Buffers.{rankIn, wordIn};
+ghost use Rattle.turns.specs.Sizes.{setBits, rankEnd};
 ghost use Rattle.turns.specs.Inner.Stores.{Stored, Lowered};
 
 // The rank of position p.
 pub fn rank_at(ranks: &[u8], p: usize) -> usize
     requires { ⌜ 2 * p + 1 < length (now ranks) ⌝ }
-    ensures { λ r. ⌜ (r ≡ rankIn (now (ranks .entry)) p) × (r < 65536) ⌝ }
+    ensures { λ r. ⌜ (r ≡ rankIn (now (ranks .entry)) p) × (r < rankEnd) ⌝ }
 {
     let low = wide(ranks[2 * p]);
     let high = wide(ranks[2 * p + 1]);
@@ -21,7 +22,7 @@ pub fn rank_at(ranks: &[u8], p: usize) -> usize
 
 // Stores the rank of position p.
 pub fn set_rank(ranks: &mut [u8], p: usize, v: usize)
-    requires { ⌜ (2 * p + 1 < length (now ranks)) × (v < 65536) ⌝ }
+    requires { ⌜ (2 * p + 1 < length (now ranks)) × (v < rankEnd) ⌝ }
     ensures { λ _. ⌜ Stored rankIn (now (ranks .entry)) (now (ranks .exit)) p v ⌝ }
 {
     ranks[2 * p] = (v % 256) as u8;
@@ -43,7 +44,7 @@ pub fn lower(ranks: &mut [u8], p: usize, v: usize) -> bool
 // The set of row i.
 pub fn word_at(sets: &[u8], i: usize) -> usize
     requires { ⌜ 4 * i + 3 < length (now sets) ⌝ }
-    ensures { λ r. ⌜ (r ≡ wordIn (now (sets .entry)) i) × (r < 2 ^ 32) ⌝ }
+    ensures { λ r. ⌜ (r ≡ wordIn (now (sets .entry)) i) × (r < 2 ^ setBits) ⌝ }
 {
     let b0 = wide(sets[4 * i]);
     let b1 = wide(sets[4 * i + 1]);
@@ -54,7 +55,7 @@ pub fn word_at(sets: &[u8], i: usize) -> usize
 
 // Stores the set of row i.
 pub fn set_word(sets: &mut [u8], i: usize, w: usize)
-    requires { ⌜ (4 * i + 3 < length (now sets)) × (w < 2 ^ 32) ⌝ }
+    requires { ⌜ (4 * i + 3 < length (now sets)) × (w < 2 ^ setBits) ⌝ }
     ensures { λ _. ⌜ Stored wordIn (now (sets .entry)) (now (sets .exit)) i w ⌝ }
 {
     sets[4 * i] = (w % 256) as u8;
@@ -65,7 +66,7 @@ pub fn set_word(sets: &mut [u8], i: usize, w: usize)
 
 // Whether the word w has bit s.
 pub fn has_bit(w: usize, s: usize) -> bool
-    requires { ⌜ s < 32 ⌝ }
+    requires { ⌜ s < setBits ⌝ }
     ensures { λ r. ⌜ Decides (Bit w s) r ⌝ }
 {
     (w >> s) % 2 == 1
@@ -73,7 +74,7 @@ pub fn has_bit(w: usize, s: usize) -> bool
 
 // The word w with bit s besides.
 pub fn with_bit(w: usize, s: usize) -> usize
-    requires { ⌜ (s < 32) × (w < 2 ^ 32) ⌝ }
+    requires { ⌜ (s < setBits) × (w < 2 ^ setBits) ⌝ }
     ensures { λ r. ⌜ ((n : ℕ) → s < n → w < 2 ^ n → r < 2 ^ n) × ((x : ℕ) → Bit r x ↔ (Bit w x ⊎ (x ≡ s))) ⌝ }
 {
     if has_bit(w, s) {

@@ -2,9 +2,9 @@
 use block::joint;
 use block::layout;
 ghost use mathlib.Core.Path.{_≡_};
-ghost use Prim.Native.Nat.{ℕ, _^_, _≤_, _<_};
+ghost use Prim.Native.Nat.{ℕ, _*_, _^_, _≤_, _<_};
 ghost use Rattle.block.specs.Inner.Tests.{Decides};
-ghost use Rattle.block.specs.Layout.{maxJoint, rows, states, resources, agents, kind, Strategic, digit};
+ghost use Rattle.block.specs.Layout.{maxAgents, maxActions, maxUnits, maxJoint, rows, states, resources, agents, kind, Strategic, digit};
 ghost use Rattle.block.specs.Inner.Valid.{Valid};
 ghost use Rattle.game.specs.Rbatl.{moveCost};
 ghost use Rattle.game.specs.Position.{MoveOf};
@@ -37,7 +37,7 @@ pub fn cost(block: &[u8], s: usize, team: usize, m: usize, j: usize) -> usize
     requires { ⌜ Valid (now block) ⌝ }
     requires { ⌜ (s < states (now block)) × (j < resources (now block)) ⌝ }
     requires { ⌜ MoveOf (structureOf (now block)) (bit team) s m ⌝ }
-    ensures { λ r. ⌜ (r ≡ moveCost (structureOf (now (block .entry))) (bit team) s (digit m) j) × (r ≤ 45) ⌝ }
+    ensures { λ r. ⌜ (r ≡ moveCost (structureOf (now (block .entry))) (bit team) s (digit m) j) × (r ≤ maxAgents * maxUnits) ⌝ }
 {
     let n = layout::agents(block);
     let mut sum = 0;
@@ -56,7 +56,7 @@ pub fn cost(block: &[u8], s: usize, team: usize, m: usize, j: usize) -> usize
 // How many joint actions have a number: four to the number of agents.
 pub fn joint_actions(block: &[u8]) -> usize
     requires { ⌜ Valid (now block) ⌝ }
-    ensures { λ r. ⌜ (r ≡ 4 ^ agents (now (block .entry))) × (r ≤ maxJoint) ⌝ }
+    ensures { λ r. ⌜ (r ≡ maxActions ^ agents (now (block .entry))) × (r ≤ maxJoint) ⌝ }
 {
     let n = layout::agents(block);
     if n == 1 {

@@ -3,7 +3,7 @@ use crate::moves;
 use block::layout;
 use block::widths::wide;
 ghost use mathlib.Core.Path.{_≡_};
-ghost use Prim.Native.Nat.{_≤_, _<_};
+ghost use Prim.Native.Nat.{_*_, _≤_, _<_};
 ghost use lib.ListN.{length};
 ghost use Rattle.block.specs.Layout as L;
 ghost use Rattle.block.specs.Inner.Valid.{Valid};
@@ -11,7 +11,7 @@ ghost use Rattle.game.specs.Rbatl.{moveCost};
 ghost use Rattle.game.specs.Position as P;
 ghost use Rattle.game.specs.Inner.Stocks as S;
 ghost use Rattle.game.specs.Model.{structureOf, coalitionOf, boundsOf, arenaOf};
-ghost use Rattle.turns.specs.Sizes.{maxPositions};
+ghost use Rattle.turns.specs.Sizes.{maxStockPlaces, maxPositions};
 
 // The stock places of resource j in row i.
 pub fn places(block: &[u8], i: usize, j: usize) -> usize
@@ -30,7 +30,7 @@ pub fn places(block: &[u8], i: usize, j: usize) -> usize
 pub fn stock_places(block: &[u8], i: usize) -> usize
     requires { ⌜ Valid (now block) ⌝ }
     requires { ⌜ (i < L.rows (now block)) × L.Strategic (L.kind (now block) i) ⌝ }
-    ensures { λ r. ⌜ (r ≡ S.stockPlaces (arenaOf (now (block .entry)) i)) × (r ≤ 256) ⌝ }
+    ensures { λ r. ⌜ (r ≡ S.stockPlaces (arenaOf (now (block .entry)) i)) × (r ≤ maxStockPlaces) ⌝ }
 {
     let n = layout::resources(block);
     let mut c = 1;
@@ -69,7 +69,7 @@ pub fn taken(block: &[u8], i: usize, s: usize, m: usize, j: usize) -> usize
     requires { ⌜ Valid (now block) ⌝ }
     requires { ⌜ (i < L.rows (now block)) × (s < L.states (now block)) × (j < L.resources (now block)) ⌝ }
     requires { ⌜ P.MoveOf (structureOf (now block)) (coalitionOf (now block) i) s m ⌝ }
-    ensures { λ r. ⌜ (r ≡ S.taken (boundsOf (now (block .entry)) i j) (moveCost (structureOf (now (block .entry))) (coalitionOf (now (block .entry)) i) s (L.digit m) j)) × (r ≤ 45) ⌝ }
+    ensures { λ r. ⌜ (r ≡ S.taken (boundsOf (now (block .entry)) i j) (moveCost (structureOf (now (block .entry))) (coalitionOf (now (block .entry)) i) s (L.digit m) j)) × (r ≤ L.maxAgents * L.maxUnits) ⌝ }
 {
     if layout::bound(block, i, j) == layout::UNLIMITED {
         return 0;

@@ -8,7 +8,7 @@ ghost use mathlib.Core.Path.{_≡_};
 ghost use Prim.Native.Nat.{_+_, _*_, _≤_, _<_};
 ghost use lib.ListN.{length, set};
 ghost use Rattle.block.specs.Layout.{maxStates, maxJoint};
-ghost use Rattle.turns.specs.Sizes.{maxStockPlaces};
+ghost use Rattle.turns.specs.Sizes.{rankEnd, maxStockPlaces};
 ghost use Rattle.turns.specs.Buffers.{rankIn};
 ghost use Rattle.turns.specs.Inner.Stores.{Stored};
 ghost use Rattle.ways.specs.Lines.{stateBytes, waysBytes, fieldPlace, fieldIn, countAt, lineAt, takesAt, packedIn, countIn, numberIn, takenIn};
@@ -100,13 +100,13 @@ pub fn set_taken(ways: &mut [u8], s: usize, k: usize, o: usize)
 // The packed stocks of stock place x.
 pub fn packed(ways: &[u8], x: usize) -> usize
     requires { ⌜ (length (now ways) ≡ waysBytes) × (x < maxStockPlaces) ⌝ }
-    ensures { λ r. ⌜ (r ≡ packedIn (now (ways .entry)) x) × (r < 65536) ⌝ }
+    ensures { λ r. ⌜ (r ≡ packedIn (now (ways .entry)) x) × (r < rankEnd) ⌝ }
 {
     buffers::rank_at(ways, x)
 }
 
 pub fn set_packed(ways: &mut [u8], x: usize, v: usize)
-    requires { ⌜ (length (now ways) ≡ waysBytes) × (x < maxStockPlaces) × (v < 65536) ⌝ }
+    requires { ⌜ (length (now ways) ≡ waysBytes) × (x < maxStockPlaces) × (v < rankEnd) ⌝ }
     ensures { λ _. ⌜ Stored rankIn (now (ways .entry)) (now (ways .exit)) x v ⌝ }
 {
     buffers::set_rank(ways, x, v);

@@ -13,7 +13,7 @@ ghost use Rattle.block.specs.Inner.Valid.{Valid};
 ghost use Rattle.game.specs.Position.{MoveOf};
 ghost use Rattle.game.specs.Model.{structureOf, coalitionOf};
 ghost use Rattle.turns.specs.Buffers.{rankIn};
-ghost use Rattle.turns.specs.Sizes.{roomBytes};
+ghost use Rattle.turns.specs.Sizes.{rankEnd, roomBytes};
 ghost use Rattle.ways.specs.Extremes.{Beyond, Further};
 ghost use Rattle.ways.specs.Landing.{Made, rankAfter, WorstWithin};
 ghost use Rattle.ways.specs.Lines.{countIn};
@@ -64,7 +64,7 @@ fn rank_after(block: &[u8], row: Row, ways: &[u8], ranks: &[u8], step: Step, k: 
     requires { ⌜ Valid (now block) ⌝ }
     requires { ⌜ Playable (now block) row × Listed (now block) row (now ways) × (roomBytes ≤ length (now ranks)) ⌝ }
     requires { ⌜ Made (now block) row (step .state) (step .number) (step .place) × (k < countIn (now ways) (step .state) false) ⌝ }
-    ensures { λ r. ⌜ (r ≡ rankAfter (now (block .entry)) row (now (ways .entry)) (now (ranks .entry)) (step .state) (step .number) (step .place) k) × (r < 65536) ⌝ }
+    ensures { λ r. ⌜ (r ≡ rankAfter (now (block .entry)) row (now (ways .entry)) (now (ranks .entry)) (step .state) (step .number) (step .place) k) × (r < rankEnd) ⌝ }
 {
     let r = lines::number(ways, step.state, false, k);
     let next = layout::next(block, step.state, step.number + r);
@@ -85,7 +85,7 @@ pub fn worst_at(
     requires { ⌜ Playable (now block) row × Listed (now block) row (now ways) × (roomBytes ≤ length (now ranks)) ⌝ }
     requires { ⌜ Made (now block) row (step .state) (step .number) (step .place) ⌝ }
     ensures { λ r. ⌜ WorstWithin (now (block .entry)) row (now (ranks .entry)) (step .state) (step .number) (step .place) (limit .most) (limit .rank) r ⌝ }
-    ensures { λ r. ⌜ (limit .rank < 65536 → r < 65536) ⌝ }
+    ensures { λ r. ⌜ (limit .rank < rankEnd → r < rankEnd) ⌝ }
 {
     let mut best = rank_after(block, row, ways, ranks, step, 0);
     if beyond(limit.most, limit.rank, best) {

@@ -7,7 +7,7 @@ use Rattle.block.specs.declared.refusal.Refusal.the-variants as refusal
 use Rattle.block.proofs.Decide as D
 use Rattle.block.proofs.Refusals.{turned-down, past, answered, refused, passed, none-holds}
 use Rattle.solver.proofs.Calls.{row-admitted}
-use Rattle.lookup.specs.Aims.{NoPosition}
+use Rattle.lookup.specs.Positions.{NoPosition}
 use borrow.Author.Needs.{needs}
 use Rattle.lookup.proofs.admit.position.Statement.{statement}
 use Rattle.lookup.proofs.admit.position.Tie as tie

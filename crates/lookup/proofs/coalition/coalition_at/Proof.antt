@@ -1,9 +1,10 @@
 -- `coalition_at` finds the move of the position where it stands. Assumes nothing.
-use mathlib.Core.Path.{refl, sym, _∙_, ap, subst}
+use mathlib.Core.Path.{sym, _∙_, ap, subst}
 use Prim.Native.Nat.{ℕ, _+_, _*_}
 use native.Mathlib.Omega.{arith}
 use borrow.Author.Needs.{needs}
 use Rattle.block.specs.Layout as L
+use Rattle.block.proofs.Refusals.{turned-down, past, answered}
 use Rattle.game.specs.Position.{position}
 use Rattle.game.specs.Model.{arenaOf}
 use Rattle.game.specs.Demand.{RowMove}
@@ -71,7 +72,7 @@ returns c =
     let args = c .before .before .before .before .before .before .before .before .before .before .before .before .before .before .before .args in
     let pre = c .before .before .before .before .before .before .before .before .before .before .before .before .before .before .before .pre in
     let ready = c .before .before .before .before .before .before .before .before .before .prepare .ensures in
-    ((refl, coalition-none (pre .0) (pre .1 .0 .0) (pre .1 .0 .1) (ready .0) (position (args .s) (args .stocks .now)) (pre .1 .1) (c .before .move-at .result) (chosen ((c .before))) (c .if1 .taken)), ready .1 .1)
+    (turned-down (coalition-none (pre .0) (pre .1 .0 .0) (pre .1 .0 .1) (ready .0) (position (args .s) (args .stocks .now)) (pre .1 .1) (c .before .move-at .result) (chosen ((c .before))) (c .if1 .taken)), ready .1 .1)
 
 wide-requires : tie.Need-wide-requires
 wide-requires c κs = search needs
@@ -83,11 +84,10 @@ returns-2 : tie.Need-returns-2
 returns-2 c =
     let args = c .before .before .before .before .before .before .before .before .before .before .before .before .before .before .before .before .args in
     let pre = c .before .before .before .before .before .before .before .before .before .before .before .before .before .before .before .before .pre in
-    let ready = c .before .before .before .before .before .before .before .before .before .before .prepare .ensures in (
-      subst (RowMove (args .block .now) (args .i) (position (args .s) (args .stocks .now))) (sym (c .wide .ensures .0))
-          (coalition-found (pre .0) (pre .1 .0 .0) (pre .1 .0 .1) (ready .0) (position (args .s) (args .stocks .now)) (pre .1 .1) (c .before .before .move-at .result) (chosen ((c .before .before))) (c .before .if1 .left)),
-      ready .1 .1,
-    )
+    let ready = c .before .before .before .before .before .before .before .before .before .before .prepare .ensures in
+    let p = position (args .s) (args .stocks .now) in
+    let found = subst (RowMove (args .block .now) (args .i) p) (sym (c .wide .ensures .0)) (coalition-found (pre .0) (pre .1 .0 .0) (pre .1 .0 .1) (ready .0) p (pre .1 .1) (c .before .before .move-at .result) (chosen ((c .before .before))) (c .before .if1 .left)) in
+    (past (λ loses. loses (found .wins)) (answered found), ready .1 .1)
 
 pub coalition-at-spec : {M : Type 1} → statement M
 coalition-at-spec =

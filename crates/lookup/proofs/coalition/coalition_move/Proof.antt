@@ -7,7 +7,7 @@ use Rattle.game.specs.Position.{position}
 use Rattle.game.proofs.Blocks.Rowwise.{row-demanded}
 use Rattle.turns.proofs.Bytes.{cleared}
 use Rattle.lookup.specs.Calls.{sideRules}
-use Rattle.lookup.proofs.Refusing.{place-admitted, move-answered, move-other}
+use Rattle.lookup.proofs.Refusing.{position-admitted, not-length}
 use borrow.Author.Needs.{needs}
 use Rattle.lookup.proofs.coalition.coalition_move.Statement.{statement}
 use Rattle.lookup.proofs.coalition.coalition_move.Tie as tie
@@ -30,7 +30,7 @@ slice-aggregate-coalition-at c = search needs
 coalition-at-requires : tie.Need-coalition-at-requires
 coalition-at-requires c κs =
     let args = c .before .before .before .before .before .before .before .before .before .args in
-    let (valid, (row, fits)) = place-admitted (args .block .now) (args .i) (args .s) _ (none-holds (rw (c .before .before .enum-told .given .1) at (c .before .before .before .before .position .ensures))) in
+    let (valid, (row, fits)) = position-admitted (args .block .now) (args .i) (args .s) _ (none-holds (rw (c .before .before .enum-told .given .1) at (c .before .before .before .before .position .ensures))) in
     (valid, ((row .0, row .1, omega (arith, valid .sized .resources-fit), omega (arith, c .before .before .before .before .before .before .if1 .left)), fits))
 
 zeros-requires : tie.Need-zeros-requires
@@ -49,12 +49,11 @@ returns-2 : tie.Need-returns-2
 returns-2 c =
     let args = c .before .before .before .before .before .before .before .before .before .before .before .before .before .before .before .before .args in
     let b = args .block .now in
-    let p = position (args .s) (args .stock0 ∷ args .stock1 ∷ []) in
     let told = rw (c .before .before .before .before .before .before .before .before .before .enum-told .given .1) at (c .before .before .before .before .before .before .before .before .before .before .before .position .ensures) in
     let found = c .before .before .before .before .before .before .coalition-at in (
       record {
-        answer = past (λ h. h (c .before .before .before .before .before .before .before .before .before .before .before .before .before .if1 .left)) (passed told (move-answered b (args .i) p (found .result) (found .ensures .0)));
-        room-after = room-cleared (move-other b (args .i) p (found .result) (found .ensures .0)) (cleared (found .last .1 .1 .1 .1 .0) (c .before .before .zeros .last .0) (length (args .room .now)) (c .before .before .zeros .ensures) (found .ensures .1));
+        answer = past (λ h. h (c .before .before .before .before .before .before .before .before .before .before .before .before .before .if1 .left)) (passed told (found .ensures .0));
+        room-after = room-cleared (not-length (found .ensures .0) (omega arith, tt)) (cleared (found .last .1 .1 .1 .1 .0) (c .before .before .zeros .last .0) (length (args .room .now)) (c .before .before .zeros .ensures) (found .ensures .1));
       },
       row-demanded b (args .i),
     )

@@ -7,8 +7,7 @@ use Rattle.game.specs.Position.{position}
 use Rattle.game.proofs.Blocks.Rowwise.{row-demanded}
 use Rattle.turns.proofs.Bytes.{cleared}
 use Rattle.lookup.specs.Calls.{answerRules}
-use Rattle.lookup.proofs.Refusing.{place-admitted, reply-answered, reply-other}
-use Rattle.lookup.proofs.Replying.{not-both}
+use Rattle.lookup.proofs.Refusing.{position-admitted, not-length}
 use borrow.Author.Needs.{needs}
 use Rattle.lookup.proofs.opponents.reply.Statement.{statement}
 use Rattle.lookup.proofs.opponents.reply.Tie as tie
@@ -31,7 +30,7 @@ slice-aggregate-opponents-at c = search needs
 opponents-at-requires : tie.Need-opponents-at-requires
 opponents-at-requires c κs =
     let args = c .before .before .before .before .before .before .before .before .before .args in
-    let (valid, (row, fits)) = place-admitted (args .block .now) (args .i) (args .s) _ (none-holds (rw (c .before .before .enum-told .given .1) at (c .before .before .before .before .position .ensures))) in
+    let (valid, (row, fits)) = position-admitted (args .block .now) (args .i) (args .s) _ (none-holds (rw (c .before .before .enum-told .given .1) at (c .before .before .before .before .position .ensures))) in
     (valid, ((row .0, row .1, omega (arith, valid .sized .resources-fit), omega (arith, c .before .before .before .before .before .before .if1 .left)), fits))
 
 zeros-requires : tie.Need-zeros-requires
@@ -50,13 +49,11 @@ returns-2 : tie.Need-returns-2
 returns-2 c =
     let args = c .before .before .before .before .before .before .before .before .before .before .before .before .before .before .before .before .args in
     let b = args .block .now in
-    let p = position (args .s) (args .stock0 ∷ args .stock1 ∷ []) in
     let told = rw (c .before .before .before .before .before .before .before .before .before .enum-told .given .1) at (c .before .before .before .before .before .before .before .before .before .before .before .position .ensures) in
-    let (valid, (row, fits)) = place-admitted b (args .i) (args .s) (args .stock0 ∷ args .stock1 ∷ []) (none-holds told) in
     let found = c .before .before .before .before .before .before .opponents-at in (
       record {
-        answer = past (λ h. h (c .before .before .before .before .before .before .before .before .before .before .before .before .before .if1 .left)) (passed told (reply-answered b (args .i) p (args .m) (not-both b valid (args .i) row p fits) (found .result) (found .ensures .0)));
-        room-after = room-cleared (reply-other b (args .i) p (args .m) (found .result) (found .ensures .0)) (cleared (found .last .1 .1 .1 .1 .1 .0) (c .before .before .zeros .last .0) (length (args .room .now)) (c .before .before .zeros .ensures) (found .ensures .1));
+        answer = past (λ h. h (c .before .before .before .before .before .before .before .before .before .before .before .before .before .if1 .left)) (passed told (found .ensures .0));
+        room-after = room-cleared (not-length (found .ensures .0) (omega arith, (omega arith, tt))) (cleared (found .last .1 .1 .1 .1 .1 .0) (c .before .before .zeros .last .0) (length (args .room .now)) (c .before .before .zeros .ensures) (found .ensures .1));
       },
       row-demanded b (args .i),
     )

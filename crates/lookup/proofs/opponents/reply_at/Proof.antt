@@ -1,11 +1,11 @@
 -- `reply_at` looks who wins, makes the move where it lands, and replies. Assumes nothing.
-use mathlib.Core.Logic.{inl, inr}
-use mathlib.Core.Path.{_≡_, refl, sym, _∙_, ap, subst, subst₂}
+use mathlib.Core.Path.{_≡_, sym, _∙_, ap, subst, subst₂}
 use Prim.Native.Nat.{ℕ, _+_, _*_, _<_}
 use native.Mathlib.Omega.{arith}
 use borrow.Author.Needs.{needs}
 use Rattle.block.specs.Layout as L
 use Rattle.block.proofs.Decide as D
+use Rattle.block.proofs.Refusals.{turned-down, past, answered}
 use Rattle.game.specs.Position.{Position, Allowed, number}
 use Rattle.game.specs.Inner.Stocks.{stockPlaces}
 use Rattle.game.specs.Model.{arenaOf}
@@ -64,7 +64,7 @@ own c p placed =
 returns : tie.Need-returns
 returns c p placed =
     let pre = c .before .before .before .before .before .before .before .before .before .before .before .pre in
-    inl (refl, claimed-wins (pre .0) (pre .1 .0 .0) (pre .1 .0 .1) (pre .1 .1 .0) p (placed .fits) (subst₂ ClaimsBy (c .before .before .kind .ensures) (own ((c .before .before .before)) p placed) (D.truth (c .before .claims .ensures) (c .if1 .taken))))
+    turned-down (claimed-wins (pre .0) (pre .1 .0 .0) (pre .1 .0 .1) (pre .1 .1 .0) p (placed .fits) (subst₂ ClaimsBy (c .before .before .kind .ensures) (own ((c .before .before .before)) p placed) (D.truth (c .before .claims .ensures) (c .if1 .taken))))
 
 list-row-requires : tie.Need-list-row-requires
 list-row-requires c κs =
@@ -131,11 +131,13 @@ returns-2 c p placed =
     let allowed = move-here (args .block .now) (pre .0) (row .result) (row .ensures .0) (args .spot .state) (args .spot .place) (args .m) p at move paid in
     let rank = ap (λ (i : ℕ). rankIn (args .ranks .now) (number (arenaOf (args .block .now) i) p)) (row .ensures .1) ∙ sym (own ((c .before .before .before .before .before .before .before .before .before .before .before .before .before .before)) p placed) in
     let reply = c .reply-to .ensures .0 p (at .fits) (at .state) leaves allowed rank in
-    let allowed-here = subst (λ (i : ℕ). Allowed (arenaOf (args .block .now) i) p (args .m)) (row .ensures .1) allowed in (
-      opponents-found (pre .0) (pre .1 .0 .0) (pre .1 .0 .1) (pre .1 .1 .0) (placed .fits) (lost ((c .before .before .before .before .before .before .before .before .before .before .before)) p placed) allowed-here (c .reply-to .result) (c .reply-to .ensures .1)
-          (subst₂ (λ (i left : ℕ). ReplyFor (args .block .now) i left (args .ready .right) (args .ranks .now) p (args .m) (c .reply-to .result)) (row .ensures .1) (row .ensures .3) reply),
-      allowed-here,
-    )
+    let allowed-here = subst (λ (i : ℕ). Allowed (arenaOf (args .block .now) i) p (args .m)) (row .ensures .1) allowed in
+    let unwon = lost ((c .before .before .before .before .before .before .before .before .before .before .before)) p placed in
+    past (λ wins. unwon (wins-claimed-by (pre .0) (pre .1 .0 .0) (pre .1 .0 .1) (pre .1 .1 .0) p (placed .fits) wins))
+    (past (λ fails. fails allowed-here)
+    (answered
+    (opponents-found (pre .0) (pre .1 .0 .0) (pre .1 .0 .1) (pre .1 .1 .0) (placed .fits) unwon allowed-here (c .reply-to .result) (c .reply-to .ensures .1)
+    (subst₂ (λ (i left : ℕ). ReplyFor (args .block .now) i left (args .ready .right) (args .ranks .now) p (args .m) (c .reply-to .result)) (row .ensures .1) (row .ensures .3) reply))))
 
 same-length-2 : tie.Need-same-length-2
 same-length-2 c = search needs
@@ -144,13 +146,7 @@ returns-3 : tie.Need-returns-3
 returns-3 c p placed =
     let args = c .before .before .before .before .before .before .before .before .before .before .before .before .before .before .before .before .before .before .before .args in
     let pre = c .before .before .before .before .before .before .before .before .before .before .before .before .before .before .before .before .before .before .before .pre in
-    inr (
-      refl,
-      (
-        (λ wins. lost ((c .before .before .before .before .before .before .before .before)) p placed (wins-claimed-by (pre .0) (pre .1 .0 .0) (pre .1 .0 .1) (pre .1 .1 .0) p (placed .fits) wins)),
-        λ allowed. rw (c .enum-told .given .1) at (c .before .before .way-to .ensures) p (here ((c .before .before .before .before .before .before .before .before)) p placed) (subst (λ (i : ℕ). Allowed (arenaOf (args .block .now) i) p (args .m)) (sym (c .before .before .before .before .before .before .before .before .before .before .before .before .before .before .before .row-of .ensures .1)) allowed),
-      ),
-    )
+    past (λ wins. lost ((c .before .before .before .before .before .before .before .before)) p placed (wins-claimed-by (pre .0) (pre .1 .0 .0) (pre .1 .0 .1) (pre .1 .1 .0) p (placed .fits) wins)) (turned-down (λ allowed. rw (c .enum-told .given .1) at (c .before .before .way-to .ensures) p (here ((c .before .before .before .before .before .before .before .before)) p placed) (subst (λ (i : ℕ). Allowed (arenaOf (args .block .now) i) p (args .m)) (sym (c .before .before .before .before .before .before .before .before .before .before .before .before .before .before .before .row-of .ensures .1)) allowed)))
 
 pub reply-at-spec : {M : Type 1} → statement M
 reply-at-spec =

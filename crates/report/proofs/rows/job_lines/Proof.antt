@@ -32,7 +32,7 @@ loop-holds c =
     let args = c .before .before .before .before .before .before .before .before .before .args in
     let pre = c .before .before .before .before .before .before .before .before .before .pre in
     let line = c .before .before .list-line in
-    ((omega arith, refl, pre .1 .1, pre .1 .2, line .kept .0 ∙ pre .1 .0), ((λ j l. absurd (omega arith)), rowed-none (args .block .now) (line .last .0) (line .result) (args .out .now) (λ rest. rw (← c .before .before .before .before .rows .ensures) (line .ensures .0 rest)) (line .ensures .1)))
+    ((omega (arith, c .before .before .before .before .rows .ensures, pre .0 .sized .rows-fit), refl, pre .1 .1, pre .1 .2, line .kept .0 ∙ pre .1 .0), ((λ j l. absurd (omega arith)), rowed-none (args .block .now) (line .last .0) (line .result) (args .out .now) (λ rest. rw (← c .before .before .before .before .rows .ensures) (line .ensures .0 rest)) (line .ensures .1)))
 
 slice-aggregate-row-lines : tie.Need-slice-aggregate-row-lines Inv-loop μ-loop
 slice-aggregate-row-lines c = search needs

@@ -25,11 +25,11 @@ abbrev Placed : ℕ → ℕ → ℕ → ℕ → Type 0
 Placed c n s x = (s ≤ n) × (n ≡ s * c + x) × (x < c)
 
 abbrev Inv-loop : tie.InvT-loop
-Inv-loop block goal ranks₀ c count n₀ s₀ x₀ ranks n s x =
-    (n ≤ 6144) × (length ranks ≡ length ranks₀) × Placed c n s x × ((k : ℕ) → k < n → FirstRank goal c count k (rankIn ranks k))
+Inv-loop block goal ranks₀ c positions n₀ s₀ x₀ ranks n s x =
+    (n ≤ 6144) × (length ranks ≡ length ranks₀) × Placed c n s x × ((k : ℕ) → k < n → FirstRank goal c positions k (rankIn ranks k))
 
 abbrev μ-loop : tie.MeasureT-loop
-μ-loop block goal ranks₀ c count n₀ s₀ x₀ ranks n s x = 6144 - n
+μ-loop block goal ranks₀ c positions n₀ s₀ x₀ ranks n s x = 6144 - n
 
 count-requires : tie.Need-count-requires Inv-loop μ-loop
 count-requires c κs = (c .before .before .pre .0, (c .before .before .pre .1 .0 .inside, c .before .before .pre .1 .0 .strategic))
@@ -78,12 +78,12 @@ loop-less : tie.Need-loop-less Inv-loop μ-loop
 loop-less c = omega (arith, c .before .before .before .before .before .before .loop-test .taken)
 
 -- one more rank is stored
-more : (goal c count n v : ℕ) (l l′ : List ℕ) → ((k : ℕ) → k < n → FirstRank goal c count k (rankIn l k)) → FirstRank goal c count n v → Stored rankIn l l′ n v → (k : ℕ) → k < n + 1 → FirstRank goal c count k (rankIn l′ k)
-more goal c count n v l l′ so-far first stored k small = go (eq? k n)
+more : (goal c positions n v : ℕ) (l l′ : List ℕ) → ((k : ℕ) → k < n → FirstRank goal c positions k (rankIn l k)) → FirstRank goal c positions n v → Stored rankIn l l′ n v → (k : ℕ) → k < n + 1 → FirstRank goal c positions k (rankIn l′ k)
+more goal c positions n v l l′ so-far first stored k small = go (eq? k n)
   where
-    go : Dec (k ≡ n) → FirstRank goal c count k (rankIn l′ k)
-    go (yes e) = subst (λ (j : ℕ). FirstRank goal c count j (rankIn l′ j)) (sym e) (subst (FirstRank goal c count n) (sym (stored .stored)) first)
-    go (no ne) = subst (FirstRank goal c count k) (sym (stored .others k ne)) (so-far k (omega arith))
+    go : Dec (k ≡ n) → FirstRank goal c positions k (rankIn l′ k)
+    go (yes e) = subst (λ (j : ℕ). FirstRank goal c positions j (rankIn l′ j)) (sym e) (subst (FirstRank goal c positions n) (sym (stored .stored)) first)
+    go (no ne) = subst (FirstRank goal c positions k) (sym (stored .others k ne)) (so-far k (omega arith))
 
 -- the next position, in the next state or in the same
 over : (c n s x : ℕ) → Placed c n s x → x + 1 ≡ c → Placed c (n + 1) (s + 1) 0
@@ -125,7 +125,7 @@ same-length c = c .before .loop .inv .1
 returns : tie.Need-returns Inv-loop μ-loop
 returns c =
     let at = c .before .loop in
-    (λ n l. subst (λ (count : ℕ). FirstRank (c .before .before .before .before .before .args .goal) (c .before .before .before .before .before .args .row .places) count n (rankIn (at .ranks) n)) (c .before .before .count .ensures .0) (at .inv .3 n (omega (arith, c .loop-test .left))), at .inv .1)
+    (λ n l. subst (λ (positions : ℕ). FirstRank (c .before .before .before .before .before .args .goal) (c .before .before .before .before .before .args .row .places) positions n (rankIn (at .ranks) n)) (c .before .before .count .ensures .0) (at .inv .3 n (omega (arith, c .loop-test .left))), at .inv .1)
 
 pub first-ranks-spec : {M : Type 1} → statement M
 first-ranks-spec =

@@ -8,8 +8,8 @@ use Rattle.game.specs.Model.{RowSet}
 use Rattle.solver.specs.Inner.Labels.{Prepared}
 use Rattle.solver.specs.Inner.Needs.{directly}
 use Rattle.solver.specs.Inner.Rows.{RowRanked}
-use Rattle.lookup.proofs.place.prepare.Statement.{statement}
-use Rattle.lookup.proofs.place.prepare.Tie as tie
+use Rattle.lookup.proofs.spots.prepare.Statement.{statement}
+use Rattle.lookup.proofs.spots.prepare.Tie as tie
 
 slice-aggregate-label-needed : tie.Need-slice-aggregate-label-needed
 slice-aggregate-label-needed c = search needs

@@ -10,8 +10,8 @@ use Rattle.block.proofs.Decide as D
 use Rattle.game.specs.Rbatl.{unlimited}
 use Rattle.game.specs.Position.{places}
 use Rattle.game.specs.Model.{boundOf, boundsOf}
-use Rattle.lookup.proofs.place.above.Statement.{statement}
-use Rattle.lookup.proofs.place.above.Tie as tie
+use Rattle.lookup.proofs.spots.above.Statement.{statement}
+use Rattle.lookup.proofs.spots.above.Tie as tie
 
 resources-requires : tie.Need-resources-requires
 resources-requires c κs = search needs

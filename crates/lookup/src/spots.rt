@@ -19,7 +19,7 @@ ghost use Rattle.ways.specs.Lines.{waysBytes};
 ghost use Rattle.ways.specs.Places.{PlacedAt};
 ghost use Rattle.solver.specs.Inner.Labels.{Prepared};
 ghost use Rattle.solver.specs.Inner.Rows.{RowRanked};
-ghost use Rattle.lookup.specs.Aims.{NoPosition};
+ghost use Rattle.lookup.specs.Positions.{NoPosition};
 ghost use Rattle.turns.specs.Sizes.{roomBytes};
 
 // A row made ready: as it is listed for its moves, with the set of its left row, and the set of its right row.
@@ -43,18 +43,16 @@ fn above(block: &[u8], i: usize, j: usize, stock: usize) -> bool
 // Whether there is no such position.
 pub fn no_position(block: &[u8], i: usize, s: usize, stocks: &[u8]) -> bool
     requires { ⌜ Valid (now block) ⌝ }
-    requires { ⌜ (i < L.rows (now block)) × L.Strategic (L.kind (now block) i) × (2 ≤ length (now stocks)) ⌝ }
+    requires { ⌜ (i < L.rows (now block)) × L.Strategic (L.kind (now block) i) × (L.maxResources ≤ length (now stocks)) ⌝ }
     ensures { λ r. ⌜ Decides (NoPosition (now (block .entry)) i s (now (stocks .entry))) r ⌝ }
 {
     if layout::states(block) <= s {
         return true;
     }
-    let mut j = 0;
-    while j < 2 {
+    for j in 0..layout::MAX_RESOURCES {
         if above(block, i, j, wide(stocks[j])) {
             return true;
         }
-        j += 1;
     }
     false
 }

@@ -7,10 +7,10 @@ use Rattle.block.specs.Inner.Tests.{Decides, holds, fails}
 use Rattle.block.proofs.Decide as D
 use Rattle.game.specs.Position.{places}
 use Rattle.game.specs.Model.{boundsOf}
-use Rattle.lookup.specs.Aims.{NoPosition, no-state, no-stock}
+use Rattle.lookup.specs.Positions.{NoPosition, no-state, no-stock}
 use Rattle.choice.proofs.Searching.{none-more}
-use Rattle.lookup.proofs.place.no_position.Statement.{statement}
-use Rattle.lookup.proofs.place.no_position.Tie as tie
+use Rattle.lookup.proofs.spots.no_position.Statement.{statement}
+use Rattle.lookup.proofs.spots.no_position.Tie as tie
 
 abbrev Inv-loop : tie.InvT-loop
 Inv-loop block i s stocks j₀ j = (j ≤ 2) × ((k : ℕ) → k < j → places (boundsOf block i k) ≤ getD stocks k 0 → ⊥)
