@@ -1,4 +1,5 @@
 // The rows that a row needs, as a word with a bit for each row.
+use block::kinds;
 use block::layout;
 use turns::buffers;
 ghost use mathlib.Core.Logic.{_↔_, _⊎_};
@@ -16,11 +17,7 @@ pub fn names_right(block: &[u8], i: usize) -> bool
     requires { ⌜ i < L.rows (now block) ⌝ }
     ensures { λ r. ⌜ Decides (L.Binary (L.kind (now (block .entry)) i)) r ⌝ }
 {
-    let kind = layout::kind(block, i);
-    if kind == layout::OR_KIND {
-        return true;
-    }
-    kind == layout::UNTIL_KIND
+    kinds::binary(layout::kind(block, i))
 }
 
 // The word w with the rows that row i names besides.
