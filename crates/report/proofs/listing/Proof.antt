@@ -37,12 +37,12 @@ enum-told : tie.Need-enum-told
 enum-told c = search needs
 
 -- what reading came to, and that it was accepted
-came : (c : tie.After-block2) → Tells (c@read .result) (c@read .last .1 .0) (readCall (c@args .text .now) blank)
+came : (c : tie.After-block2) → Tells (c .before .read .result) (c .before .read .last .1 .0) (readCall (c .before .before .before .before .before .before .before .before .before .before .args .text .now) blank)
 unfolding blank
-came c = outcome-told (readCall (c@args .text .now) blank) blank (c@read .last .1 .0) (c@read .result) (c@read .ensures .0) (c@read .ensures .1 .0)
+came c = outcome-told (readCall (c .before .before .before .before .before .before .before .before .before .before .args .text .now) blank) blank (c .before .read .last .1 .0) (c .before .read .result) (c .before .read .ensures .0) (c .before .read .ensures .1 .0)
 
-accepted-as : (c : tie.After-enum-told) → readCall (c@args .text .now) blank ≡ accepted (c@read .last .1 .0)
-accepted-as c = subst (λ (a : Answer). Tells a (c@read .last .1 .0) (readCall (c@args .text .now) blank)) (c .enum-told .given .1) (came (c@After-block2))
+accepted-as : (c : tie.After-enum-told) → readCall (c .before .before .before .before .before .before .before .before .before .before .before .before .args .text .now) blank ≡ accepted (c .before .before .before .read .last .1 .0)
+accepted-as c = subst (λ (a : Answer). Tells a (c .before .before .before .read .last .1 .0) (readCall (c .before .before .before .before .before .before .before .before .before .before .before .before .args .text .now) blank)) (c .enum-told .given .1) (came (c .before .before))
 
 slice-aggregate-list-job : tie.Need-slice-aggregate-list-job
 slice-aggregate-list-job c = search needs
@@ -89,7 +89,7 @@ returns-5 : tie.Need-returns-5
 returns-5 c =
     let args = c .before .before .before .before .before .before .before .before .before .before .before .before .before .before .before .before .before .before .before .before .before .args in
     let told = c .before .before .before .before .before .before .before .before .before .r .given in
-    let (stop, is) = subst (λ (a : Answer). Tells a (c@read .last .1 .0) (readCall (args .text .now) blank)) (told .1) (came (c@After-block2)) in
+    let (stop, is) = subst (λ (a : Answer). Tells a (c .before .before .before .before .before .before .before .before .before .before .before .before .read .last .1 .0) (readCall (args .text .now) blank)) (told .1) (came (c .before .before .before .before .before .before .before .before .before .before .before)) in
     record {
       answer = called (args .text .now) (args .out .now) (args .ranks .now) (args .moves .now) (c .before .before .before .before .before .before .before .before .before .before .before .before .before .before .before .before .if1 .left) (c .before .before .before .before .before .before .before .before .before .before .before .before .before .before .before .if2 .left) (c .before .before .before .before .before .before .before .before .before .before .before .before .before .before .if3 .left) (refused (told .0 .0) stop) (args .out .now) (Refused (told .0 .0)) is refl;
       kept = refl;
