@@ -5,6 +5,7 @@ use Prim.Native.Nat.{ℕ, zero, suc, _-_, _≤_, _<_}
 use native.Mathlib.Nat.{lt-of-le-of-lt, le-of-lt}
 use native.Mathlib.Omega.{arith}
 use lib.Dec.{lit<}
+use lib.ListN.{length}
 use borrow.Author.Tests.{lt-ltb}
 use lib.IntN.{ℤ, pos, negsuc, negℤ, _-ℤ_}
 use mir.Syntax.{w32}
@@ -13,9 +14,10 @@ use mir.Facts.{toZ-pos}
 use Rattle.block.specs.Refusal.{Rule, Answers}
 use Rattle.block.specs.declared.refusal.Answer.{Answer}
 use Rattle.block.specs.declared.refusal.Answer.the-variants as answer
-use Rattle.block.proofs.Refusals.{right}
+use Rattle.block.proofs.Refusals.{none-holds, right}
 use Rattle.text.specs.Format.{Outcome, accepted, refused}
-use Rattle.text.specs.Text.{answerTo}
+use Rattle.text.specs.Text.{textBytes, readText, answerTo, StopsAt, stopRules}
+use Rattle.game.proofs.Numbers.Decide.{lt?}
 use Rattle.report.specs.Call.{listingBytes, ListingCall}
 use Rattle.report.proofs.Printing.{listing-fits}
 use Rattle.rbatl.specs.Answer.{Small}
@@ -44,7 +46,23 @@ small-answer {rules} {Right} {a} w least = go a w
 
 pub small-read : (o : Outcome) → Small (answerTo o)
 small-read (accepted b) = omega arith
-small-read (refused r) = tt
+small-read (refused r stop) = tt
+
+-- a place of a text that is not too long
+pub small-stop : (t : List ℕ) (a : Answer) → Answers (stopRules t) (StopsAt t (readText t)) a → Small a
+small-stop t (answer.Refused r) w = tt
+small-stop t (answer.Value n) w = let (short, _) = none-holds w in omega (arith, inside (readText t) (right w), length-small short)
+  where
+    inside : (o : Outcome) → StopsAt t o n → n ≤ length t
+    inside (accepted b) e = omega arith
+    inside (refused r stop) (within, _) = within
+
+    length-small : (textBytes < length t → ⊥) → length t ≤ textBytes
+    length-small short = go (lt? textBytes (length t))
+      where
+        go : Dec (textBytes < length t) → length t ≤ textBytes
+        go (yes long) = absurd (short long)
+        go (no _) = omega arith
 
 pub small-listing : (text out ranks moves out′ ranks′ moves′ : List ℕ) (a : Answer) → ListingCall text out ranks moves out′ ranks′ moves′ a → Small a
 small-listing text out ranks moves out′ ranks′ moves′ (answer.Value n) call = listing-fits text out ranks moves out′ ranks′ moves′ n call

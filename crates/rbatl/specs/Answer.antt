@@ -4,11 +4,11 @@ use mathlib.Core.Path.{_≡_}
 use Prim.Native.Nat.{ℕ, _≤_}
 use lib.IntN.{ℤ, pos, negℤ}
 use Rattle.block.specs.Layout.{Block}
-use Rattle.block.specs.Refusal.{numberOf}
+use Rattle.block.specs.Refusal.{numberOf, Answers}
 use Rattle.block.specs.Check.{Verdict}
 use Rattle.block.specs.declared.refusal.Answer.{Answer}
 use Rattle.block.specs.declared.refusal.Answer.the-variants as answer
-use Rattle.text.specs.Text.{readCall, answerTo}
+use Rattle.text.specs.Text.{readText, readCall, answerTo, StopsAt, stopRules}
 use Rattle.solver.specs.Calls.{LabelCall, TableCall}
 use Rattle.lookup.specs.Calls.{MoveCall, ReplyCall}
 use Rattle.lookup.specs.States.{StatesCall, RefusalCall}
@@ -20,7 +20,7 @@ abbrev pub answerCode : Answer → ℤ
 answerCode (answer.Value n) = pos n
 answerCode (answer.Refused r) = negℤ (pos (numberOf r))
 
--- a value is the number of a joint action, a count of states or the length of a text or a listing
+-- a value is the number of a joint action, a count of states, the length of a text or a listing, or a place of a text
 abbrev pub Small : Answer → Type 0
 Small (answer.Value n) = n ≤ listingBytes
 Small (answer.Refused r) = Unit {0}
@@ -32,6 +32,10 @@ CheckAnswer b r = (a : Answer) × Verdict b a × (r ≡ answerCode a)
 -- what the read call answers
 abbrev pub readAnswer : List ℕ → Block → ℤ
 readAnswer t b = answerCode (answerTo (readCall t b))
+
+-- what the call answers that tells where reading stops
+abbrev pub StopAnswer : List ℕ → ℤ → Type 0
+StopAnswer t r = (a : Answer) × Answers (stopRules t) (StopsAt t (readText t)) a × (r ≡ answerCode a)
 
 -- what the write call promises of its answer and of the text buffer, t before it and u after it
 abbrev pub WriteAnswer : Block → List ℕ → List ℕ → ℤ → Type 0

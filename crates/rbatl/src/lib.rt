@@ -5,7 +5,7 @@ ghost use mathlib.Core.List.{[], _∷_};
 ghost use mathlib.Core.Path.{_≡_};
 ghost use Rattle.text.specs.Text.{readCall, blockAfter, Exact, Numbered};
 ghost use Rattle.game.specs.Demand.{Demand3};
-ghost use Rattle.rbatl.specs.Answer.{CheckAnswer, readAnswer, WriteAnswer, LabelAnswer, TableAnswer, Small, answerCode, MoveAnswer, ReplyAnswer, StatesAnswer, RefusalAnswer, ListAnswer};
+ghost use Rattle.rbatl.specs.Answer.{CheckAnswer, readAnswer, StopAnswer, WriteAnswer, LabelAnswer, TableAnswer, Small, answerCode, MoveAnswer, ReplyAnswer, StatesAnswer, RefusalAnswer, ListAnswer};
 
 // The number that is handed back: a value, or minus the number of a refusal.
 fn code(a: Answer) -> i32
@@ -33,6 +33,13 @@ pub extern "C" fn rbatl_read(text: &[u8], block: &mut [u8]) -> i32
     ensures { λ _. ⌜ Numbered (now (text .entry)) ⌝ }
 {
     code(reader::read(text, block))
+}
+
+#[no_mangle]
+pub extern "C" fn rbatl_read_at(text: &[u8]) -> i32
+    ensures { λ r. ⌜ StopAnswer (now (text .entry)) r ⌝ }
+{
+    code(reader::read_at(text))
 }
 
 #[no_mangle]

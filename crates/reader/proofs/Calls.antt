@@ -13,10 +13,10 @@ use Rattle.text.specs.Format.{refused}
 use Rattle.text.specs.Text.{textBytes, readText, readCall}
 
 module _ (t : List ℕ) (b : Block) where
-  pub read-long : textBytes < length t → readCall t b ≡ refused Length
+  pub read-long : textBytes < length t → readCall t b ≡ refused Length t
   read-long h = simp (lt-ltb textBytes (length t) h)
 
-  pub read-other : length t ≤ textBytes → (length b ≡ blockBytes → ⊥) → readCall t b ≡ refused Length
+  pub read-other : length t ≤ textBytes → (length b ≡ blockBytes → ⊥) → readCall t b ≡ refused Length t
   read-other h n = simp (le-ltb textBytes (length t) h, ne-eqb (length b) blockBytes n)
 
   pub read-whole : length t ≤ textBytes → length b ≡ blockBytes → readCall t b ≡ readText t

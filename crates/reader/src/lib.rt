@@ -17,11 +17,11 @@ use text::TEXT_BYTES;
 ghost use mathlib.Core.Path.{_≡_};
 ghost use lib.ListN.{length};
 ghost use Rattle.block.specs.Layout.{blockBytes};
+ghost use Rattle.block.specs.Refusal.{Answers};
 ghost use Rattle.text.specs.Format.{end, read};
 ghost use Rattle.text.specs.Job as J;
-ghost use Rattle.scan.specs.Inner.Step.{resume, Inside};
-ghost use Rattle.text.specs.Inner.Reading.{outcomeOf};
-ghost use Rattle.text.specs.Text.{readCall, answerTo, blockAfter, Exact, Numbered};
+ghost use Rattle.scan.specs.Inner.Step.{resume, outcomeAt, Inside};
+ghost use Rattle.text.specs.Text.{readText, readCall, answerTo, blockAfter, StopsAt, stopRules, Exact, Numbered};
 
 // All lines of the text.
 fn lines(text: &[u8], job: &mut [u8]) -> Step
@@ -37,19 +37,20 @@ fn lines(text: &[u8], job: &mut [u8]) -> Step
 }
 
 // Reads the text into a block; nothing may follow its last line.
-fn read_into(text: &[u8], job: &mut [u8]) -> Answer
+fn read_into(text: &[u8], job: &mut [u8]) -> Step
     requires { ⌜ length (now job) ≡ blockBytes ⌝ }
-    ensures { λ r. ⌜ read J.job (now (job .entry)) (now (text .entry)) ≡ outcomeOf r (now (job .exit)) ⌝ }
+    ensures { λ r. ⌜ read J.job (now (job .entry)) (now (text .entry)) ≡ outcomeAt (now (text .entry)) r (now (job .exit)) ⌝ }
+    ensures { λ r. ⌜ Inside (now (text .entry)) r ⌝ }
 {
     match lines(text, job) {
         Step::Next(at) => {
             if at < text.len() {
-                Answer::Refused(Refusal::Form)
+                Step::Refused(Refusal::Form, at)
             } else {
-                Answer::Value(0)
+                Step::Next(at)
             }
         }
-        Step::Refused(r) => Answer::Refused(r),
+        Step::Refused(r, at) => Step::Refused(r, at),
     }
 }
 
@@ -67,10 +68,25 @@ pub fn read(text: &[u8], block: &mut [u8]) -> Answer
         return Answer::Refused(Refusal::Length);
     }
     let mut blank = [0u8; BLOCK_BYTES];
-    let r = read_into(text, &mut blank);
-    if let Answer::Refused(_) = r {
-        return r;
+    match read_into(text, &mut blank) {
+        Step::Next(_) => {
+            bytes::copy(&blank, block);
+            Answer::Value(0)
+        }
+        Step::Refused(r, _) => Answer::Refused(r),
     }
-    bytes::copy(&blank, block);
-    Answer::Value(0)
+}
+
+// The place of the text at which reading stops: that of the field where it is refused, or its end.
+pub fn read_at(text: &[u8]) -> Answer
+    ensures { λ r. ⌜ Answers (stopRules (now (text .entry))) (StopsAt (now (text .entry)) (readText (now (text .entry)))) r ⌝ }
+{
+    if TEXT_BYTES < text.len() {
+        return Answer::Refused(Refusal::Length);
+    }
+    let mut blank = [0u8; BLOCK_BYTES];
+    match read_into(text, &mut blank) {
+        Step::Next(_) => Answer::Value(text.len()),
+        Step::Refused(_, at) => Answer::Value(at),
+    }
 }

@@ -15,28 +15,28 @@ use Rattle.block.proofs.Passing.{passing}
 use Rattle.block.proofs.Refusals.{no-refusal, past, rest}
 use Rattle.text.specs.Format.{Outcome, accepted, refused}
 use Rattle.text.specs.Job.{either}
-use Rattle.text.specs.Inner.Reading.{outcomeOf}
 use Rattle.text.specs.Text.{textBytes, blank, readText, readCall, answerTo, blockAfter}
 use Rattle.text.proofs.Formats.{never}
 use Rattle.text.proofs.Accepts.{accepts}
 use Rattle.turns.specs.Sizes.{roomBytes, movesBytes}
 use Rattle.block.specs.declared.refusal.Answer.{Answer}
-use Rattle.block.specs.declared.refusal.Answer.the-variants.{Value}
+use Rattle.block.specs.declared.refusal.Answer.the-variants.{Value, Refused}
 use Rattle.report.specs.Call.{listingBytes, Filled, listRules, ListingOf, ListingCall}
 
--- the answer and the block afterwards tell the outcome
-pub outcome-is : (o : Outcome) (b c : Block) (a : Answer) → a ≡ answerTo o → c ≡ blockAfter b o → o ≡ outcomeOf a c
-outcome-is o b c a answer after = sym (ap (λ (a : Answer). outcomeOf a c) answer ∙ ap (outcomeOf (answerTo o)) after ∙ same o)
-  where
-    same : (o : Outcome) → outcomeOf (answerTo o) (blockAfter b o) ≡ o
-    same (accepted d) = refl
-    same (refused r) = refl
+-- the answer and the block afterwards tell the outcome, but for where a refused text stops
+abbrev pub Tells : Answer → Block → Outcome → Type 0
+Tells (Value n) c o = o ≡ accepted c
+Tells (Refused r) c o = (stop : List ℕ) × (o ≡ refused r stop)
+
+pub outcome-told : (o : Outcome) (b c : Block) (a : Answer) → a ≡ answerTo o → c ≡ blockAfter b o → Tells a c o
+outcome-told (accepted d) b c a answer after = subst (λ (a : Answer). Tells a c (accepted d)) (sym answer) (ap accepted (sym after))
+outcome-told (refused r stop) b c a answer after = subst (λ (a : Answer). Tells a c (refused r stop)) (sym answer) (stop, refl)
 
 -- a block that was read passes the check
 pub read-valid : (t : List ℕ) (b c : Block) → readCall t b ≡ accepted c → Valid c
 read-valid t b c = go (either (ltb textBytes (length t)) (not (eqb (length b) blockBytes)))
   where
-    go : (test : Bool) → cond test (refused Length) (readText t) ≡ accepted c → Valid c
+    go : (test : Bool) → cond test (refused Length t) (readText t) ≡ accepted c → Valid c
     go true e = never Length c e
     go false e = passing (accepts t c .0 e .0)
 
@@ -64,4 +64,4 @@ listing-fits text out ranks moves out′ ranks′ moves′ n call = go (readCall
   where
     go : (o : Outcome) → ListingOf o out′ (Value n) → n ≤ listingBytes
     go (accepted b) (value (bytes, (listed, filled))) = filled .fits
-    go (refused r) e = no-refusal e
+    go (refused r stop) e = no-refusal e

@@ -42,7 +42,7 @@ listRules out ranks moves =
 -- then what reading the text comes to: the listing and its length, or the refusal, 1 too for a text that is too long
 abbrev pub ListingOf : Outcome → List ℕ → Answer → Type 0
 ListingOf (accepted b) out = Gives (ListingIn b out)
-ListingOf (refused r) out = λ a. a ≡ Refused r
+ListingOf (refused r rest) out = λ a. a ≡ Refused r
 
 -- listing, ranks and moves, before the call and after it; ranks and moves are working room
 pub record ListingCall (text out ranks moves out′ ranks′ moves′ : List ℕ) (a : Answer) : Type 0 where

@@ -21,33 +21,33 @@ use Rattle.text.proofs.Search.{after-found, after-other, search-step, search-sa
 module _ (n : ℕ) (t : List ℕ) (f : Format) (b : Block) where
   pub index-next : (rest : List ℕ) → t ≡ (decimal n ++ comma ∷ []) ++ rest → read (index n f) b t ≡ read f b rest
   unfolding index
-  index-next rest e = ap (λ (x : Found). onFound x (λ o u. read f b u)) (after-found 0 (decimal n ++ comma ∷ []) t rest missing e)
+  index-next rest e = ap (λ (x : Found). onFound x t (λ o u. read f b u)) (after-found 0 (decimal n ++ comma ∷ []) t rest missing e)
 
-  pub index-not : (Starts (decimal n ++ comma ∷ []) t → ⊥) → read (index n f) b t ≡ refused Form
+  pub index-not : (Starts (decimal n ++ comma ∷ []) t → ⊥) → read (index n f) b t ≡ refused Form t
   unfolding index
-  index-not h = ap (λ (x : Found). onFound x (λ o u. read f b u)) (after-other 0 (decimal n ++ comma ∷ []) t missing h)
+  index-not h = ap (λ (x : Found). onFound x t (λ o u. read f b u)) (after-other 0 (decimal n ++ comma ∷ []) t missing h)
 
 module _ (x : Spelling) (p : Place) (k : ℕ → Format) (b : Block) (t : List ℕ) where
   rest-of : ℕ → List ℕ → Outcome
-  rest-of o u = cond (x .allowed o) (read (k (x .byte o)) (store b p (x .byte o)) u) (refused (x .refusal))
+  rest-of o u = cond (x .allowed o) (read (k (x .byte o)) (store b p (x .byte o)) u) (refused (x .refusal) t)
 
   pub value-next : (o v : ℕ) (rest : List ℕ) (b′ : Block) → search (x .spell) (x .options) t ≡ found o rest → x .allowed o ≡ true → x .byte o ≡ v → b′ ≡ store b p v → read (value x p k) b t ≡ read (k v) b′ rest
   unfolding rest-of
   value-next o v rest b′ e a w s =
-      ap (λ (y : Found). onFound y rest-of) e
-      ∙ ap (λ (q : Bool). cond q (read (k (x .byte o)) (store b p (x .byte o)) rest) (refused (x .refusal))) a
+      ap (λ (y : Found). onFound y t rest-of) e
+      ∙ ap (λ (q : Bool). cond q (read (k (x .byte o)) (store b p (x .byte o)) rest) (refused (x .refusal) t)) a
       ∙ ap (λ (n : ℕ). read (k n) (store b p n) rest) w
       ∙ ap (λ (l : Block). read (k v) l rest) (sym s)
 
-  pub value-refused : (o : ℕ) (rest : List ℕ) → search (x .spell) (x .options) t ≡ found o rest → x .allowed o ≡ false → read (value x p k) b t ≡ refused (x .refusal)
+  pub value-refused : (o : ℕ) (rest : List ℕ) → search (x .spell) (x .options) t ≡ found o rest → x .allowed o ≡ false → read (value x p k) b t ≡ refused (x .refusal) t
   unfolding rest-of
   value-refused o rest e a =
-      ap (λ (y : Found). onFound y rest-of) e
-      ∙ ap (λ (q : Bool). cond q (read (k (x .byte o)) (store b p (x .byte o)) rest) (refused (x .refusal))) a
+      ap (λ (y : Found). onFound y t rest-of) e
+      ∙ ap (λ (q : Bool). cond q (read (k (x .byte o)) (store b p (x .byte o)) rest) (refused (x .refusal) t)) a
 
-  pub value-missing : search (x .spell) (x .options) t ≡ missing → read (value x p k) b t ≡ refused Form
+  pub value-missing : search (x .spell) (x .options) t ≡ missing → read (value x p k) b t ≡ refused Form t
   unfolding rest-of
-  value-missing e = ap (λ (y : Found). onFound y rest-of) e
+  value-missing e = ap (λ (y : Found). onFound y t rest-of) e
 
 -- a number from low to below limit, and one that is not
 pub in-range : {low limit n : ℕ} → low ≤ n → n < limit → both (leb low n) (ltb n limit) ≡ true
@@ -93,13 +93,13 @@ bound-large {o} l h = simp (le-ltb o (suc maxUnits) (omega arith), lt-leb _ _ h)
 -- past a value, reading goes on from the step past it
 pub past-inside : (t : List ℕ) (v : Value) → InsideWith t v → Inside t (pastValue v)
 past-inside t (value-at.At n next) h = h .1
-past-inside t (value-at.Refused r) h = tt
+past-inside t (value-at.Refused r at) h = h
 
 pub with-law : (t : List ℕ) (v : Value) (d : ℕ) (g : ℕ → List ℕ → Outcome) → resumeWith t v g ≡ resume t (pastValue v) (g (valueOr d v))
 with-law t (value-at.At n next) d g = refl
-with-law t (value-at.Refused r) d g = refl
+with-law t (value-at.Refused r at) d g = refl
 
 -- the number stands in for a value that is not there
 pub ranged-or : (low limit d : ℕ) (v : Value) → low ≤ d → d < limit → Ranged low limit v → (low ≤ valueOr d v) × (valueOr d v < limit)
 ranged-or low limit d (value-at.At n next) l h r = r
-ranged-or low limit d (value-at.Refused x) l h r = (l, h)
+ranged-or low limit d (value-at.Refused x at) l h r = (l, h)

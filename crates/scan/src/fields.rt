@@ -37,10 +37,10 @@ pub fn index(text: &[u8], at: usize, n: usize) -> Step
             if m == n {
                 Step::Next(next)
             } else {
-                Step::Refused(Refusal::Form)
+                Step::Refused(Refusal::Form, at)
             }
         }
-        Numeral::Missing => Step::Refused(Refusal::Form),
+        Numeral::Missing => Step::Refused(Refusal::Form, at),
     }
 }
 
@@ -66,15 +66,15 @@ pub fn field(text: &[u8], at: usize, job: &mut [u8], x: Place, range: Range) -> 
     match number(text, at, range.sep) {
         Numeral::Found(n, next) => {
             if n < range.low {
-                return Value::Refused(refusal);
+                return Value::Refused(refusal, at);
             }
             if range.limit <= n {
-                return Value::Refused(refusal);
+                return Value::Refused(refusal, at);
             }
             put(job, x, n);
             Value::At(n, next)
         }
-        Numeral::Missing => Value::Refused(Refusal::Form), // the form comes before the value
+        Numeral::Missing => Value::Refused(Refusal::Form, at), // the form comes before the value
     }
 }
 
@@ -92,12 +92,12 @@ pub fn bound(text: &[u8], at: usize, job: &mut [u8], x: Place) -> Value
                 return Value::At(layout::UNLIMITED, next);
             }
             if layout::MAX_UNITS < o {
-                return Value::Refused(Refusal::Row);
+                return Value::Refused(Refusal::Row, at);
             }
             put(job, x, o);
             Value::At(o, next)
         }
-        Numeral::Missing => Value::Refused(Refusal::Form),
+        Numeral::Missing => Value::Refused(Refusal::Form, at),
     }
 }
 
@@ -125,7 +125,7 @@ pub fn kind(text: &[u8], at: usize, job: &mut [u8], x: Place) -> Value
             put(job, x, k);
             Value::At(k, next)
         }
-        Numeral::Missing => Value::Refused(Refusal::Form),
+        Numeral::Missing => Value::Refused(Refusal::Form, at),
     }
 }
 

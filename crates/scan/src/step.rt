@@ -1,16 +1,16 @@
 // How far reading has come.
 use block::refusal::Refusal;
 
-// The next place of the text, or the refusal that ends reading.
+// The next place of the text; or the refusal that ends reading, and the place of the field that it ends at.
 pub enum Step {
     Next(usize),
-    Refused(Refusal),
+    Refused(Refusal, usize),
 }
 
-// A byte of the block and the next place of the text, or the refusal.
+// A byte of the block and the next place of the text; or the refusal and its place.
 pub enum Value {
     At(usize, usize),
-    Refused(Refusal),
+    Refused(Refusal, usize),
 }
 
 // A byte of the block, or what stands in for it after a refusal, and the step past it.

@@ -27,7 +27,7 @@ pub fn past_word(text: &[u8], at: Step, w: &[u8]) -> Step
 {
     match at {
         Step::Next(next) => word(text, next, w),
-        Step::Refused(r) => Step::Refused(r),
+        Step::Refused(r, stop) => Step::Refused(r, stop),
     }
 }
 
@@ -39,7 +39,7 @@ pub fn past_index(text: &[u8], at: Step, n: usize) -> Step
 {
     match at {
         Step::Next(next) => index(text, next, n),
-        Step::Refused(r) => Step::Refused(r),
+        Step::Refused(r, stop) => Step::Refused(r, stop),
     }
 }
 
@@ -52,7 +52,7 @@ pub fn value_at(text: &[u8], at: Step, job: &mut [u8], x: Place, range: Range) -
 {
     match at {
         Step::Next(next) => field(text, next, job, x, range),
-        Step::Refused(r) => Value::Refused(r),
+        Step::Refused(r, stop) => Value::Refused(r, stop),
     }
 }
 
@@ -75,7 +75,7 @@ pub fn past_bound(text: &[u8], at: Step, job: &mut [u8], x: Place) -> Step
 {
     match at {
         Step::Next(next) => past_value(bound(text, next, job, x)),
-        Step::Refused(r) => Step::Refused(r),
+        Step::Refused(r, stop) => Step::Refused(r, stop),
     }
 }
 
@@ -87,7 +87,7 @@ pub fn kind_at(text: &[u8], at: Step, job: &mut [u8], x: Place) -> Value
 {
     match at {
         Step::Next(next) => kind(text, next, job, x),
-        Step::Refused(r) => Value::Refused(r),
+        Step::Refused(r, stop) => Value::Refused(r, stop),
     }
 }
 
@@ -97,7 +97,7 @@ pub fn past_value(v: Value) -> Step
 {
     match v {
         Value::At(_, next) => Step::Next(next),
-        Value::Refused(r) => Step::Refused(r),
+        Value::Refused(r, stop) => Step::Refused(r, stop),
     }
 }
 
@@ -107,6 +107,6 @@ pub fn value_or(d: usize, v: Value) -> usize
 {
     match v {
         Value::At(n, _) => n,
-        Value::Refused(_) => d,
+        Value::Refused(_, _) => d,
     }
 }

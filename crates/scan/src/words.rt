@@ -50,6 +50,6 @@ pub fn word(text: &[u8], at: usize, word: &[u8]) -> Step
 {
     match word_or(text, at, word, 0, Numeral::Missing) {
         Numeral::Found(_, next) => Step::Next(next),
-        Numeral::Missing => Step::Refused(Refusal::Form),
+        Numeral::Missing => Step::Refused(Refusal::Form, at),
     }
 }

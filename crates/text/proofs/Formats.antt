@@ -112,7 +112,7 @@ written (value x p k) b (field a i c h) g =
 abbrev Shown : Format → Block → Block → List ℕ → Type 0
 Shown f b₀ b t = Spells f b t × (length b ≡ blockBytes) × ((n : ℕ) → Avoids n f b → byteAt b n ≡ byteAt b₀ n)
 
-pub never : {A : Type 0} (r : Refusal) (b : Block) → refused r ≡ accepted b → A
+pub never : {A : Type 0} (r : Refusal) {t : List ℕ} (b : Block) → refused r t ≡ accepted b → A
 never r b e = let z : _≡_ {A = ℕ} 0 1 = cc in absurd (omega arith)
 
 pub stored : (b : Block) (p : Place) (v : ℕ) → length b ≡ blockBytes → InLayout p → at (store b p v) p ≡ v
@@ -126,7 +126,7 @@ sound-value : (x : Spelling) (p : Place) (k : ℕ → Format) (b₀ b : Block) (
 sound-value x p k b₀ b t i h l ih = on (search (x .spell) (x .options) t) refl
   where
     goes : (o : ℕ) (rest : List ℕ) (a : Bool) → x .allowed o ≡ a → search (x .spell) (x .options) t ≡ found o rest →
-        cond a (read (k (x .byte o)) (store b₀ p (x .byte o)) rest) (refused (x .refusal)) ≡ accepted b → Shown (value x p k) b₀ b t
+        cond a (read (k (x .byte o)) (store b₀ p (x .byte o)) rest) (refused (x .refusal) t) ≡ accepted b → Shown (value x p k) b₀ b t
     goes o rest false q s e = never (x .refusal) b e
     goes o rest true q s e =
         let is = search-inv (x .spell) t (x .options) o rest s in
@@ -144,7 +144,7 @@ sound-value x p k b₀ b t i h l ih = on (search (x .spell) (x .options) t) refl
         )
 
     on : (r : Found) → search (x .spell) (x .options) t ≡ r →
-        onFound r (λ o rest. cond (x .allowed o) (read (k (x .byte o)) (store b₀ p (x .byte o)) rest) (refused (x .refusal))) ≡ accepted b → Shown (value x p k) b₀ b t
+        onFound r t (λ o rest. cond (x .allowed o) (read (k (x .byte o)) (store b₀ p (x .byte o)) rest) (refused (x .refusal) t)) ≡ accepted b → Shown (value x p k) b₀ b t
     on (found o rest) s e = goes o rest (x .allowed o) refl s e
     on missing s e = never Form b e
 

@@ -155,7 +155,7 @@ pub numbered : (t : List ℕ) → Numbered t
 numbered t = on (stop job blank t) refl
   where
     on : (s : Stop) → stop job blank t ≡ s → NumberedAt s (readText t)
-    on nowhere e = λ r. misread job blank t r e
+    on nowhere e = λ r rest. misread job blank t r rest e
     on (stopped p b u) e =
         let h = halted job blank t p b u job-proper blank-length e in
         let field = along-every (Told b u) (h .along) (job-every _ b .1 (told b u)) (h .in-layout) (h .barred) in

@@ -45,7 +45,7 @@ pub record Barred (x : Spelling) (v : ℕ) (t : List ℕ) : Type 0 where
 
 pub record Halted (n : ℕ) (f : Format) (b₀ : Block) (p : Place) (b : Block) (t : List ℕ) (out : Outcome) : Type 0 where
   pub spelling : Spelling
-  pub refuses : out ≡ refused (spelling .refusal)
+  pub refuses : out ≡ refused (spelling .refusal) t
   pub in-layout : InLayout p
   pub barred : Barred spelling (at b p) t
   pub along : Along b spelling p f
@@ -64,7 +64,7 @@ module _ {n : ℕ} (x : Spelling) (q : Place) (k : ℕ → Format) (b₀ : Block
     (s : length b₀ ≡ blockBytes) where
   -- reading stops at this field
   at-field : (o : ℕ) → o < x .options → Starts (x .spell o) t₀ → x .allowed o ≡ false → stopped q (store b₀ q (x .byte o)) t₀ ≡ stopped p b t →
-      Halted n (value x q k) b₀ p b t (refused (x .refusal))
+      Halted n (value x q k) b₀ p b t (refused (x .refusal) t₀)
   at-field o few begins bar e =
       let place : q ≡ p = cc in
       let block : store b₀ q (x .byte o) ≡ b = cc in
@@ -101,7 +101,7 @@ module _ {n : ℕ} (x : Spelling) (q : Place) (k : ℕ → Format) (b₀ : Block
     where
       goes : (o : ℕ) (rest : List ℕ) (a : Bool) → x .allowed o ≡ a → search (x .spell) (x .options) t₀ ≡ found o rest →
           cond a (stop (k (x .byte o)) (store b₀ q (x .byte o)) rest) (stopped q (store b₀ q (x .byte o)) t₀) ≡ stopped p b t →
-          Halted n (value x q k) b₀ p b t (cond a (read (k (x .byte o)) (store b₀ q (x .byte o)) rest) (refused (x .refusal)))
+          Halted n (value x q k) b₀ p b t (cond a (read (k (x .byte o)) (store b₀ q (x .byte o)) rest) (refused (x .refusal) t₀))
       goes o rest true a f e =
           let is = search-inv (x .spell) t₀ (x .options) o rest f in
           let may : T (x .allowed o) = rw a tt in
@@ -113,7 +113,7 @@ module _ {n : ℕ} (x : Spelling) (q : Place) (k : ℕ → Format) (b₀ : Block
 
       on : (r : Found) → search (x .spell) (x .options) t₀ ≡ r →
           stopFound r (λ o rest. cond (x .allowed o) (stop (k (x .byte o)) (store b₀ q (x .byte o)) rest) (stopped q (store b₀ q (x .byte o)) t₀)) ≡ stopped p b t →
-          Halted n (value x q k) b₀ p b t (onFound r (λ o rest. cond (x .allowed o) (read (k (x .byte o)) (store b₀ q (x .byte o)) rest) (refused (x .refusal))))
+          Halted n (value x q k) b₀ p b t (onFound r t₀ (λ o rest. cond (x .allowed o) (read (k (x .byte o)) (store b₀ q (x .byte o)) rest) (refused (x .refusal) t₀)))
       on (found o rest) f e = goes o rest (x .allowed o) refl f e
       on missing f e = nowhere-stopped p b t e
 
@@ -133,33 +133,33 @@ halted {n} (exactly w f) b₀ t₀ p b t (word h) s e = on (λ rest. halted f b�
     }
 
     on : ((rest : List ℕ) → stop f b₀ rest ≡ stopped p b t → Halted n f b₀ p b t (read f b₀ rest)) →
-        (r : Found) → stopFound r (λ o rest. stop f b₀ rest) ≡ stopped p b t → Halted n (exactly w f) b₀ p b t (onFound r (λ o rest. read f b₀ rest))
+        (r : Found) → stopFound r (λ o rest. stop f b₀ rest) ≡ stopped p b t → Halted n (exactly w f) b₀ p b t (onFound r t₀ (λ o rest. read f b₀ rest))
     on ih (found o rest) e = past-this (ih rest e)
     on ih missing e = nowhere-stopped p b t e
 halted (value x q k) b₀ t₀ p b t (field l i c h) s e =
     halted-value x q k b₀ t₀ p b t l i s h (λ v b₁ rest. halted (k v) b₁ rest p b t) e
 
 -- a text that is refused, and not at a value, is refused for its form
-pub misread : (f : Format) (b : Block) (t : List ℕ) (r : Refusal) → stop f b t ≡ nowhere → read f b t ≡ refused r → r ≡ Form
-misread end b [] r e h = never r b (sym h)
-misread end b (x ∷ t) r e h = cc
-misread (exactly w f) b t r e h = on (λ rest. misread f b rest r) (after 0 w t missing) e h
+pub misread : (f : Format) (b : Block) (t : List ℕ) (r : Refusal) (u : List ℕ) → stop f b t ≡ nowhere → read f b t ≡ refused r u → r ≡ Form
+misread end b [] r u e h = never r b (sym h)
+misread end b (x ∷ t) r u e h = cc
+misread (exactly w f) b t r u e h = on (λ rest. misread f b rest r u) (after 0 w t missing) e h
   where
-    on : ((rest : List ℕ) → stop f b rest ≡ nowhere → read f b rest ≡ refused r → r ≡ Form) →
-        (x : Found) → stopFound x (λ o rest. stop f b rest) ≡ nowhere → onFound x (λ o rest. read f b rest) ≡ refused r → r ≡ Form
+    on : ((rest : List ℕ) → stop f b rest ≡ nowhere → read f b rest ≡ refused r u → r ≡ Form) →
+        (x : Found) → stopFound x (λ o rest. stop f b rest) ≡ nowhere → onFound x t (λ o rest. read f b rest) ≡ refused r u → r ≡ Form
     on ih (found o rest) e h = ih rest e h
     on ih missing e h = cc
-misread (value x p k) b t r e h = on (λ v b₁ rest. misread (k v) b₁ rest r) (search (x .spell) (x .options) t) e h
+misread (value x p k) b t r u e h = on (λ v b₁ rest. misread (k v) b₁ rest r u) (search (x .spell) (x .options) t) e h
   where
-    goes : ((v : ℕ) (b₁ : Block) (rest : List ℕ) → stop (k v) b₁ rest ≡ nowhere → read (k v) b₁ rest ≡ refused r → r ≡ Form) →
+    goes : ((v : ℕ) (b₁ : Block) (rest : List ℕ) → stop (k v) b₁ rest ≡ nowhere → read (k v) b₁ rest ≡ refused r u → r ≡ Form) →
         (o : ℕ) (rest : List ℕ) (a : Bool) →
         cond a (stop (k (x .byte o)) (store b p (x .byte o)) rest) (stopped p (store b p (x .byte o)) t) ≡ nowhere →
-        cond a (read (k (x .byte o)) (store b p (x .byte o)) rest) (refused (x .refusal)) ≡ refused r → r ≡ Form
+        cond a (read (k (x .byte o)) (store b p (x .byte o)) rest) (refused (x .refusal) t) ≡ refused r u → r ≡ Form
     goes ih o rest true e h = ih (x .byte o) (store b p (x .byte o)) rest e h
     goes ih o rest false e h = nowhere-stopped p (store b p (x .byte o)) t (sym e)
 
-    on : ((v : ℕ) (b₁ : Block) (rest : List ℕ) → stop (k v) b₁ rest ≡ nowhere → read (k v) b₁ rest ≡ refused r → r ≡ Form) →
+    on : ((v : ℕ) (b₁ : Block) (rest : List ℕ) → stop (k v) b₁ rest ≡ nowhere → read (k v) b₁ rest ≡ refused r u → r ≡ Form) →
         (y : Found) → stopFound y (λ o rest. cond (x .allowed o) (stop (k (x .byte o)) (store b p (x .byte o)) rest) (stopped p (store b p (x .byte o)) t)) ≡ nowhere →
-        onFound y (λ o rest. cond (x .allowed o) (read (k (x .byte o)) (store b p (x .byte o)) rest) (refused (x .refusal))) ≡ refused r → r ≡ Form
+        onFound y t (λ o rest. cond (x .allowed o) (read (k (x .byte o)) (store b p (x .byte o)) rest) (refused (x .refusal) t)) ≡ refused r u → r ≡ Form
     on ih (found o rest) e h = goes ih o rest (x .allowed o) e h
     on ih missing e h = cc

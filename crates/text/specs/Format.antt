@@ -43,27 +43,27 @@ Spells (exactly w f) b t = (rest : List ℕ) × (t ≡ w ++ rest) × Spells f b 
 Spells (value x p k) b t =
     (o : ℕ) × (o < x .options) × T (x .allowed o) × (x .byte o ≡ at b p) × (rest : List ℕ) × (t ≡ x .spell o ++ rest) × Spells (k (at b p)) b rest
 
--- what reading a text comes to
+-- what reading a text comes to; a refusal has the text from the field on at which reading stops
 pub data Outcome : Type 0 where
   accepted : Block → Outcome
-  refused : Refusal → Outcome
+  refused : Refusal → List ℕ → Outcome
 
 abbrev pub store : Block → Place → ℕ → Block
 store b p v = set b (placeOf p) v
 
--- how reading goes on from what was found; a text that does not have the form is refused
-abbrev pub onFound : Found → (ℕ → List ℕ → Outcome) → Outcome
-onFound (found o t) f = f o t
-onFound missing f = refused Form
+-- how reading goes on from what was found in a text; one that does not have the form is refused
+abbrev pub onFound : Found → List ℕ → (ℕ → List ℕ → Outcome) → Outcome
+onFound (found o rest) t f = f o rest
+onFound missing t f = refused Form t
 
 -- reading a text into a block
 abbrev pub read : Format → Block → List ℕ → Outcome
 read end b [] = accepted b
-read end b (x ∷ t) = refused Form
-read (exactly w f) b t = onFound (after 0 w t missing) (λ o rest. read f b rest)
+read end b (x ∷ t) = refused Form (x ∷ t)
+read (exactly w f) b t = onFound (after 0 w t missing) t (λ o rest. read f b rest)
 read (value x p k) b t =
-    onFound (search (x .spell) (x .options) t)
-    (λ o rest. cond (x .allowed o) (read (k (x .byte o)) (store b p (x .byte o)) rest) (refused (x .refusal)))
+    onFound (search (x .spell) (x .options) t) t
+    (λ o rest. cond (x .allowed o) (read (k (x .byte o)) (store b p (x .byte o)) rest) (refused (x .refusal) t))
 
 -- where reading comes to a value that may not stand there: its place, the block read so far with the value's byte, and the text from the value on
 pub data Stop : Type 0 where

@@ -1,13 +1,13 @@
 -- The text of a block, reading a text, and what the read call promises.
 use mathlib.Core.Bool.{cond, not}
-use mathlib.Core.List.{List}
+use mathlib.Core.List.{List, [], _∷_}
 use mathlib.Core.Logic.{_⊎_, _↔_}
 use mathlib.Core.Path.{_≡_}
-use Prim.Native.Nat.{ℕ}
+use Prim.Native.Nat.{ℕ, _≤_, _<_}
 use lib.Dec.{ltb, eqb}
-use lib.ListN.{length, replicate}
+use lib.ListN.{length, drop, replicate}
 use Rattle.block.specs.Layout.{Block, blockBytes}
-use Rattle.block.specs.Refusal.{Meets}
+use Rattle.block.specs.Refusal.{Rule, _when_, Meets}
 use Rattle.block.specs.Check.{blockRules, Passes}
 use Rattle.block.specs.declared.refusal.Refusal.{Refusal}
 use Rattle.block.specs.declared.refusal.Refusal.the-variants.{Length, Form}
@@ -34,16 +34,25 @@ readText t = read job blank t
 
 -- the read call: 1 for a text that is too long or a block of another length, else what reading comes to
 abbrev pub readCall : List ℕ → Block → Outcome
-readCall t b = cond (either (ltb textBytes (length t)) (not (eqb (length b) blockBytes))) (refused Length) (readText t)
+readCall t b = cond (either (ltb textBytes (length t)) (not (eqb (length b) blockBytes))) (refused Length t) (readText t)
 
 -- the answer of a call that comes to an outcome, and the lent block afterwards
 abbrev pub answerTo : Outcome → Answer
 answerTo (accepted b) = Value 0
-answerTo (refused r) = Refused r
+answerTo (refused r rest) = Refused r
 
 abbrev pub blockAfter : Block → Outcome → Block
 blockAfter b (accepted c) = c
-blockAfter b (refused r) = b
+blockAfter b (refused r rest) = b
+
+-- the place n of a text at which reading stops: that of the field from which on it is refused, or its end where it is accepted
+abbrev pub StopsAt : List ℕ → Outcome → ℕ → Type 0
+StopsAt t (accepted b) n = n ≡ length t
+StopsAt t (refused r rest) n = (n ≤ length t) × (rest ≡ drop n t)
+
+-- a text that is too long is not looked at
+abbrev pub stopRules : List ℕ → List Rule
+stopRules t = Length when (textBytes < length t) ∷ []
 
 -- a text is accepted as a block exactly where the block passes and the text is one of its texts
 abbrev pub Exact : List ℕ → Type 0
@@ -52,8 +61,8 @@ Exact t = (b : Block) → (readText t ≡ accepted b) ↔ (Passes b × Spells jo
 -- a text that is refused at a value gets the number of the condition that the block read so far, with that value's byte, meets at that very place;
 -- one that is refused elsewhere gets the number of the form
 abbrev pub NumberedAt : Stop → Outcome → Type 0
-NumberedAt nowhere o = (r : Refusal) → o ≡ refused r → r ≡ Form
-NumberedAt (stopped p b t) o = (r : Refusal) × (o ≡ refused r) × ((BrokenAt b p r × Meets (blockRules b) r) ⊎ UnlimitedNumber b t p r)
+NumberedAt nowhere o = (r : Refusal) (rest : List ℕ) → o ≡ refused r rest → r ≡ Form
+NumberedAt (stopped p b t) o = (r : Refusal) × (o ≡ refused r t) × ((BrokenAt b p r × Meets (blockRules b) r) ⊎ UnlimitedNumber b t p r)
 
 abbrev pub Numbered : List ℕ → Type 0
 Numbered t = NumberedAt (stop job blank t) (readText t)

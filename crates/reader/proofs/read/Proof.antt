@@ -24,36 +24,35 @@ read-into-requires c κs = search needs
 enum-told : tie.Need-enum-told
 enum-told c = search needs
 
-returns-3 : tie.Need-returns-3
-unfolding blank
-returns-3 c =
-    let g = c .before .before .before .before .before .before .before .before .before .args in
-    let told = c .enum-told .given .1 in
-    let is : readCall (g .text .now) (g .block .now) ≡ refused _ =
-    read-whole (g .text .now) (g .block .now) (c .before .before .before .before .before .before .if1 .left) (c .before .before .before .before .before .if2 .left) ∙ (rw told at (c .before .before .before .read-into .ensures)) in
-    rw is (told, (refl, (accepts _, numbered _)))
-
-enum-told-2 : tie.Need-enum-told-2
-enum-told-2 c = search needs
-
 slice-aggregate-copy : tie.Need-slice-aggregate-copy
 slice-aggregate-copy c = search needs
 
 copy-requires : tie.Need-copy-requires
 copy-requires c κs = search needs
 
+enum-known-r : tie.Need-enum-known-r
+enum-known-r c = search needs
+
 same-length : tie.Need-same-length
 same-length c = search needs
 
-returns-4 : tie.Need-returns-4
+returns-3 : tie.Need-returns-3
 unfolding blank
-returns-4 c =
+returns-3 c =
     let call = c .before .before .before .before .before .before .before .before .read-into in
     let g = c .before .before .before .before .before .before .before .before .before .before .before .before .before .before .args in
     let job = call .last .1 .0 in
     let is : readCall (g .text .now) (g .block .now) ≡ accepted job =
-    read-whole (g .text .now) (g .block .now) (c .before .before .before .before .before .before .before .before .before .before .before .if1 .left) (c .before .before .before .before .before .before .before .before .before .before .if2 .left) ∙ (rw (c .before .before .before .before .before .enum-told2 .given .1) at (call .ensures)) in
+    read-whole (g .text .now) (g .block .now) (c .before .before .before .before .before .before .before .before .before .before .before .if1 .left) (c .before .before .before .before .before .before .before .before .before .before .if2 .left) ∙ (rw (c .before .before .before .before .before .enum-told .given .1) at (call .ensures .0)) in
     rw is (refl, (c .before .before .copy .ensures .1 ∙ copied job (g .block .now) (call .kept .1 .0 ∙ sym (c .before .before .before .before .before .before .before .before .before .before .if2 .left)), (accepts _, numbered _)))
+
+returns-4 : tie.Need-returns-4
+unfolding blank
+returns-4 c =
+    let g = c .before .before .before .before .before .before .before .before .before .before .args in
+    let is : readCall (g .text .now) (g .block .now) ≡ refused _ _ =
+    read-whole (g .text .now) (g .block .now) (c .before .before .before .before .before .before .before .if1 .left) (c .before .before .before .before .before .before .if2 .left) ∙ (rw (c .before .r .given .1) at (c .before .before .before .before .read-into .ensures .0)) in
+    rw is (refl, (refl, (accepts _, numbered _)))
 
 pub read-spec : {M : Type 1} → statement M
 read-spec =
@@ -64,9 +63,9 @@ read-spec =
     slice-aggregate-read-into
     read-into-requires
     enum-told
-    returns-3
-    enum-told-2
     slice-aggregate-copy
     copy-requires
+    enum-known-r
     same-length
+    returns-3
     returns-4)

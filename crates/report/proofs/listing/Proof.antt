@@ -1,5 +1,5 @@
 -- `listing` refuses first, and then lists the job that was read. Assumes nothing.
-use mathlib.Core.Path.{_≡_, refl, sym, ap, _∙_}
+use mathlib.Core.Path.{_≡_, refl, sym, ap, subst, _∙_}
 use Prim.Native.Nat.{ℕ}
 use lib.ListN.{replicate}
 use Rattle.block.specs.Refusal.{value}
@@ -7,9 +7,8 @@ use Rattle.block.specs.declared.refusal.Answer.{Answer}
 use Rattle.block.specs.declared.refusal.Answer.the-variants.{Value, Refused}
 use Rattle.block.proofs.Refusals.{no-refusal, turned-down, past, room-left, room-cleared}
 use Rattle.text.specs.Format.{accepted, refused}
-use Rattle.text.specs.Inner.Reading.{outcomeOf}
 use Rattle.text.specs.Text.{blank, readCall}
-use Rattle.report.proofs.Printing.{outcome-is, read-valid, called}
+use Rattle.report.proofs.Printing.{Tells, outcome-told, read-valid, called}
 use borrow.Author.Needs.{needs}
 use Rattle.report.proofs.listing.Statement.{statement}
 use Rattle.report.proofs.listing.Tie as tie
@@ -38,12 +37,12 @@ enum-told : tie.Need-enum-told
 enum-told c = search needs
 
 -- what reading came to, and that it was accepted
-came : (c : tie.After-block2) → readCall (c .before .before .before .before .before .before .before .before .before .before .args .text .now) blank ≡ outcomeOf (c .before .read .result) (c .before .read .last .1 .0)
+came : (c : tie.After-block2) → Tells (c .before .read .result) (c .before .read .last .1 .0) (readCall (c .before .before .before .before .before .before .before .before .before .before .args .text .now) blank)
 unfolding blank
-came c = outcome-is (readCall (c .before .before .before .before .before .before .before .before .before .before .args .text .now) blank) blank (c .before .read .last .1 .0) (c .before .read .result) (c .before .read .ensures .0) (c .before .read .ensures .1 .0)
+came c = outcome-told (readCall (c .before .before .before .before .before .before .before .before .before .before .args .text .now) blank) blank (c .before .read .last .1 .0) (c .before .read .result) (c .before .read .ensures .0) (c .before .read .ensures .1 .0)
 
 accepted-as : (c : tie.After-enum-told) → readCall (c .before .before .before .before .before .before .before .before .before .before .before .before .args .text .now) blank ≡ accepted (c .before .before .before .read .last .1 .0)
-accepted-as c = came (c .before .before) ∙ ap (λ (a : Answer). outcomeOf a (c .before .before .before .read .last .1 .0)) (c .enum-told .given .1)
+accepted-as c = subst (λ (a : Answer). Tells a (c .before .before .before .read .last .1 .0) (readCall (c .before .before .before .before .before .before .before .before .before .before .before .before .args .text .now) blank)) (c .enum-told .given .1) (came (c .before .before))
 
 slice-aggregate-list-job : tie.Need-slice-aggregate-list-job
 slice-aggregate-list-job c = search needs
@@ -90,9 +89,9 @@ returns-5 : tie.Need-returns-5
 returns-5 c =
     let args = c .before .before .before .before .before .before .before .before .before .before .before .before .before .before .before .before .before .before .before .before .before .args in
     let told = c .before .before .before .before .before .before .before .before .before .r .given in
+    let (stop, is) = subst (λ (a : Answer). Tells a (c .before .before .before .before .before .before .before .before .before .before .before .before .read .last .1 .0) (readCall (args .text .now) blank)) (told .1) (came (c .before .before .before .before .before .before .before .before .before .before .before)) in
     record {
-      answer = called (args .text .now) (args .out .now) (args .ranks .now) (args .moves .now) (c .before .before .before .before .before .before .before .before .before .before .before .before .before .before .before .before .if1 .left) (c .before .before .before .before .before .before .before .before .before .before .before .before .before .before .before .if2 .left) (c .before .before .before .before .before .before .before .before .before .before .before .before .before .before .if3 .left) (refused (told .0 .0)) (args .out .now) (Refused (told .0 .0))
-          (came (c .before .before .before .before .before .before .before .before .before .before .before) ∙ ap (λ (a : Answer). outcomeOf a (c .before .before .before .before .before .before .before .before .before .before .before .before .read .last .1 .0)) (told .1)) refl;
+      answer = called (args .text .now) (args .out .now) (args .ranks .now) (args .moves .now) (c .before .before .before .before .before .before .before .before .before .before .before .before .before .before .before .before .if1 .left) (c .before .before .before .before .before .before .before .before .before .before .before .before .before .before .before .if2 .left) (c .before .before .before .before .before .before .before .before .before .before .before .before .before .before .if3 .left) (refused (told .0 .0) stop) (args .out .now) (Refused (told .0 .0)) is refl;
       kept = refl;
       ranks-after = c .before .before .before .before .before .before .leave .ensures;
       moves-after = c .before .before .leave2 .ensures;

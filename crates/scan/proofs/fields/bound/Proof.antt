@@ -35,7 +35,7 @@ returns-2 c =
     let g = c .before .before .before .before .before .before .before .before .args in
     let t = drop (g .at) (g .text .now) in
     let there = rw told at (call .0) in
-    (λ k. value-refused bound (g .x) k (g .job .now) t _ _ there (bound-large (c .if2 .taken) (c .before .if1 .left)), tt)
+    (λ k. value-refused bound (g .x) k (g .job .now) t _ _ there (bound-large (c .if2 .taken) (c .before .if1 .left)), c .before .before .before .before .before .before .before .before .pre .0)
 
 put-requires-2 : tie.Need-put-requires-2
 put-requires-2 c κs = search needs
@@ -62,7 +62,7 @@ returns-4 c =
     let g = c .before .before .before .before .before .args in
     let t = drop (g .at) (g .text .now) in
     let there = rw told at (call .0) in
-    (λ k. value-missing bound (g .x) k (g .job .now) t there, tt)
+    (λ k. value-missing bound (g .x) k (g .job .now) t there, c .before .before .before .before .before .pre .0)
 
 pub bound-spec : {M : Type 1} → statement M
 bound-spec =

@@ -23,7 +23,7 @@ returns c =
     let g = c .before .before .before .before .before .before .before .before .args in
     let t = drop (g .at) (g .text .now) in
     let there = rw told at (call .0) in
-    (λ k. value-refused (number (g .range .sep) (g .range .low) (g .range .limit) (g .range .refusal)) (g .x) k (g .job .now) t _ _ there (below-range (g .range .limit) (c .if1 .taken)), (tt, tt))
+    (λ k. value-refused (number (g .range .sep) (g .range .low) (g .range .limit) (g .range .refusal)) (g .x) k (g .job .now) t _ _ there (below-range (g .range .limit) (c .if1 .taken)), (c .before .before .before .before .before .before .before .before .pre .0 .0, tt))
 
 returns-2 : tie.Need-returns-2
 returns-2 c =
@@ -32,7 +32,7 @@ returns-2 c =
     let g = c .before .before .before .before .before .before .before .before .before .before .args in
     let t = drop (g .at) (g .text .now) in
     let there = rw told at (call .0) in
-    (λ k. value-refused (number (g .range .sep) (g .range .low) (g .range .limit) (g .range .refusal)) (g .x) k (g .job .now) t _ _ there (above-range (c .before .before .if1 .left) (c .if2 .taken)), (tt, tt))
+    (λ k. value-refused (number (g .range .sep) (g .range .low) (g .range .limit) (g .range .refusal)) (g .x) k (g .job .now) t _ _ there (above-range (c .before .before .if1 .left) (c .if2 .taken)), (c .before .before .before .before .before .before .before .before .before .before .pre .0 .0, tt))
 
 put-requires : tie.Need-put-requires
 put-requires c κs =
@@ -67,7 +67,7 @@ returns-4 c =
     let g = c .before .before .before .before .before .args in
     let t = drop (g .at) (g .text .now) in
     let there = rw told at (call .0) in
-    (λ k. value-missing (number (g .range .sep) (g .range .low) (g .range .limit) (g .range .refusal)) (g .x) k (g .job .now) t there, (tt, tt))
+    (λ k. value-missing (number (g .range .sep) (g .range .low) (g .range .limit) (g .range .refusal)) (g .x) k (g .job .now) t there, (c .before .before .before .before .before .pre .0 .0, tt))
 
 pub field-spec : {M : Type 1} → statement M
 field-spec =

@@ -37,7 +37,7 @@ returns-2 c =
     let t = drop (g .at) (g .text .now) in
     let there = rw told at (call .0) in
     let is = search-inv (λ n. decimal n ++ comma ∷ []) t 256 _ _ there in
-    (λ f b. index-not (g .n) t f b (λ s. c .if1 .left (only-one comma (lit< tt) _ (g .n) (is .0) (search needs) t (_, is .1) s)), tt)
+    (λ f b. index-not (g .n) t f b (λ s. c .if1 .left (only-one comma (lit< tt) _ (g .n) (is .0) (search needs) t (_, is .1) s)), c .before .before .before .before .before .before .pre .0)
 
 returns-3 : tie.Need-returns-3
 returns-3 c =
@@ -46,7 +46,7 @@ returns-3 c =
     let g = c .before .before .before .before .args in
     let t = drop (g .at) (g .text .now) in
     let there = rw told at (call .0) in
-    (λ f b. index-not (g .n) t f b (search-none (λ n. decimal n ++ comma ∷ []) t 256 there (g .n) (search needs)), tt)
+    (λ f b. index-not (g .n) t f b (search-none (λ n. decimal n ++ comma ∷ []) t 256 there (g .n) (search needs)), c .before .before .before .before .pre .0)
 
 pub index-spec : {M : Type 1} → statement M
 index-spec =

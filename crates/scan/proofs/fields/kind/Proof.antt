@@ -49,7 +49,7 @@ returns-2 c =
     let g = c .before .before .before .before .before .args in
     let t = drop (g .at) (g .text .now) in
     let there = rw told at (call .0) in
-    (λ k. value-missing kindSpelling (g .x) k (g .job .now) t there, (tt, tt))
+    (λ k. value-missing kindSpelling (g .x) k (g .job .now) t there, (c .before .before .before .before .before .pre .0, tt))
 
 pub kind-spec : {M : Type 1} → statement M
 kind-spec =

@@ -29,7 +29,7 @@ returns c =
     (λ f. call .ensures .0 (λ v. f) ∙ with-law t (call .result) 0 (λ v rest. read f _ rest), past-inside t (call .result) (call .ensures .1))
 
 returns-2 : tie.Need-returns-2
-returns-2 c = rw (c .before .at2 .given .1) (λ f. refl, tt)
+returns-2 c = rw (c .before .at2 .given .1) (λ f. refl, rw (c .before .at2 .given .1) at (c .before .before .before .before .before .pre .0))
 
 pub past-bound-spec : {M : Type 1} → statement M
 past-bound-spec =

@@ -19,7 +19,7 @@ returns : tie.Need-returns
 returns c = rw (c .before .before .at .given .1) (c .index .ensures)
 
 returns-2 : tie.Need-returns-2
-returns-2 c = rw (c .before .at2 .given .1) (λ f b. refl, tt)
+returns-2 c = rw (c .before .at2 .given .1) (λ f b. refl, rw (c .before .at2 .given .1) at (c .before .before .before .before .pre .0))
 
 pub past-index-spec : {M : Type 1} → statement M
 past-index-spec =

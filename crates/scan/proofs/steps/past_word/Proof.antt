@@ -17,7 +17,7 @@ returns : tie.Need-returns
 returns c = rw (c .before .before .at .given .1) (c .word .ensures)
 
 returns-2 : tie.Need-returns-2
-returns-2 c = rw (c .before .at2 .given .1) (λ f b. refl, tt)
+returns-2 c = rw (c .before .at2 .given .1) (λ f b. refl, rw (c .before .at2 .given .1) at (c .before .before .before .before .before .pre))
 
 pub past-word-spec : {M : Type 1} → statement M
 past-word-spec = tie.close (tie.spec enum-known-at word-requires enum-known-at-2 returns returns-2)

@@ -28,7 +28,7 @@ returns c =
     )
 
 returns-2 : tie.Need-returns-2
-returns-2 c = rw (c .before .at2 .given .1) (λ d k. refl, (tt, tt))
+returns-2 c = rw (c .before .at2 .given .1) (λ d k. refl, (rw (c .before .at2 .given .1) at (c .before .before .before .before .before .pre .0 .0), tt))
 
 pub value-at-spec : {M : Type 1} → statement M
 value-at-spec =
