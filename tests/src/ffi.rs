@@ -5,6 +5,7 @@ mod lookup;
 extern "C" {
     fn rbatl_check(block: *const u8, block_len: usize) -> i32;
     fn rbatl_read(text: *const u8, text_len: usize, block: *mut u8, block_len: usize) -> i32;
+    fn rbatl_read_at(text: *const u8, text_len: usize) -> i32;
     fn rbatl_write(block: *const u8, block_len: usize, text: *mut u8, text_len: usize) -> i32;
     fn rbatl_list(
         text: *const u8,
@@ -29,6 +30,12 @@ pub fn read(text: &[u8], block: &mut [u8]) -> i32 {
     // SAFETY: each pointer is valid for the length beside it, and the block,
     // borrowed mutably, overlaps no text.
     unsafe { rbatl_read(text.as_ptr(), text.len(), block.as_mut_ptr(), block.len()) }
+}
+
+/// The place of the text where reading stops, or minus the refusal number.
+pub fn read_at(text: &[u8]) -> i32 {
+    // SAFETY: the pointer is valid for the length beside it; the call writes nothing.
+    unsafe { rbatl_read_at(text.as_ptr(), text.len()) }
 }
 
 /// The length of the text, or minus the refusal number.

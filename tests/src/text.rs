@@ -47,19 +47,37 @@ pub fn write_call(block: &[u8], text: &mut [u8]) -> i32 {
     written.len() as i32
 }
 
+/// The call that tells where reading stops: the place of the field that is
+/// refused, the length of a text that is accepted, or minus 1.
+pub fn read_at_call(text: &[u8]) -> i32 {
+    if text.len() > TEXT_BYTES {
+        return -i32::from(refusal::LENGTH);
+    }
+    let mut reader = Reader::of(text);
+    let left = match read_job(&mut reader) {
+        Ok(_) => 0,
+        Err(_) => reader.field.len(),
+    };
+    (text.len() - left) as i32
+}
+
 /// The block of a text, or the refusal number.
 pub fn read(text: &[u8]) -> Outcome<Vec<u8>> {
     refuse_if(text.len() > TEXT_BYTES, refusal::LENGTH)?;
-    let mut reader = Reader { rest: text };
+    read_job(&mut Reader::of(text))
+}
+
+fn read_job(reader: &mut Reader) -> Outcome<Vec<u8>> {
     let mut block = vec![0; BLOCK_BYTES];
-    read_sizes(&mut reader, &mut block)?;
+    read_sizes(reader, &mut block)?;
     let sizes = Sizes::of(&block);
     for state in 0..sizes.states {
-        read_state(&mut reader, &mut block, state)?;
+        read_state(reader, &mut block, state)?;
     }
     for i in 0..sizes.rows {
-        read_row(&mut reader, &mut block, i)?;
+        read_row(reader, &mut block, i)?;
     }
+    reader.begin();
     refuse_if(!reader.rest.is_empty(), refusal::FORM)?;
     Ok(block)
 }
@@ -71,13 +89,26 @@ fn refuse_if(bad: bool, number: u8) -> Outcome<()> {
     }
 }
 
-/// What is left of the text. Each field is read together with the comma or
-/// line end after it, since both belong to its form.
+/// What is left of the text, and the text from the field on that is being read.
+/// Each field is read together with the comma or line end after it, since both
+/// belong to its form.
 struct Reader<'a> {
     rest: &'a [u8],
+    field: &'a [u8],
 }
 
-impl Reader<'_> {
+impl<'a> Reader<'a> {
+    fn of(text: &'a [u8]) -> Reader<'a> {
+        Reader {
+            rest: text,
+            field: text,
+        }
+    }
+
+    fn begin(&mut self) {
+        self.field = self.rest;
+    }
+
     fn literal(&mut self, bytes: &[u8]) -> Outcome<()> {
         self.rest = self.rest.strip_prefix(bytes).ok_or(refusal::FORM)?;
         Ok(())
@@ -85,6 +116,7 @@ impl Reader<'_> {
 
     /// A line's word and its comma.
     fn word(&mut self, word: &str) -> Outcome<()> {
+        self.begin();
         let rest = self.rest.strip_prefix(word.as_bytes());
         let rest = rest.and_then(|rest| rest.strip_prefix(&[COMMA]));
         self.rest = rest.ok_or(refusal::FORM)?;
@@ -98,6 +130,7 @@ impl Reader<'_> {
 
     /// 0 to 255 without leading zeros, and the byte after it.
     fn number(&mut self, end: u8) -> Outcome<u8> {
+        self.begin();
         let digits = self.rest.iter().take_while(|b| b.is_ascii_digit()).count();
         let (field, rest) = self.rest.split_at(digits);
         refuse_if(digits > 1 && field[0] == b'0', refusal::FORM)?;

@@ -1,12 +1,13 @@
-//! `rbatl_read`, `rbatl_write` and `rbatl_list` beside the reader, the writer and
-//! the listing made from document 01: the same answers and the same lent buffers
-//! afterwards, on many texts and blocks.
+//! `rbatl_read`, `rbatl_read_at`, `rbatl_write` and `rbatl_list` beside the reader,
+//! the writer and the listing made from document 01: the same answers and the same
+//! lent buffers afterwards, on many texts and blocks.
 
 mod every;
 mod lengths;
 mod listings;
 mod random;
 mod round;
+mod stops;
 
 use rbatl_tests::answers::{assert_each_came, number};
 use rbatl_tests::layout::*;
