@@ -7,31 +7,31 @@
 static const char *refusal_words(int32_t number)
 {
     switch (number) {
-    case RBATL_LENGTH:
+    case RBATL_E_LENGTH:
         return "the text is longer than 32768 bytes";
-    case RBATL_SIZES:
+    case RBATL_E_SIZES:
         return "the number of agents, resources, states, propositions or rows is out of range";
-    case RBATL_STATE:
+    case RBATL_E_STATE:
         return "a state has an absent proposition, a count of actions that is not 1 to 4, "
                "a cost above 15, or an idle action with a cost";
-    case RBATL_NEXT:
+    case RBATL_E_NEXT:
         return "a next state does not exist";
-    case RBATL_ROW:
+    case RBATL_E_ROW:
         return "a row names a row that is not lower, an absent proposition, no agent or an "
                "absent one, or a bound above 15";
-    case RBATL_UNUSED:
+    case RBATL_E_UNUSED:
         return "an unused place of the block is not 0";
-    case RBATL_FORM:
+    case RBATL_E_FORM:
         return "the text does not have the form of a job";
-    case RBATL_ROW_CHOICE:
+    case RBATL_E_ROW_CHOICE:
         return "the row does not exist, or is of a kind that has no table";
-    case RBATL_POSITION:
+    case RBATL_E_POSITION:
         return "the state does not exist, or a stock is above its bound, or not 0 where the "
                "resource is unlimited";
-    case RBATL_WRONG_SIDE:
+    case RBATL_E_WRONG_SIDE:
         return "the coalition has a move only where it wins, and its opponents a reply only "
                "where it does not";
-    case RBATL_MOVE:
+    case RBATL_E_MOVE:
         return "the coalition's move is not available there, or not affordable";
     default:
         return "for a reason unknown to the desk";

@@ -142,15 +142,15 @@ static void try_position(struct run *run, const struct view *view, size_t positi
     bool won = is_won(view, position);
 
     ask(run, &move, &outcome);
-    expect(run, outcome.answer == (won ? (int32_t)view->moves[position] : -RBATL_WRONG_SIDE),
+    expect(run, outcome.answer == (won ? (int32_t)view->moves[position] : -RBATL_E_WRONG_SIDE),
            "move", "another move than the table's");
     reply.move = random_move(&run->random, view);
     ask(run, &reply, &outcome);
-    int32_t due = -RBATL_WRONG_SIDE;
+    int32_t due = -RBATL_E_WRONG_SIDE;
     if (!won)
         due = is_allowed(view, position, reply.move)
                   ? (int32_t)due_reply(view, position, reply.move)
-                  : -RBATL_MOVE;
+                  : -RBATL_E_MOVE;
     expect(run, outcome.answer == due, "reply", "another reply than is due");
 }
 
@@ -171,7 +171,7 @@ static void try_no_position(struct run *run, const struct view *view, size_t pos
                                       one_in(&run->random, 2) ? limits[which] : UINT8_MAX);
     request.move = draw_byte(&run->random);
     ask(run, &request, &outcome);
-    expect(run, outcome.answer == -RBATL_POSITION, entry_name(request.entry),
+    expect(run, outcome.answer == -RBATL_E_POSITION, entry_name(request.entry),
            "a position that there is not");
 }
 
@@ -203,7 +203,8 @@ static void try_table(struct run *run, const uint8_t *block, unsigned row, const
     for (size_t i = positions; i < RBATL_MOVES_BYTES; i++)
         expect(run, outcome.bytes[1][i] == 0, "table", "no zeros after the moves");
     for (unsigned state = 0; state < job_states(block); state++)
-        expect(run, is_won(&view, full_stock(block, row, state)) == (word_at(sets, row) >> state & 1),
+        expect(run,
+               is_won(&view, full_stock(block, row, state)) == (word_at(sets, row) >> state & 1),
                "label", "another set than the table's");
     try_entries(run, &view, positions);
     for (unsigned i = 0; i < 6; i++)
@@ -223,7 +224,7 @@ static void try_no_table(struct run *run, const uint8_t *block, unsigned row)
     request.stock1 = draw_byte(&run->random);
     request.move = draw_byte(&run->random);
     ask(run, &request, &outcome);
-    expect(run, outcome.answer == -RBATL_ROW_CHOICE, entry_name(request.entry),
+    expect(run, outcome.answer == -RBATL_E_ROW_CHOICE, entry_name(request.entry),
            "a row without a table");
 }
 
@@ -234,9 +235,9 @@ static void try_absent_row(struct run *run, const uint8_t *block)
     unsigned row = one_in(&run->random, 2) ? rows : within(&run->random, rows, UINT8_MAX);
 
     try_no_table(run, block, row);
-    expect(run, ask_block(run, STATES, block, row, &outcome) == -RBATL_ROW_CHOICE, "states",
+    expect(run, ask_block(run, STATES, block, row, &outcome) == -RBATL_E_ROW_CHOICE, "states",
            "an absent row");
-    expect(run, ask_block(run, REFUSAL, block, row, &outcome) == -RBATL_ROW_CHOICE,
+    expect(run, ask_block(run, REFUSAL, block, row, &outcome) == -RBATL_E_ROW_CHOICE,
            "states_refusal", "an absent row");
 }
 

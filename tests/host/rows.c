@@ -8,7 +8,9 @@
  * stocks 0 to 5. */
 static const uint32_t catch_sets[] = {4, 3, 7, 6, 7, 6};
 static const uint16_t catch_ranks[] = {
-    RBATL_NEVER, RBATL_NEVER, RBATL_NEVER, RBATL_NEVER, RBATL_NEVER, 2, RBATL_NEVER, RBATL_NEVER, RBATL_NEVER, 1, 1, 1, 0, 0, 0, 0, 0, 0,
+    RBATL_NEVER, RBATL_NEVER, RBATL_NEVER, RBATL_NEVER, RBATL_NEVER, 2,
+    RBATL_NEVER, RBATL_NEVER, RBATL_NEVER, 1, 1, 1,
+    0, 0, 0, 0, 0, 0,
 };
 static const uint8_t catch_moves[] = {
     255, 255, 255, 255, 255, 1, 255, 255, 255, 1, 1, 1, 0, 0, 0, 0, 0, 0,
@@ -50,19 +52,19 @@ static void expect_label(const char *name, const uint8_t *block, size_t length, 
 void check_label(void)
 {
     static uint8_t bytes[RBATL_BLOCK_BYTES + 1];
-    const size_t size = RBATL_BLOCK_BYTES;
+    const size_t size = RBATL_BLOCK_BYTES, sets = RBATL_SETS_BYTES, room = RBATL_ROOM_BYTES;
 
     fill_catch(bytes);
-    expect_label("Catch", bytes, size, RBATL_SETS_BYTES, RBATL_ROOM_BYTES, 0);
-    expect_label("a short block", bytes, size - 1, RBATL_SETS_BYTES, RBATL_ROOM_BYTES, -RBATL_LENGTH);
-    expect_label("a long block", bytes, size + 1, RBATL_SETS_BYTES, RBATL_ROOM_BYTES, -RBATL_LENGTH);
-    expect_label("short sets", bytes, size, RBATL_SETS_BYTES - 1, RBATL_ROOM_BYTES, -RBATL_LENGTH);
-    expect_label("long sets", bytes, size, RBATL_SETS_BYTES + 1, RBATL_ROOM_BYTES, -RBATL_LENGTH);
-    expect_label("a short room", bytes, size, RBATL_SETS_BYTES, RBATL_ROOM_BYTES - 1, -RBATL_LENGTH);
-    expect_label("a long room", bytes, size, RBATL_SETS_BYTES, RBATL_ROOM_BYTES + 1, -RBATL_LENGTH);
+    expect_label("Catch", bytes, size, sets, room, 0);
+    expect_label("a short block", bytes, size - 1, sets, room, -RBATL_E_LENGTH);
+    expect_label("a long block", bytes, size + 1, sets, room, -RBATL_E_LENGTH);
+    expect_label("short sets", bytes, size, sets - 1, room, -RBATL_E_LENGTH);
+    expect_label("long sets", bytes, size, sets + 1, room, -RBATL_E_LENGTH);
+    expect_label("a short room", bytes, size, sets, room - 1, -RBATL_E_LENGTH);
+    expect_label("a long room", bytes, size, sets, room + 1, -RBATL_E_LENGTH);
     for (size_t i = 0; i < damage_count; i++)
         if (fill_damaged(bytes, i))
-            expect_label(damages[i].name, bytes, size, RBATL_SETS_BYTES, RBATL_ROOM_BYTES, damages[i].answer);
+            expect_label(damages[i].name, bytes, size, sets, room, damages[i].answer);
 }
 
 /* The table must be that of Catch's row 4, or, refused, leave both buffers as
@@ -86,34 +88,37 @@ static void expect_table(const char *name, const uint8_t *block, size_t length, 
     }
     for (size_t i = 0; i < positions; i++)
         same &= holds(ranks + 2 * i, catch_ranks[i], 2);
-    count(same && all(ranks + 2 * positions, RBATL_RANKS_BYTES - 2 * positions, 0), name, "other ranks");
+    count(same && all(ranks + 2 * positions, RBATL_RANKS_BYTES - 2 * positions, 0), name,
+          "other ranks");
     count(memcmp(moves, catch_moves, positions) == 0, name, "other moves");
-    count(all(moves + positions, RBATL_MOVES_BYTES - positions, 0), name, "no zeros after the moves");
-    count(ranks[RBATL_RANKS_BYTES] == FILL && moves[RBATL_MOVES_BYTES] == FILL, name, "written too far");
+    count(all(moves + positions, RBATL_MOVES_BYTES - positions, 0), name,
+          "no zeros after the moves");
+    count(ranks[RBATL_RANKS_BYTES] == FILL && moves[RBATL_MOVES_BYTES] == FILL, name,
+          "written too far");
 }
 
 void check_table(void)
 {
     static const uint8_t tableless[] = {0, 1, 2, 6, 31, 32, 255};
     static uint8_t bytes[RBATL_BLOCK_BYTES + 1];
-    const size_t size = RBATL_BLOCK_BYTES;
+    const size_t size = RBATL_BLOCK_BYTES, ranks = RBATL_RANKS_BYTES, moves = RBATL_MOVES_BYTES;
 
     fill_catch(bytes);
-    expect_table("Catch", bytes, size, 4, RBATL_RANKS_BYTES, RBATL_MOVES_BYTES, 0);
-    expect_table("a short block", bytes, size - 1, 4, RBATL_RANKS_BYTES, RBATL_MOVES_BYTES, -RBATL_LENGTH);
-    expect_table("a long block", bytes, size + 1, 4, RBATL_RANKS_BYTES, RBATL_MOVES_BYTES, -RBATL_LENGTH);
-    expect_table("short ranks", bytes, size, 4, RBATL_RANKS_BYTES - 1, RBATL_MOVES_BYTES, -RBATL_LENGTH);
-    expect_table("long ranks", bytes, size, 4, RBATL_RANKS_BYTES + 1, RBATL_MOVES_BYTES, -RBATL_LENGTH);
-    expect_table("short moves", bytes, size, 4, RBATL_RANKS_BYTES, RBATL_MOVES_BYTES - 1, -RBATL_LENGTH);
-    expect_table("long moves", bytes, size, 255, RBATL_RANKS_BYTES, RBATL_MOVES_BYTES + 1, -RBATL_LENGTH);
+    expect_table("Catch", bytes, size, 4, ranks, moves, 0);
+    expect_table("a short block", bytes, size - 1, 4, ranks, moves, -RBATL_E_LENGTH);
+    expect_table("a long block", bytes, size + 1, 4, ranks, moves, -RBATL_E_LENGTH);
+    expect_table("short ranks", bytes, size, 4, ranks - 1, moves, -RBATL_E_LENGTH);
+    expect_table("long ranks", bytes, size, 4, ranks + 1, moves, -RBATL_E_LENGTH);
+    expect_table("short moves", bytes, size, 4, ranks, moves - 1, -RBATL_E_LENGTH);
+    expect_table("long moves", bytes, size, 255, ranks, moves + 1, -RBATL_E_LENGTH);
     for (size_t i = 0; i < sizeof tableless; i++)
-        expect_table("a row without a table", bytes, size, tableless[i], RBATL_RANKS_BYTES, RBATL_MOVES_BYTES,
-                     -RBATL_ROW_CHOICE);
+        expect_table("a row without a table", bytes, size, tableless[i], ranks, moves,
+                     -RBATL_E_ROW_CHOICE);
     for (size_t i = 0; i < damage_count; i++) {
         if (!fill_damaged(bytes, i))
             continue;
-        expect_table(damages[i].name, bytes, size, 4, RBATL_RANKS_BYTES, RBATL_MOVES_BYTES, damages[i].answer);
-        expect_table(damages[i].name, bytes, size, 255, RBATL_RANKS_BYTES, RBATL_MOVES_BYTES, damages[i].answer);
+        expect_table(damages[i].name, bytes, size, 4, ranks, moves, damages[i].answer);
+        expect_table(damages[i].name, bytes, size, 255, ranks, moves, damages[i].answer);
     }
 }
 
@@ -169,14 +174,14 @@ void check_states(void)
     fill_catch(bytes);
     for (uint8_t row = 0; row < sizeof counts / sizeof counts[0]; row++)
         expect_states("Catch", bytes, size, row, list, room, counts[row]);
-    expect_states("a short block", bytes, size - 1, 4, list, room, -RBATL_LENGTH);
-    expect_states("a long block", bytes, size + 1, 4, list, room, -RBATL_LENGTH);
-    expect_states("a short list", bytes, size, 4, list - 1, room, -RBATL_LENGTH);
-    expect_states("a long list", bytes, size, 255, list + 1, room, -RBATL_LENGTH);
-    expect_states("a short room", bytes, size, 4, list, room - 1, -RBATL_LENGTH);
-    expect_states("a long room", bytes, size, 255, list, room + 1, -RBATL_LENGTH);
+    expect_states("a short block", bytes, size - 1, 4, list, room, -RBATL_E_LENGTH);
+    expect_states("a long block", bytes, size + 1, 4, list, room, -RBATL_E_LENGTH);
+    expect_states("a short list", bytes, size, 4, list - 1, room, -RBATL_E_LENGTH);
+    expect_states("a long list", bytes, size, 255, list + 1, room, -RBATL_E_LENGTH);
+    expect_states("a short room", bytes, size, 4, list, room - 1, -RBATL_E_LENGTH);
+    expect_states("a long room", bytes, size, 255, list, room + 1, -RBATL_E_LENGTH);
     for (size_t i = 0; i < sizeof absent; i++)
-        expect_states("an absent row", bytes, size, absent[i], list, room, -RBATL_ROW_CHOICE);
+        expect_states("an absent row", bytes, size, absent[i], list, room, -RBATL_E_ROW_CHOICE);
     for (size_t i = 0; i < damage_count; i++) {
         if (!fill_damaged(bytes, i))
             continue;
