@@ -28,13 +28,25 @@
  * Working room may hold anything before a call and holds zeros after it, refused
  * or not, except that RBATL_E_LENGTH leaves it as it was.
  *
- * No call keeps anything from one call to the next, and none allocates.
+ * Threads: the library has no state, so calls may run at once on different
+ * buffers. A buffer that all of them only read may be the same.
+ *
+ * Stack: any call takes at most RBATL_STACK_BYTES, and none allocates; bench/run
+ * prints what each takes.
+ *
+ * Cost: rbatl_move and rbatl_reply solve the row anew at each call. For the moves
+ * of many positions fetch the row's table once.
+ *
+ * Machine: x86-64 with the calling convention of System V, and no other.
  *
  * What the caller owes, since no call can test it:
  * - a pointer is not null, also where its length is 0, and is valid for as
  *   many bytes as the length beside it says; it need not be aligned;
  * - a buffer that a call may write overlaps no other buffer of that call;
- * - nobody else writes a buffer while the call runs.
+ * - nobody else writes a buffer while the call runs;
+ * - a row, a state, a stock or a move that is held as an int is at most 255.
+ *   C cuts a larger one to its low byte, so that 256 asks for row 0: test it
+ *   first.
  */
 #ifndef RBATL_H
 #define RBATL_H
@@ -45,6 +57,12 @@
 #ifdef __cplusplus
 extern "C" {
 #endif
+
+/* The version of this header: major * 10000 + minor * 100 + patch, to compare
+ * when a host is compiled, as in `#if RBATL_VERSION_NUMBER < 10000`, and the
+ * same as a string. */
+#define RBATL_VERSION_NUMBER 10000
+#define RBATL_VERSION "1.0.0"
 
 /* Length of a block; the longest text that is read, and the length of the
  * buffer that a text is written to. */
@@ -66,6 +84,9 @@ extern "C" {
 
 /* Length of the buffer of a listing. */
 #define RBATL_LISTING_BYTES 32768
+
+/* The most stack that a call takes. */
+#define RBATL_STACK_BYTES 12288
 
 /* The rank where nothing is enforced or forced, and the move where the
  * coalition does not win. */
