@@ -99,7 +99,7 @@ static enum status answer(const struct command *command, const struct text *text
     enum status status = read_job(text, block);
     if (status != DONE)
         return status;
-    if (command->stocks && numbers->count != command->numbers + job_resources(block))
+    if (command->stocks && numbers->count != command->numbers + rbatl_job_resources(block))
         return usage("not one stock for each resource of the job");
     return command->run(block, numbers);
 }

@@ -18,12 +18,12 @@
  *     }
  *
  * Each call answers a value from 0, or minus the number of a refusal (enum
- * rbatl_refusal). A refused call leaves every buffer as it was, except working
- * room. Of several refusals the first in this order is answered:
- * RBATL_E_LENGTH; then those of the block, RBATL_E_SIZES to RBATL_E_UNUSED, each
- * tried over the whole block; then RBATL_E_ROW_CHOICE, RBATL_E_POSITION,
- * RBATL_E_WRONG_SIDE and RBATL_E_MOVE. A text has an order of its own
- * (rbatl_read).
+ * rbatl_refusal; its words, rbatl_refusal_text in rbatl_job.h). A refused call
+ * leaves every buffer as it was, except working room. Of several refusals the
+ * first in this order is answered: RBATL_E_LENGTH; then those of the block,
+ * RBATL_E_SIZES to RBATL_E_UNUSED, each tried over the whole block; then
+ * RBATL_E_ROW_CHOICE, RBATL_E_POSITION, RBATL_E_WRONG_SIDE and RBATL_E_MOVE. A
+ * text has an order of its own (rbatl_read).
  *
  * Working room may hold anything before a call and holds zeros after it, refused
  * or not, except that RBATL_E_LENGTH leaves it as it was.
@@ -35,7 +35,8 @@
  * prints what each takes.
  *
  * Cost: rbatl_move and rbatl_reply solve the row anew at each call. For the moves
- * of many positions fetch the row's table once.
+ * of many positions fetch the row's table once; rbatl_job.h reads it by name, as
+ * it does sets and blocks.
  *
  * Machine: x86-64 with the calling convention of System V, and no other.
  *
@@ -153,7 +154,7 @@ enum rbatl_refusal {
 /* Checks a block: 0 if it holds a job; -RBATL_E_LENGTH for any other length;
  * else minus the first of RBATL_E_SIZES, RBATL_E_STATE, RBATL_E_NEXT,
  * RBATL_E_ROW and RBATL_E_UNUSED whose condition holds anywhere in the block.
- * Its bytes are
+ * Its bytes, which rbatl_job.h reads by name, are
  * - 0 to 4: the numbers of agents, resources, states, propositions and rows;
  * - 5 + s: the propositions true in state s, bit k for proposition k;
  * - 29 + 3s + a: the number of actions of agent a in state s;
