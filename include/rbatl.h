@@ -31,8 +31,8 @@
  * Threads: the library has no state, so calls may run at once on different
  * buffers. A buffer that all of them only read may be the same.
  *
- * Stack: any call takes at most RBATL_STACK_BYTES, and none allocates; bench/run
- * prints what each takes.
+ * Stack: any call takes at most RBATL_STACK_BYTES, and none allocates. bench/run
+ * prints what each call takes that solves a row; the others take less.
  *
  * Cost: rbatl_move and rbatl_reply solve the row anew at each call. For the moves
  * of many positions fetch the row's table once; rbatl_job.h reads it by name, as

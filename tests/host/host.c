@@ -5,22 +5,6 @@
 #include <stdio.h>
 #include <string.h>
 
-/* The bytes of the job Catch (document 01) that are not 0. */
-static const struct byte catch_bytes[] = {
-    /* N, R, M, P, F, and the mask of state 2 */
-    {0, 2}, {1, 1}, {2, 3}, {3, 1}, {4, 6}, {7, 1},
-    /* counts of agents 0 and 1 in states 0, 1, 2; costs of action 1 */
-    {29, 2}, {30, 2}, {32, 2}, {33, 1}, {35, 1}, {36, 1}, {103, 2}, {127, 3},
-    /* next states */
-    {678, 1}, {741, 1}, {742, 2}, {805, 2},
-    /* not,0 and or,0,1 */
-    {2221, 1}, {2229, 2}, {2231, 1},
-    /* until,1,5,2,0 and until,3,5,2,0 and until,3,4,2,0 */
-    {2237, 5}, {2238, 2}, {2240, 1}, {2241, 5},
-    {2245, 5}, {2246, 2}, {2248, 3}, {2249, 5},
-    {2253, 5}, {2254, 2}, {2256, 3}, {2257, 4},
-};
-
 /* The text of Catch before its last line, and that line. */
 #define FRONT \
     "job,2,1,3,1,6\n" \
@@ -57,45 +41,8 @@ const struct refused_text refused_texts[] = {
 };
 const size_t refused_count = sizeof refused_texts / sizeof refused_texts[0];
 
-const struct damage damages[] = {
-    {"Catch", {0, 2}, 0},
-    {"a fourth state without actions", {2, 4}, -RBATL_E_STATE},
-    {"M 25", {2, 25}, -RBATL_E_SIZES},
-    {"N 0", {0, 0}, -RBATL_E_SIZES},
-    {"mask of state 0 with a second proposition", {5, 2}, -RBATL_E_STATE},
-    {"count 5", {29, 5}, -RBATL_E_STATE},
-    {"cost 15", {103, 15}, 0},
-    {"cost 16", {103, 16}, -RBATL_E_STATE},
-    {"idle with a cost", {125, 1}, -RBATL_E_STATE},
-    {"next state 2", {677, 2}, 0},
-    {"next state 3", {677, 3}, -RBATL_E_NEXT},
-    {"row 1 on itself", {2222, 1}, -RBATL_E_ROW},
-    {"empty coalition", {2240, 0}, -RBATL_E_ROW},
-    {"bound 15", {2241, 15}, 0},
-    {"bound 16", {2241, 16}, -RBATL_E_ROW},
-    {"bound unlimited", {2241, RBATL_UNLIMITED}, 0},
-    {"byte 28", {28, 1}, -RBATL_E_UNUSED},
-    {"last byte", {2468, 1}, -RBATL_E_UNUSED},
-};
-const size_t damage_count = sizeof damages / sizeof damages[0];
-
 static int passed;
 static int failed;
-
-void fill_catch(uint8_t *block)
-{
-    memset(block, 0, RBATL_BLOCK_BYTES);
-    for (size_t i = 0; i < sizeof catch_bytes / sizeof catch_bytes[0]; i++)
-        block[catch_bytes[i].place] = catch_bytes[i].value;
-}
-
-/* Catch with the i-th damage, and whether that is one that is refused. */
-int fill_damaged(uint8_t *block, size_t i)
-{
-    fill_catch(block);
-    block[damages[i].change.place] = damages[i].change.value;
-    return damages[i].answer != 0;
-}
 
 void count(int good, const char *name, const char *what)
 {
@@ -160,9 +107,9 @@ static void check_damages(void)
 {
     static uint8_t block[RBATL_BLOCK_BYTES];
 
-    for (size_t i = 0; i < damage_count; i++) {
-        fill_damaged(block, i);
-        expect(damages[i].name, block, sizeof block, damages[i].answer);
+    for (size_t i = 0; i < DAMAGES; i++) {
+        struct damage damage = fill_damaged(block, i);
+        expect(damage.name, block, sizeof block, damage.answer);
     }
 }
 
@@ -200,7 +147,7 @@ static void check_read(void)
     expect_read("a long block", catch_text, length, sizeof job + 1, -RBATL_E_LENGTH, NULL);
     expect_read("no block", catch_text, length, 0, -RBATL_E_LENGTH, NULL);
     expect_read("the byte after Catch", catch_text, length + 1, sizeof job, -RBATL_E_FORM, NULL);
-    job[2257] = RBATL_UNLIMITED;
+    job[rbatl_place_of_field(5, RBATL_FIELD_BOUND)] = RBATL_UNLIMITED;
     expect_read("an empty bound", empty, sizeof empty - 1, sizeof job, 0, job);
     expect_read("inf", inf, sizeof inf - 1, sizeof job, 0, job);
     memcpy(longest, catch_text, sizeof catch_text);
@@ -249,11 +196,13 @@ static void check_write(void)
     expect_write("a long block", bytes, size + 1, RBATL_TEXT_BYTES, -RBATL_E_LENGTH, NULL);
     for (size_t i = 0; i < sizeof lengths / sizeof lengths[0]; i++)
         expect_write("another length", bytes, size, lengths[i], -RBATL_E_LENGTH, NULL);
-    bytes[2257] = RBATL_UNLIMITED;
+    bytes[rbatl_place_of_field(5, RBATL_FIELD_BOUND)] = RBATL_UNLIMITED;
     expect_write("inf", bytes, size, RBATL_TEXT_BYTES, sizeof inf - 1, inf);
-    for (size_t i = 0; i < damage_count; i++)
-        if (fill_damaged(bytes, i))
-            expect_write(damages[i].name, bytes, size, RBATL_TEXT_BYTES, damages[i].answer, NULL);
+    for (size_t i = 0; i < DAMAGES; i++) {
+        struct damage damage = fill_damaged(bytes, i);
+        if (damage.answer != 0)
+            expect_write(damage.name, bytes, size, RBATL_TEXT_BYTES, damage.answer, NULL);
+    }
 }
 
 int main(void)
@@ -262,6 +211,7 @@ int main(void)
     check_lengths();
     check_read();
     check_write();
+    check_job();
     check_label();
     check_table();
     check_states();

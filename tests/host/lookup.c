@@ -94,11 +94,12 @@ static void check_block(enum call call, struct asked at)
     expect_at("a short room", call, at, bytes, size, room - 1, -RBATL_E_LENGTH);
     expect_at("a long room", call, at, bytes, size, room + 1, -RBATL_E_LENGTH);
     expect_at("no room", call, at, bytes, size, 0, -RBATL_E_LENGTH);
-    for (size_t i = 0; i < damage_count; i++) {
-        if (!fill_damaged(bytes, i))
+    for (size_t i = 0; i < DAMAGES; i++) {
+        struct damage damage = fill_damaged(bytes, i);
+        if (damage.answer == 0)
             continue;
-        expect_at(damages[i].name, call, at, bytes, size, room, damages[i].answer);
-        expect_at(damages[i].name, call, at, bytes, size, room + 1, -RBATL_E_LENGTH);
+        expect_at(damage.name, call, at, bytes, size, room, damage.answer);
+        expect_at(damage.name, call, at, bytes, size, room + 1, -RBATL_E_LENGTH);
     }
 }
 
@@ -114,13 +115,13 @@ static void check_asked(enum call call, const struct asked *asked, size_t number
 /* Catch with the seventh row always,2,0,1. */
 static void check_seventh_row(void)
 {
-    static const struct byte row[] = {{4, 7}, {2261, 4}, {2262, 1}, {2264, 2}};
+    static const uint8_t fields[ROW_FIELDS] = {RBATL_ALWAYS, 1, 0, 2, 0};
     static const struct asked first = {6, 0, 0, 0, 0, 4};
     static uint8_t block[RBATL_BLOCK_BYTES];
 
     fill_catch(block);
-    for (size_t i = 0; i < sizeof row / sizeof row[0]; i++)
-        block[row[i].place] = row[i].value;
+    block[RBATL_PLACE_ROWS] = 7;
+    fill_row(block, 6, fields);
     expect_at("a seventh row", MOVE, first, block, sizeof block, RBATL_ROOM_BYTES, first.answer);
 }
 

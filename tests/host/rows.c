@@ -16,15 +16,6 @@ static const uint8_t catch_moves[] = {
     255, 255, 255, 255, 255, 1, 255, 255, 255, 1, 1, 1, 0, 0, 0, 0, 0, 0,
 };
 
-/* The bytes of a word, lowest first, must stand there. */
-static int holds(const uint8_t *bytes, uint32_t word, size_t length)
-{
-    for (size_t i = 0; i < length; i++)
-        if (bytes[i] != (uint8_t)(word >> 8 * i))
-            return 0;
-    return 1;
-}
-
 /* The sets must be those of Catch, or, refused, be as they were; the room must
  * hold zeros, or, after a wrong length, be as it was. */
 static void expect_label(const char *name, const uint8_t *block, size_t length, size_t sets_length,
@@ -39,8 +30,8 @@ static void expect_label(const char *name, const uint8_t *block, size_t length, 
     int32_t answer = rbatl_label(block, length, sets, sets_length, room, room_length);
     count_answer(name, "label", answer, expected);
     if (expected == 0) {
-        for (size_t i = 0; i < words; i++)
-            same &= holds(sets + 4 * i, catch_sets[i], 4);
+        for (unsigned row = 0; row < words; row++)
+            same &= rbatl_set_of(sets, row) == catch_sets[row];
         count(same && all(sets + 4 * words, RBATL_SETS_BYTES - 4 * words, 0), name, "other sets");
         count(sets[RBATL_SETS_BYTES] == FILL, name, "sets written too far");
     } else {
@@ -62,9 +53,11 @@ void check_label(void)
     expect_label("long sets", bytes, size, sets + 1, room, -RBATL_E_LENGTH);
     expect_label("a short room", bytes, size, sets, room - 1, -RBATL_E_LENGTH);
     expect_label("a long room", bytes, size, sets, room + 1, -RBATL_E_LENGTH);
-    for (size_t i = 0; i < damage_count; i++)
-        if (fill_damaged(bytes, i))
-            expect_label(damages[i].name, bytes, size, sets, room, damages[i].answer);
+    for (size_t i = 0; i < DAMAGES; i++) {
+        struct damage damage = fill_damaged(bytes, i);
+        if (damage.answer != 0)
+            expect_label(damage.name, bytes, size, sets, room, damage.answer);
+    }
 }
 
 /* The table must be that of Catch's row 4, or, refused, leave both buffers as
@@ -87,7 +80,7 @@ static void expect_table(const char *name, const uint8_t *block, size_t length, 
         return;
     }
     for (size_t i = 0; i < positions; i++)
-        same &= holds(ranks + 2 * i, catch_ranks[i], 2);
+        same &= rbatl_rank_at(ranks, i) == catch_ranks[i];
     count(same && all(ranks + 2 * positions, RBATL_RANKS_BYTES - 2 * positions, 0), name,
           "other ranks");
     count(memcmp(moves, catch_moves, positions) == 0, name, "other moves");
@@ -114,11 +107,12 @@ void check_table(void)
     for (size_t i = 0; i < sizeof tableless; i++)
         expect_table("a row without a table", bytes, size, tableless[i], ranks, moves,
                      -RBATL_E_ROW_CHOICE);
-    for (size_t i = 0; i < damage_count; i++) {
-        if (!fill_damaged(bytes, i))
+    for (size_t i = 0; i < DAMAGES; i++) {
+        struct damage damage = fill_damaged(bytes, i);
+        if (damage.answer == 0)
             continue;
-        expect_table(damages[i].name, bytes, size, 4, ranks, moves, damages[i].answer);
-        expect_table(damages[i].name, bytes, size, 255, ranks, moves, damages[i].answer);
+        expect_table(damage.name, bytes, size, 4, ranks, moves, damage.answer);
+        expect_table(damage.name, bytes, size, 255, ranks, moves, damage.answer);
     }
 }
 
@@ -154,7 +148,7 @@ static void expect_states(const char *name, const uint8_t *block, size_t length,
         count(all(list, sizeof list, FILL), name, "refused, but the list has changed");
     } else {
         for (uint8_t state = 0; state < RBATL_MAX_STATES; state++)
-            if (catch_sets[row] >> state & 1)
+            if (rbatl_set_has(catch_sets[row], state))
                 same &= list[end++] == state;
         count(same && end == (size_t)expected, name, "other states");
         count(all(list + end, RBATL_STATES_BYTES - end, 0), name, "no zeros after the states");
@@ -182,10 +176,11 @@ void check_states(void)
     expect_states("a long room", bytes, size, 255, list, room + 1, -RBATL_E_LENGTH);
     for (size_t i = 0; i < sizeof absent; i++)
         expect_states("an absent row", bytes, size, absent[i], list, room, -RBATL_E_ROW_CHOICE);
-    for (size_t i = 0; i < damage_count; i++) {
-        if (!fill_damaged(bytes, i))
+    for (size_t i = 0; i < DAMAGES; i++) {
+        struct damage damage = fill_damaged(bytes, i);
+        if (damage.answer == 0)
             continue;
-        expect_states(damages[i].name, bytes, size, 0, list, room, damages[i].answer);
-        expect_states(damages[i].name, bytes, size, 255, list, room, damages[i].answer);
+        expect_states(damage.name, bytes, size, 0, list, room, damage.answer);
+        expect_states(damage.name, bytes, size, 255, list, room, damage.answer);
     }
 }
