@@ -9,31 +9,33 @@
 #include <stdio.h>
 #include <string.h>
 
-/* A command takes some numbers and, between them, perhaps a stock for each
- * resource of the job. It starts from the job's block, or else from its text. */
+/* The numbers of a command are a row, if it is asked about one, then others and,
+ * between them, perhaps a stock for each resource of the job. It starts from the
+ * job's block, or else from its text. */
 struct command {
     const char *name;
-    size_t numbers;
+    bool row;
+    size_t others;
     bool stocks;
     enum status (*run)(const uint8_t *block, const struct numbers *numbers);
     enum status (*run_on_text)(const struct text *text);
 };
 
 static const struct command commands[] = {
-    {"check", 0, false, check, NULL},
-    {"list", 0, false, NULL, list},
-    {"table", 1, false, show_table, NULL},
-    {"move", 2, true, show_move, NULL},
-    {"reply", 3, true, show_reply, NULL},
-    {"dot", 1, false, draw, NULL},
+    {"check", false, 0, false, check, NULL},
+    {"list", false, 0, false, NULL, list},
+    {"table", true, 0, false, show_table, NULL},
+    {"move", true, 1, true, show_move, NULL},
+    {"reply", true, 2, true, show_reply, NULL},
+    {"dot", true, 0, false, draw, NULL},
 };
 
 /* The words given are not repeated, since they may hold any bytes. */
 static enum status usage(const char *reason)
 {
     fprintf(stderr, "desk: %s\n", reason);
-    fprintf(stderr, "usage: desk check | list | table ROW | move ROW STATE STOCK.. | "
-                    "reply ROW STATE STOCK.. MOVE | dot ROW < job\n");
+    fprintf(stderr, "usage: desk check | list | table [ROW] | move [ROW] STATE STOCK.. | "
+                    "reply [ROW] STATE STOCK.. MOVE | dot [ROW] < job\n");
     return FAILED;
 }
 
@@ -62,11 +64,12 @@ static bool parse_number(const char *word, uint8_t *number)
     return value <= UINT8_MAX;
 }
 
+/* Any count is let pass that some job wants. */
 static enum status parse_numbers(const struct command *command, int count, char **words,
                                  struct numbers *numbers)
 {
-    size_t least = command->numbers + (command->stocks ? 1 : 0);
-    size_t most = command->numbers + (command->stocks ? RBATL_MAX_RESOURCES : 0);
+    size_t least = command->others + (command->stocks ? 1 : 0);
+    size_t most = command->row + command->others + (command->stocks ? RBATL_MAX_RESOURCES : 0);
 
     if (count < 0 || (size_t)count < least || (size_t)count > most)
         return usage("wrong count of numbers");
@@ -89,19 +92,50 @@ static enum status finish(void)
     return DONE;
 }
 
+/* The only strategic row of the job; false where it has none or several. */
+static bool find_only_row(const uint8_t *block, uint8_t *only)
+{
+    unsigned count = 0;
+
+    for (unsigned row = 0; row < rbatl_job_rows(block); row++)
+        if (rbatl_row_is_strategic(block, row)) {
+            *only = (uint8_t)row;
+            count++;
+        }
+    return count == 1;
+}
+
+/* With the job known, the count tells whether the row was left out; then it is
+ * put in front. */
+static enum status complete_numbers(const struct command *command, const uint8_t *block,
+                                    struct numbers *numbers)
+{
+    size_t due = command->others + (command->stocks ? rbatl_job_resources(block) : 0);
+    uint8_t row;
+
+    if (numbers->count == due + command->row)
+        return DONE;
+    if (numbers->count != due)
+        return usage("not one stock for each resource of the job");
+    if (!find_only_row(block, &row))
+        return usage("no row given, and the job has not exactly one of kind next, always or until");
+    memmove(numbers->at + 1, numbers->at, numbers->count);
+    numbers->at[0] = row;
+    numbers->count++;
+    return DONE;
+}
+
 static enum status answer(const struct command *command, const struct text *text,
-                          const struct numbers *numbers)
+                          struct numbers *numbers)
 {
     uint8_t block[RBATL_BLOCK_BYTES];
 
     if (command->run_on_text != NULL)
         return command->run_on_text(text);
     enum status status = read_job(text, block);
-    if (status != DONE)
-        return status;
-    if (command->stocks && numbers->count != command->numbers + rbatl_job_resources(block))
-        return usage("not one stock for each resource of the job");
-    return command->run(block, numbers);
+    if (status == DONE)
+        status = complete_numbers(command, block, numbers);
+    return status == DONE ? command->run(block, numbers) : status;
 }
 
 static enum status run(int argc, char **argv)

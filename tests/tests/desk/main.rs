@@ -3,6 +3,7 @@
 mod answers;
 mod arguments;
 mod drawing;
+mod left_out;
 mod random;
 mod refusals;
 mod streams;
@@ -13,6 +14,12 @@ use std::path::PathBuf;
 const DONE: i32 = 0;
 const REFUSED: i32 = 1;
 const FAILED: i32 = 2;
+
+/// Reasons that it gives for wrong arguments.
+const COUNT: &str = "wrong count of numbers";
+const NUMBER: &str = "not a number from 0 to 255 without leading zeros";
+const STOCKS: &str = "not one stock for each resource of the job";
+const NO_ROW: &str = "no row given, and the job has not exactly one of kind next, always or until";
 
 /// What a run of the desk says.
 trait Says {
@@ -56,6 +63,12 @@ fn words(line: &str) -> Vec<&str> {
 /// Runs a command on a job's text.
 fn desk(line: &str, text: &[u8]) -> Ran {
     run(&words(line), text)
+}
+
+/// Whether a command has wrong arguments, for the reason.
+fn complains(line: &str, text: &[u8], reason: &str) -> bool {
+    let ran = desk(line, text);
+    ran.usage() && ran.err.starts_with(&format!("desk: {reason}\n"))
 }
 
 fn run(arguments: &[&str], text: &[u8]) -> Ran {
