@@ -3,6 +3,7 @@
 mod answers;
 mod arguments;
 mod drawing;
+mod help;
 mod left_out;
 mod random;
 mod refusals;
@@ -46,7 +47,7 @@ impl Says for Ran {
     /// That the arguments are wrong: a reason, and the usage line.
     fn usage(&self) -> bool {
         let lines: Vec<&str> = self.err.lines().collect();
-        let told = lines.len() == 2 && lines[1].starts_with("usage: desk check | list | ");
+        let told = lines.len() == 2 && lines[1].starts_with("usage: desk check | list | table ");
         self.status == FAILED && self.out.is_empty() && told
     }
 }
