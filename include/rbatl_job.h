@@ -8,7 +8,8 @@
  * a joint action below RBATL_JOINT_ACTIONS, and a position below
  * rbatl_position_count.
  *
- * No other file writes an offset of the block.
+ * The offsets of the block stand here once; the comment of rbatl_check has them
+ * as numbers.
  */
 #ifndef RBATL_JOB_H
 #define RBATL_JOB_H
@@ -28,9 +29,10 @@ enum rbatl_field {
     RBATL_FIELD_LEFT,
     RBATL_FIELD_RIGHT,
     RBATL_FIELD_TEAM,
-    RBATL_FIELD_BOUND,
-    RBATL_ROW_BYTES = 8
+    RBATL_FIELD_BOUND
 };
+
+#define RBATL_ROW_BYTES 8
 
 /* The places of the sizes; then the first place of the masks, counts of actions,
  * costs, next states and rows. Each sort has room for the largest sizes. */
