@@ -30,12 +30,6 @@ enum status fill_table(const uint8_t *block, unsigned row, struct table *table)
     return answer < 0 ? refuse(answer) : DONE;
 }
 
-unsigned rank_at(const struct table *table, size_t position)
-{
-    const uint8_t *rank = table->ranks + 2 * position;
-    return rank[0] | (unsigned)rank[1] << 8;
-}
-
 enum status find_states(const uint8_t *block, unsigned row, uint32_t *set)
 {
     uint8_t states[RBATL_STATES_BYTES], room[RBATL_ROOM_BYTES];

@@ -38,8 +38,6 @@ enum status read_job(const struct text *text, uint8_t *block);
 /* Fills the table of a strategic row. */
 enum status fill_table(const uint8_t *block, unsigned row, struct table *table);
 
-unsigned rank_at(const struct table *table, size_t position);
-
 /* The states that satisfy a row as a set, bit s for state s. */
 enum status find_states(const uint8_t *block, unsigned row, uint32_t *set);
 

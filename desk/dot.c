@@ -15,18 +15,26 @@ struct drawing {
     struct table table;
 };
 
+/* The rank of a state at full stock, and the move there. */
+static unsigned rank_in(const struct drawing *drawing, unsigned state)
+{
+    size_t position = rbatl_full_stock(drawing->block, drawing->row, state);
+    return rbatl_rank_at(drawing->table.ranks, position);
+}
+
+static unsigned move_in(const struct drawing *drawing, unsigned state)
+{
+    size_t position = rbatl_full_stock(drawing->block, drawing->row, state);
+    return rbatl_move_at(drawing->table.moves, position);
+}
+
 /* Whether the coalition has a move to make in the state at full stock: none
  * where it does not win, and none where an until row is met already. */
 static bool has_move(const struct drawing *drawing, unsigned state)
 {
-    if (!drawing->strategic || !(drawing->set >> state & 1))
+    if (!drawing->strategic || !rbatl_set_has(drawing->set, state))
         return false;
-    return rank_at(&drawing->table, full_stock(drawing->block, drawing->row, state)) != 0;
-}
-
-static unsigned move_at(const struct drawing *drawing, unsigned state)
-{
-    return drawing->table.moves[full_stock(drawing->block, drawing->row, state)];
+    return rank_in(drawing, state) != 0;
 }
 
 static void draw_head(const struct drawing *drawing)
@@ -47,12 +55,12 @@ static void draw_head(const struct drawing *drawing)
 static void draw_move(const struct drawing *drawing, unsigned state)
 {
     const uint8_t *block = drawing->block;
-    unsigned move = move_at(drawing, state);
+    unsigned move = move_in(drawing, state);
     const char *before = ", cost ";
 
     printf("\\nmove ");
-    print_move_pattern(block, row_coalition(block, drawing->row), move);
-    for (unsigned resource = 0; resource < job_resources(block); resource++) {
+    print_move_pattern(block, rbatl_row_team(block, drawing->row), move);
+    for (unsigned resource = 0; resource < rbatl_job_resources(block); resource++) {
         printf("%s%u", before, move_cost(block, state, move, resource));
         before = " and ";
     }
@@ -64,33 +72,33 @@ static void draw_state(const struct drawing *drawing, unsigned state)
     const char *before = "\\n";
 
     printf("  s%u [label=\"state %u", state, state);
-    for (unsigned k = 0; k < job_propositions(block); k++)
-        if (state_mask(block, state) >> k & 1) {
+    for (unsigned k = 0; k < rbatl_job_propositions(block); k++)
+        if (rbatl_state_mask(block, state) >> k & 1) {
             printf("%sp%u", before, k);
             before = " ";
         }
     if (has_move(drawing, state))
         draw_move(drawing, state);
-    if (row_kind(block, drawing->row) == KIND_UNTIL && drawing->set >> state & 1)
-        printf("\\nrank %u", rank_at(&drawing->table, full_stock(block, drawing->row, state)));
-    printf("\"%s];\n", drawing->set >> state & 1 ? ", fillcolor=\"#cfe8cf\"" : "");
+    if (rbatl_row_kind(block, drawing->row) == RBATL_UNTIL && rbatl_set_has(drawing->set, state))
+        printf("\\nrank %u", rank_in(drawing, state));
+    printf("\"%s];\n", rbatl_set_has(drawing->set, state) ? ", fillcolor=\"#cfe8cf\"" : "");
 }
 
 /* Whether the coalition's move can lead along these joint actions. */
 static bool follows_move(const struct drawing *drawing, unsigned state, uint64_t joints)
 {
-    unsigned coalition = row_coalition(drawing->block, drawing->row);
+    unsigned coalition = rbatl_row_team(drawing->block, drawing->row);
     if (!has_move(drawing, state))
         return false;
-    for (unsigned joint = 0; joint < JOINT_ACTIONS; joint++)
-        if (joints >> joint & 1 && part_of(joint, coalition) == move_at(drawing, state))
+    for (unsigned joint = 0; joint < RBATL_JOINT_ACTIONS; joint++)
+        if (joints >> joint & 1 && part_of(joint, coalition) == move_in(drawing, state))
             return true;
     return false;
 }
 
 static void draw_edges(const struct drawing *drawing, unsigned state)
 {
-    for (unsigned target = 0; target < job_states(drawing->block); target++) {
+    for (unsigned target = 0; target < rbatl_job_states(drawing->block); target++) {
         uint64_t joints = joints_to(drawing->block, state, target);
         if (joints == 0)
             continue;
@@ -107,15 +115,15 @@ enum status draw(const uint8_t *block, const struct numbers *numbers)
     enum status status = find_states(block, drawing.row, &drawing.set);
     if (status != DONE)
         return status;
-    drawing.strategic = row_is_strategic(block, drawing.row);
+    drawing.strategic = rbatl_row_is_strategic(block, drawing.row);
     if (drawing.strategic)
         status = fill_table(block, drawing.row, &drawing.table);
     if (status != DONE)
         return status;
     draw_head(&drawing);
-    for (unsigned state = 0; state < job_states(block); state++)
+    for (unsigned state = 0; state < rbatl_job_states(block); state++)
         draw_state(&drawing, state);
-    for (unsigned state = 0; state < job_states(block); state++)
+    for (unsigned state = 0; state < rbatl_job_states(block); state++)
         draw_edges(&drawing, state);
     printf("}\n");
     return DONE;

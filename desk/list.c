@@ -11,11 +11,11 @@ static void print_count(const char *before, unsigned count, const char *noun)
 enum status check(const uint8_t *block, const struct numbers *numbers)
 {
     (void)numbers;
-    print_count("passes: ", job_agents(block), "agent");
-    print_count(", ", job_resources(block), "resource");
-    print_count(", ", job_states(block), "state");
-    print_count(", ", job_propositions(block), "proposition");
-    print_count(", ", job_rows(block), "row");
+    print_count("passes: ", rbatl_job_agents(block), "agent");
+    print_count(", ", rbatl_job_resources(block), "resource");
+    print_count(", ", rbatl_job_states(block), "state");
+    print_count(", ", rbatl_job_propositions(block), "proposition");
+    print_count(", ", rbatl_job_rows(block), "row");
     putchar('\n');
     return DONE;
 }

@@ -15,8 +15,8 @@ struct pattern {
 uint64_t joints_to(const uint8_t *block, unsigned state, unsigned target)
 {
     uint64_t joints = 0;
-    for (unsigned joint = 0; joint < JOINT_ACTIONS; joint++)
-        if (has_joint(block, state, joint) && next_state(block, state, joint) == target)
+    for (unsigned joint = 0; joint < RBATL_JOINT_ACTIONS; joint++)
+        if (has_joint(block, state, joint) && rbatl_next_state(block, state, joint) == target)
             joints |= UINT64_C(1) << joint;
     return joints;
 }
@@ -25,7 +25,7 @@ static bool matches(const struct pattern *pattern, unsigned joint)
 {
     for (unsigned agent = 0; agent < RBATL_MAX_AGENTS; agent++) {
         unsigned action = pattern->action[agent];
-        if (action != ANY && action != action_of(joint, agent))
+        if (action != ANY && action != rbatl_action_of(joint, agent))
             return false;
     }
     return true;
@@ -34,7 +34,7 @@ static bool matches(const struct pattern *pattern, unsigned joint)
 static uint64_t joints_of(const uint8_t *block, unsigned state, const struct pattern *pattern)
 {
     uint64_t joints = 0;
-    for (unsigned joint = 0; joint < JOINT_ACTIONS; joint++)
+    for (unsigned joint = 0; joint < RBATL_JOINT_ACTIONS; joint++)
         if (has_joint(block, state, joint) && matches(pattern, joint))
             joints |= UINT64_C(1) << joint;
     return joints;
@@ -91,7 +91,7 @@ static uint64_t print_level(const uint8_t *block, unsigned state, uint64_t joint
             continue;
         if (*shown > 1)
             printf("\\n");
-        print_pattern(&pattern, job_agents(block));
+        print_pattern(&pattern, rbatl_job_agents(block));
     }
     return left;
 }
@@ -116,6 +116,6 @@ void print_move_pattern(const uint8_t *block, unsigned coalition, unsigned move)
 {
     struct pattern pattern;
     for (unsigned agent = 0; agent < RBATL_MAX_AGENTS; agent++)
-        pattern.action[agent] = in_coalition(coalition, agent) ? action_of(move, agent) : ANY;
-    print_pattern(&pattern, job_agents(block));
+        pattern.action[agent] = in_coalition(coalition, agent) ? rbatl_action_of(move, agent) : ANY;
+    print_pattern(&pattern, rbatl_job_agents(block));
 }

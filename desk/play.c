@@ -13,7 +13,7 @@ struct position {
 static struct position position_of(const uint8_t *block, const struct numbers *numbers)
 {
     struct position at = {numbers->at[0], numbers->at[1], numbers->at[2], 0};
-    if (job_resources(block) > 1)
+    if (rbatl_job_resources(block) > 1)
         at.stock1 = numbers->at[3];
     return at;
 }
@@ -28,7 +28,7 @@ enum status show_move(const uint8_t *block, const struct numbers *numbers)
     if (move < 0)
         return refuse(move);
     printf("move %ld: ", (long)move);
-    print_actions((unsigned)move, row_coalition(block, at.row));
+    print_actions((unsigned)move, rbatl_row_team(block, at.row));
     putchar('\n');
     return DONE;
 }
@@ -44,7 +44,7 @@ enum status show_reply(const uint8_t *block, const struct numbers *numbers)
     if (reply < 0)
         return refuse(reply);
     printf("reply %ld: ", (long)reply);
-    print_actions((unsigned)reply, all_agents(block) & ~row_coalition(block, at.row));
+    print_actions((unsigned)reply, all_agents(block) & ~rbatl_row_team(block, at.row));
     putchar('\n');
     return DONE;
 }

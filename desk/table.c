@@ -6,13 +6,10 @@
 
 static void print_position(const uint8_t *block, unsigned row, size_t position)
 {
-    unsigned second = stock_places(block, row, 1);
-    unsigned first = stock_places(block, row, 0);
-    size_t rest = position / second;
-
-    printf("state %lu, stock %lu", (unsigned long)(rest / first), (unsigned long)(rest % first));
-    if (job_resources(block) > 1)
-        printf(", %lu", (unsigned long)(position % second));
+    printf("state %u, stock %u", rbatl_state_of(block, row, position),
+           rbatl_stock_of(block, row, position, 0));
+    if (rbatl_job_resources(block) > 1)
+        printf(", %u", rbatl_stock_of(block, row, position, 1));
 }
 
 static void print_entry(const uint8_t *block, unsigned row, unsigned rank, unsigned move)
@@ -26,7 +23,7 @@ static void print_entry(const uint8_t *block, unsigned row, unsigned rank, unsig
         return;
     }
     printf("move %u: ", move);
-    print_actions(move, row_coalition(block, row));
+    print_actions(move, rbatl_row_team(block, row));
     putchar('\n');
 }
 
@@ -46,9 +43,10 @@ enum status show_table(const uint8_t *block, const struct numbers *numbers)
     printf("\nstates: ");
     print_states(set);
     putchar('\n');
-    for (size_t position = 0; position < position_count(block, row); position++) {
+    for (size_t position = 0; position < rbatl_position_count(block, row); position++) {
         print_position(block, row, position);
-        print_entry(block, row, rank_at(&table, position), table.moves[position]);
+        print_entry(block, row, rbatl_rank_at(table.ranks, position),
+                    rbatl_move_at(table.moves, position));
     }
     return DONE;
 }

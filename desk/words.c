@@ -4,58 +4,24 @@
 
 #include <stdio.h>
 
-static const char *refusal_words(int32_t number)
-{
-    switch (number) {
-    case RBATL_LENGTH:
-        return "the text is longer than 32768 bytes";
-    case RBATL_SIZES:
-        return "the number of agents, resources, states, propositions or rows is out of range";
-    case RBATL_STATE:
-        return "a state has an absent proposition, a count of actions that is not 1 to 4, "
-               "a cost above 15, or an idle action with a cost";
-    case RBATL_NEXT:
-        return "a next state does not exist";
-    case RBATL_ROW:
-        return "a row names a row that is not lower, an absent proposition, no agent or an "
-               "absent one, or a bound above 15";
-    case RBATL_UNUSED:
-        return "an unused place of the block is not 0";
-    case RBATL_FORM:
-        return "the text does not have the form of a job";
-    case RBATL_ROW_CHOICE:
-        return "the row does not exist, or is of a kind that has no table";
-    case RBATL_POSITION:
-        return "the state does not exist, or a stock is above its bound, or not 0 where the "
-               "resource is unlimited";
-    case RBATL_WRONG_SIDE:
-        return "the coalition has a move only where it wins, and its opponents a reply only "
-               "where it does not";
-    case RBATL_MOVE:
-        return "the coalition's move is not available there, or not affordable";
-    default:
-        return "for a reason unknown to the desk";
-    }
-}
-
 enum status refuse(int32_t answer)
 {
     int32_t number = -answer;
-    fprintf(stderr, "desk: refused, %ld: %s\n", (long)number, refusal_words(number));
+    fprintf(stderr, "desk: refused, %ld: %s\n", (long)number, rbatl_refusal_text(number));
     return REFUSED;
 }
 
 static void print_coalition(const uint8_t *block, unsigned row)
 {
     const char *before = "coalition ";
-    for (unsigned agent = 0; agent < job_agents(block); agent++)
-        if (in_coalition(row_coalition(block, row), agent)) {
+    for (unsigned agent = 0; agent < rbatl_job_agents(block); agent++)
+        if (in_coalition(rbatl_row_team(block, row), agent)) {
             printf("%s%u", before, agent);
             before = ", ";
         }
     before = " within ";
-    for (unsigned resource = 0; resource < job_resources(block); resource++) {
-        unsigned bound = row_bound(block, row, resource);
+    for (unsigned resource = 0; resource < rbatl_job_resources(block); resource++) {
+        unsigned bound = rbatl_row_bound(block, row, resource);
         if (bound == RBATL_UNLIMITED)
             printf("%sinf", before);
         else
@@ -67,27 +33,27 @@ static void print_coalition(const uint8_t *block, unsigned row)
 
 void print_row(const uint8_t *block, unsigned row)
 {
-    unsigned left = row_left(block, row), right = row_right(block, row);
+    unsigned left = rbatl_row_left(block, row), right = rbatl_row_right(block, row);
 
-    if (row_is_strategic(block, row))
+    if (rbatl_row_is_strategic(block, row))
         print_coalition(block, row);
-    switch (row_kind(block, row)) {
-    case KIND_PROP:
+    switch (rbatl_row_kind(block, row)) {
+    case RBATL_PROP:
         printf("proposition %u", left);
         break;
-    case KIND_NOT:
+    case RBATL_NOT:
         printf("not row %u", left);
         break;
-    case KIND_OR:
+    case RBATL_OR:
         printf("row %u or row %u", left, right);
         break;
-    case KIND_NEXT:
+    case RBATL_NEXT:
         printf("next row %u", left);
         break;
-    case KIND_ALWAYS:
+    case RBATL_ALWAYS:
         printf("always row %u", left);
         break;
-    case KIND_UNTIL:
+    case RBATL_UNTIL:
         printf("row %u until row %u", left, right);
         break;
     }
@@ -101,7 +67,7 @@ void print_actions(unsigned joint, unsigned agents)
     for (unsigned agent = 0; agent < RBATL_MAX_AGENTS; agent++) {
         if (!in_coalition(agents, agent))
             continue;
-        unsigned action = action_of(joint, agent);
+        unsigned action = rbatl_action_of(joint, agent);
         printf("%sagent %u ", before, agent);
         if (action == 0)
             printf("idle");
@@ -117,7 +83,7 @@ void print_states(uint32_t set)
     if (set == 0)
         printf("none");
     for (unsigned state = 0; state < RBATL_MAX_STATES; state++)
-        if (set >> state & 1) {
+        if (rbatl_set_has(set, state)) {
             printf("%s%u", before, state);
             before = " ";
         }

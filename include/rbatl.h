@@ -18,21 +18,36 @@
  *     }
  *
  * Each call answers a value from 0, or minus the number of a refusal (enum
- * rbatl_refusal). A refused call leaves every buffer as it was, except working
- * room. Of several refusals the first in this order is answered: RBATL_LENGTH;
- * then those of the block, RBATL_SIZES to RBATL_UNUSED, each tried over the
- * whole block; then RBATL_ROW_CHOICE, RBATL_POSITION, RBATL_WRONG_SIDE and
- * RBATL_MOVE. A text has an order of its own (rbatl_read).
+ * rbatl_refusal; its words, rbatl_refusal_text in rbatl_job.h). A refused call
+ * leaves every buffer as it was, except working room. Of several refusals the
+ * first in this order is answered: RBATL_E_LENGTH; then those of the block,
+ * RBATL_E_SIZES to RBATL_E_UNUSED, each tried over the whole block; then
+ * RBATL_E_ROW_CHOICE, RBATL_E_POSITION, RBATL_E_WRONG_SIDE and RBATL_E_MOVE. A
+ * text has an order of its own (rbatl_read).
  *
  * Working room may hold anything before a call and holds zeros after it, refused
- * or not, except that RBATL_LENGTH leaves it as it was. No call keeps anything
- * from one call to the next, and none allocates.
+ * or not, except that RBATL_E_LENGTH leaves it as it was.
+ *
+ * Threads: the library has no state, so calls may run at once on different
+ * buffers. A buffer that all of them only read may be the same.
+ *
+ * Stack: any call takes at most RBATL_STACK_BYTES, and none allocates. bench/run
+ * prints what each call takes that solves a row; the others take less.
+ *
+ * Cost: rbatl_move and rbatl_reply solve the row anew at each call. For the moves
+ * of many positions fetch the row's table once; rbatl_job.h reads it by name, as
+ * it does sets and blocks.
+ *
+ * Machine: x86-64 with the calling convention of System V, and no other.
  *
  * What the caller owes, since no call can test it:
  * - a pointer is not null, also where its length is 0, and is valid for as
  *   many bytes as the length beside it says; it need not be aligned;
  * - a buffer that a call may write overlaps no other buffer of that call;
- * - nobody else writes a buffer while the call runs.
+ * - nobody else writes a buffer while the call runs;
+ * - a row, a state, a stock or a move that is held as an int is at most 255.
+ *   C cuts a larger one to its low byte, so that 256 asks for row 0: test it
+ *   first.
  */
 #ifndef RBATL_H
 #define RBATL_H
@@ -43,6 +58,12 @@
 #ifdef __cplusplus
 extern "C" {
 #endif
+
+/* The version of this header: major * 10000 + minor * 100 + patch, to compare
+ * when a host is compiled, as in `#if RBATL_VERSION_NUMBER < 10000`, and the
+ * same as a string. */
+#define RBATL_VERSION_NUMBER 10000
+#define RBATL_VERSION "1.0.0"
 
 /* Length of a block; the longest text that is read, and the length of the
  * buffer that a text is written to. */
@@ -65,6 +86,9 @@ extern "C" {
 /* Length of the buffer of a listing. */
 #define RBATL_LISTING_BYTES 32768
 
+/* The most stack that a call takes. */
+#define RBATL_STACK_BYTES 12288
+
 /* The rank where nothing is enforced or forced, and the move where the
  * coalition does not win. */
 #define RBATL_NEVER 65535
@@ -84,67 +108,77 @@ extern "C" {
 #define RBATL_MAX_BOUND 15
 #define RBATL_UNLIMITED 255
 
+/* The kinds of a row; those from RBATL_NEXT on have a table. */
+enum rbatl_kind {
+    RBATL_PROP = 0,
+    RBATL_NOT,
+    RBATL_OR,
+    RBATL_NEXT,
+    RBATL_ALWAYS,
+    RBATL_UNTIL
+};
+
 /* Why a call refuses. A refused call answers minus the number. */
 enum rbatl_refusal {
     /* A buffer of fixed size has another length, or a text is too long. */
-    RBATL_LENGTH = 1,
+    RBATL_E_LENGTH = 1,
     /* The number of agents, resources, states, propositions or rows is out of
      * range. */
-    RBATL_SIZES = 2,
+    RBATL_E_SIZES = 2,
     /* A state has a proposition that does not exist, a count of actions that
      * is not 1 to 4, a cost above 15, or an idle action with a cost. */
-    RBATL_STATE = 3,
+    RBATL_E_STATE = 3,
     /* A next state does not exist. */
-    RBATL_NEXT = 4,
+    RBATL_E_NEXT = 4,
     /* A row has an unknown kind, names a row that is not lower or a
      * proposition that does not exist, has an empty coalition or an agent that
      * does not exist in it, or a bound that is neither 0 to 15 nor unlimited. */
-    RBATL_ROW = 5,
+    RBATL_E_ROW = 5,
     /* A place of the block that the job does not use is not 0. */
-    RBATL_UNUSED = 6,
+    RBATL_E_UNUSED = 6,
     /* A text does not have the form of a job. */
-    RBATL_FORM = 7,
+    RBATL_E_FORM = 7,
     /* The row asked for does not exist, or is of kind prop, not or or where
      * more than its set of states is wanted. */
-    RBATL_ROW_CHOICE = 8,
+    RBATL_E_ROW_CHOICE = 8,
     /* The state asked for does not exist, or a stock is above its bound, or is
      * not 0 where it must be. */
-    RBATL_POSITION = 9,
+    RBATL_E_POSITION = 9,
     /* The coalition's move is asked for where it does not win, or a reply
      * where it does. */
-    RBATL_WRONG_SIDE = 10,
+    RBATL_E_WRONG_SIDE = 10,
     /* The move to reply to is not available or not affordable. */
-    RBATL_MOVE = 11
+    RBATL_E_MOVE = 11
 };
 
-/* Checks a block: 0 if it holds a job; -RBATL_LENGTH for any other length;
- * else minus the first of RBATL_SIZES, RBATL_STATE, RBATL_NEXT, RBATL_ROW and
- * RBATL_UNUSED whose condition holds anywhere in the block. Its bytes are
+/* Checks a block: 0 if it holds a job; -RBATL_E_LENGTH for any other length;
+ * else minus the first of RBATL_E_SIZES, RBATL_E_STATE, RBATL_E_NEXT,
+ * RBATL_E_ROW and RBATL_E_UNUSED whose condition holds anywhere in the block.
+ * Its bytes, which rbatl_job.h reads by name, are
  * - 0 to 4: the numbers of agents, resources, states, propositions and rows;
  * - 5 + s: the propositions true in state s, bit k for proposition k;
  * - 29 + 3s + a: the number of actions of agent a in state s;
  * - 101 + 24s + 8a + 2k + j: what action k of agent a there costs of resource j;
  * - 677 + 64s + a0 + 4 * a1 + 16 * a2: the next state by the agents' actions;
- * - 2213 + 8i on: row i as kind, left, right, coalition, bound of each of two
- *   resources, 0, 0. The kinds are 0 prop, 1 not, 2 or, 3 next, 4 always,
- *   5 until; left and right are lower rows, or left the proposition; the
- *   coalition has bit a for agent a.
+ * - 2213 + 8i on: row i as kind (enum rbatl_kind), left, right, coalition,
+ *   bound of each of two resources, 0, 0; left and right are lower rows, or left
+ *   the proposition; the coalition has bit a for agent a.
  * Every place that the job does not use is 0. Action 0 is idle. */
 int32_t rbatl_check(const uint8_t *block, size_t block_len);
 
 /* Reads a text into a block of RBATL_BLOCK_BYTES: 0, and the block is the job
- * of the text; -RBATL_LENGTH for a block of any other length or a text above
+ * of the text; -RBATL_E_LENGTH for a block of any other length or a text above
  * RBATL_TEXT_BYTES; else minus the first refusal that the fields meet from
- * left to right and line by line, each tried for its form (RBATL_FORM), the
- * comma or line end after it included, and then for its value (RBATL_SIZES,
- * RBATL_STATE, RBATL_NEXT, RBATL_ROW). A bound is a number, `inf`, or empty,
- * which is unlimited. The text needs no byte 0 at its end, and has none. A
- * refused call leaves the block as it was. */
+ * left to right and line by line, each tried for its form (RBATL_E_FORM), the
+ * comma or line end after it included, and then for its value (RBATL_E_SIZES,
+ * RBATL_E_STATE, RBATL_E_NEXT, RBATL_E_ROW). A bound is a number, `inf`, or
+ * empty, which is unlimited. The text needs no byte 0 at its end, and has none.
+ * A refused call leaves the block as it was. */
 int32_t rbatl_read(const uint8_t *text, size_t text_len, uint8_t *block, size_t block_len);
 
 /* Writes the text of a block into a buffer of RBATL_TEXT_BYTES: the length of
- * the text, and zeros stand after it; -RBATL_LENGTH for a block or a buffer of
- * any other length; else what rbatl_check answers on the block. An unlimited
+ * the text, and zeros stand after it; -RBATL_E_LENGTH for a block or a buffer
+ * of any other length; else what rbatl_check answers on the block. An unlimited
  * bound is written inf. A refused call leaves the buffer as it was. */
 int32_t rbatl_write(const uint8_t *block, size_t block_len, uint8_t *text, size_t text_len);
 
@@ -155,9 +189,9 @@ int32_t rbatl_write(const uint8_t *block, size_t block_len, uint8_t *text, size_
  * at every state, or right true at some state with left true at all earlier
  * ones. Only the coalition's costs count. The sets are RBATL_SETS_BYTES: 32
  * words of four bytes, lowest byte first. The room is RBATL_ROOM_BYTES of
- * working room. -RBATL_LENGTH for a block, sets or a room of any other length,
- * and then nothing changes; else what rbatl_check answers on the block, and the
- * sets stay as they were. */
+ * working room. -RBATL_E_LENGTH for a block, sets or a room of any other
+ * length, and then nothing changes; else what rbatl_check answers on the block,
+ * and the sets stay as they were. */
 int32_t rbatl_label(const uint8_t *block, size_t block_len, uint8_t *sets, size_t sets_len,
                     uint8_t *room, size_t room_len);
 
@@ -176,10 +210,10 @@ int32_t rbatl_label(const uint8_t *block, size_t block_len, uint8_t *sets, size_
  * move (its number: rbatl_move) is RBATL_NO_MOVE where the coalition does not
  * win, and 0 at rank 0 of until. Else it is the smallest that the stock pays
  * whose outcomes, whatever the reply, all have a lower rank (until), all have
- * rank RBATL_NEVER (always), or all satisfy left (next). -RBATL_LENGTH for a
+ * rank RBATL_NEVER (always), or all satisfy left (next). -RBATL_E_LENGTH for a
  * block, ranks or moves of any other length; else what rbatl_check answers on
- * the block; else -RBATL_ROW_CHOICE. A refused call leaves both buffers as they
- * were. */
+ * the block; else -RBATL_E_ROW_CHOICE. A refused call leaves both buffers as
+ * they were. */
 int32_t rbatl_table(const uint8_t *block, size_t block_len, uint8_t row, uint8_t *ranks,
                     size_t ranks_len, uint8_t *moves, size_t moves_len);
 
@@ -187,26 +221,28 @@ int32_t rbatl_table(const uint8_t *block, size_t block_len, uint8_t row, uint8_t
  * move of the row's table. A move has the number a0 + 4 * a1 + 16 * a2 of its
  * agents' actions, with 0 for agents outside the coalition. A stock is 0 where
  * its resource is unlimited or absent. The room is RBATL_ROOM_BYTES of working
- * room. -RBATL_LENGTH for a block or a room of any other length, and then
+ * room. -RBATL_E_LENGTH for a block or a room of any other length, and then
  * nothing changes; else what rbatl_check answers on the block; else the first
- * of -RBATL_ROW_CHOICE, -RBATL_POSITION and -RBATL_WRONG_SIDE that applies. */
+ * of -RBATL_E_ROW_CHOICE, -RBATL_E_POSITION and -RBATL_E_WRONG_SIDE that
+ * applies. */
 int32_t rbatl_move(const uint8_t *block, size_t block_len, uint8_t row, uint8_t state,
                    uint8_t stock0, uint8_t stock1, uint8_t *room, size_t room_len);
 
 /* The reply of all other agents to the coalition's move at a position where the
  * coalition does not win: against these replies no play whose moves the stock
- * pays makes the row true, whoever chose them. It is the smallest whose outcome the coalition does not
- * win (until), has a lower rank (always), or fails left (next); and 0 where the
- * state alone makes the row false. A reply has 0 for the coalition's agents.
- * Otherwise as rbatl_move, with -RBATL_MOVE last of the refusals. */
+ * pays makes the row true, whoever chose them. It is the smallest whose outcome
+ * the coalition does not win (until), has a lower rank (always), or fails left
+ * (next); and 0 where the state alone makes the row false. A reply has 0 for the
+ * coalition's agents. Otherwise as rbatl_move, with -RBATL_E_MOVE last of the
+ * refusals. */
 int32_t rbatl_reply(const uint8_t *block, size_t block_len, uint8_t row, uint8_t state,
                     uint8_t stock0, uint8_t stock1, uint8_t move, uint8_t *room, size_t room_len);
 
 /* Lists the states in which a row, of any kind, is true: their count, and the
  * list of RBATL_STATES_BYTES holds them in rising order and zeros after them.
- * The room is RBATL_ROOM_BYTES of working room. -RBATL_LENGTH for a block, a
+ * The room is RBATL_ROOM_BYTES of working room. -RBATL_E_LENGTH for a block, a
  * list or a room of any other length, and then nothing changes; else what
- * rbatl_check answers on the block; else -RBATL_ROW_CHOICE for a row that does
+ * rbatl_check answers on the block; else -RBATL_E_ROW_CHOICE for a row that does
  * not exist. A refused call leaves the list as it was. */
 int32_t rbatl_states(const uint8_t *block, size_t block_len, uint8_t row, uint8_t *list,
                      size_t list_len, uint8_t *room, size_t room_len);
@@ -228,7 +264,7 @@ int32_t rbatl_states_refusal(const uint8_t *block, size_t block_len, uint8_t row
  *   of the set, rising, `plan,` with the row, the state, and the rank and move
  *   of its table where each stock is its bound, or 0 if unlimited or absent.
  * Ranks and moves, of RBATL_RANKS_BYTES and RBATL_MOVES_BYTES, are working room.
- * -RBATL_LENGTH for a text above RBATL_TEXT_BYTES or for a listing, ranks or
+ * -RBATL_E_LENGTH for a text above RBATL_TEXT_BYTES or for a listing, ranks or
  * moves of any other length, and then nothing changes; else what rbatl_read
  * answers on the text, and the listing stays as it was. */
 int32_t rbatl_list(const uint8_t *text, size_t text_len, uint8_t *listing, size_t listing_len,

@@ -1,6 +1,7 @@
 #!/usr/bin/env bash
-# The header stands alone in C and C++, and the example in its opening comment
-# compiles as it stands and says what is true. Last line: 'N passed, M failed'.
+# Each header stands alone in C and C++; the example in the opening comment of the
+# first compiles as it stands and says what is true; its version is one version,
+# and its calls are those of the library. Last line: 'N passed, M failed'.
 set -uo pipefail
 cd "$(dirname "${BASH_SOURCE[0]}")/.." || exit 1
 
@@ -23,12 +24,14 @@ try() {
     fi
 }
 
-strict=(-Wall -Wextra -pedantic -Werror -Iinclude)
+strict=(-Wall -Wextra -pedantic -Wconversion -Wshadow -Werror -Iinclude)
 
-try 'the header as C99' gcc -std=c99 "${strict[@]}" -x c -fsyntax-only "$header"
-try 'the header as C11' gcc -std=c11 "${strict[@]}" -x c -fsyntax-only "$header"
-try 'the header as C++11' g++ -std=c++11 "${strict[@]}" -x c++ -fsyntax-only "$header"
-try 'the header as C++17' g++ -std=c++17 "${strict[@]}" -x c++ -fsyntax-only "$header"
+for alone in "$header" include/rbatl_job.h; do
+    try "$alone as C99" gcc -std=c99 "${strict[@]}" -x c -fsyntax-only "$alone"
+    try "$alone as C11" gcc -std=c11 "${strict[@]}" -x c -fsyntax-only "$alone"
+    try "$alone as C++11" g++ -std=c++11 "${strict[@]}" -x c++ -fsyntax-only "$alone"
+    try "$alone as C++17" g++ -std=c++17 "${strict[@]}" -x c++ -fsyntax-only "$alone"
+done
 
 # The indented lines of the opening comment.
 sed -n '1,/^ \*\/$/s/^ \*     //p' "$header" >"$work/example.c"
@@ -41,6 +44,15 @@ try 'the answer from C' says "$work/c"
 try 'the example as C++11' g++ -std=c++11 "${strict[@]}" -x c++ "$work/example.c" -x none "$library" \
     -o "$work/cpp"
 try 'the answer from C++' says "$work/cpp"
+
+# The number of the version, in parts, is its string.
+value_of() { printf '#include "rbatl.h"\n%s\n' "$1" | gcc -std=c99 -Iinclude -E -P -x c - | tail -n 1; }
+one_version() {
+    local number
+    number=$(value_of RBATL_VERSION_NUMBER)
+    [[ $(value_of RBATL_VERSION) == "\"$((number / 10000)).$((number / 100 % 100)).$((number % 100))\"" ]]
+}
+try 'one version' one_version
 
 # Every call that the header declares is in the library, and no other.
 declared() { grep -oE '^int32_t rbatl_[a-z_]+' "$header" | cut -d' ' -f2 | sort; }

@@ -22,12 +22,12 @@ struct shape {
 };
 
 #define BIT(refusal) (1u << (refusal))
-#define OF_BLOCK                                                                                  \
-    (BIT(RBATL_LENGTH) | BIT(RBATL_SIZES) | BIT(RBATL_STATE) | BIT(RBATL_NEXT) | BIT(RBATL_ROW) | \
-     BIT(RBATL_UNUSED))
-#define OF_TEXT ((OF_BLOCK & ~BIT(RBATL_UNUSED)) | BIT(RBATL_FORM))
-#define OF_ROW (OF_BLOCK | BIT(RBATL_ROW_CHOICE))
-#define OF_MOVE (OF_ROW | BIT(RBATL_POSITION) | BIT(RBATL_WRONG_SIDE))
+#define OF_BLOCK                                                                                   \
+    (BIT(RBATL_E_LENGTH) | BIT(RBATL_E_SIZES) | BIT(RBATL_E_STATE) | BIT(RBATL_E_NEXT) |           \
+     BIT(RBATL_E_ROW) | BIT(RBATL_E_UNUSED))
+#define OF_TEXT ((OF_BLOCK & ~BIT(RBATL_E_UNUSED)) | BIT(RBATL_E_FORM))
+#define OF_ROW (OF_BLOCK | BIT(RBATL_E_ROW_CHOICE))
+#define OF_MOVE (OF_ROW | BIT(RBATL_E_POSITION) | BIT(RBATL_E_WRONG_SIDE))
 
 static const struct shape shapes[ENTRIES] = {
     [CHECK] = {"check", {{NONE, 0}}, 0, OF_BLOCK},
@@ -39,8 +39,11 @@ static const struct shape shapes[ENTRIES] = {
     [WRITE] = {"write", {{FILLED, RBATL_TEXT_BYTES}}, RBATL_TEXT_BYTES, OF_BLOCK},
     [LABEL] = {"label", {{FILLED, RBATL_SETS_BYTES}, {ROOM, RBATL_ROOM_BYTES}}, 0, OF_BLOCK},
     [TABLE] = {"table", {{FILLED, RBATL_RANKS_BYTES}, {FILLED, RBATL_MOVES_BYTES}}, 0, OF_ROW},
-    [MOVE] = {"move", {{ROOM, RBATL_ROOM_BYTES}}, JOINT_ACTIONS - 1, OF_MOVE},
-    [REPLY] = {"reply", {{ROOM, RBATL_ROOM_BYTES}}, JOINT_ACTIONS - 1, OF_MOVE | BIT(RBATL_MOVE)},
+    [MOVE] = {"move", {{ROOM, RBATL_ROOM_BYTES}}, RBATL_JOINT_ACTIONS - 1, OF_MOVE},
+    [REPLY] = {"reply",
+               {{ROOM, RBATL_ROOM_BYTES}},
+               RBATL_JOINT_ACTIONS - 1,
+               OF_MOVE | BIT(RBATL_E_MOVE)},
     [STATES] = {"states",
                 {{FILLED, RBATL_STATES_BYTES}, {ROOM, RBATL_ROOM_BYTES}},
                 RBATL_MAX_STATES,
@@ -127,10 +130,10 @@ static void check_answer(const struct run *run, const struct request *request, i
     bool refused = answer < 0;
 
     expect(run, answer <= shape->largest_answer, shape->name, "an answer out of range");
-    expect(run, answer >= -RBATL_MOVE, shape->name, "an unknown refusal");
+    expect(run, answer >= -RBATL_E_MOVE, shape->name, "an unknown refusal");
     expect(run, !refused || shape->refusals & BIT((unsigned)-answer), shape->name,
            "a refusal that the call does not have");
-    expect(run, (answer == -RBATL_LENGTH) == bad_length(request), shape->name,
+    expect(run, (answer == -RBATL_E_LENGTH) == bad_length(request), shape->name,
            "refusal 1 for right lengths, or none for wrong ones");
 }
 
@@ -138,7 +141,7 @@ static void check_answer(const struct run *run, const struct request *request, i
 static void check_buffer(const struct run *run, const char *name, int32_t answer,
                          const struct lent *lent, enum use use)
 {
-    if (answer == -RBATL_LENGTH || (answer < 0 && use == FILLED) || use == KEPT)
+    if (answer == -RBATL_E_LENGTH || (answer < 0 && use == FILLED) || use == KEPT)
         expect(run, kept(lent), name, "refused or not to be written, but a buffer has changed");
     else if (use == ROOM)
         expect(run, is_zero(lent->bytes, lent->length), name, "no zeros in the room");

@@ -69,9 +69,6 @@ int32_t ask_block(struct run *run, enum entry entry, const uint8_t *block, unsig
 int32_t ask_text(struct run *run, enum entry entry, const uint8_t *text, size_t length,
                  struct outcome *outcome);
 
-/* The set of a row among those that label fills. */
-uint32_t word_at(const uint8_t *sets, unsigned row);
-
 /* Lists the text of a passing block. */
 void try_listing(struct run *run, const uint8_t *block, const uint8_t *text, size_t length);
 

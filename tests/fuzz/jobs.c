@@ -15,11 +15,11 @@ static void random_sizes(struct random *random, uint8_t *block)
     unsigned states = size == 0 ? RBATL_MAX_STATES : within(random, 1, size < 8 ? 24 : 6);
     unsigned rows = size == 0 ? RBATL_MAX_ROWS : within(random, 1, size < 8 ? 32 : 9);
 
-    block[PLACE_AGENTS] = (uint8_t)within(random, 1, RBATL_MAX_AGENTS);
-    block[PLACE_RESOURCES] = (uint8_t)within(random, 1, RBATL_MAX_RESOURCES);
-    block[PLACE_STATES] = (uint8_t)states;
-    block[PLACE_PROPOSITIONS] = (uint8_t)within(random, 1, RBATL_MAX_PROPOSITIONS);
-    block[PLACE_ROWS] = (uint8_t)rows;
+    block[RBATL_PLACE_AGENTS] = (uint8_t)within(random, 1, RBATL_MAX_AGENTS);
+    block[RBATL_PLACE_RESOURCES] = (uint8_t)within(random, 1, RBATL_MAX_RESOURCES);
+    block[RBATL_PLACE_STATES] = (uint8_t)states;
+    block[RBATL_PLACE_PROPOSITIONS] = (uint8_t)within(random, 1, RBATL_MAX_PROPOSITIONS);
+    block[RBATL_PLACE_ROWS] = (uint8_t)rows;
 }
 
 static void random_actions(struct random *random, uint8_t *block, unsigned state, unsigned agent)
@@ -28,10 +28,10 @@ static void random_actions(struct random *random, uint8_t *block, unsigned state
     unsigned count = within(random, 1, within(random, 1, RBATL_MAX_ACTIONS));
     unsigned most = costs[below(random, sizeof costs / sizeof costs[0])];
 
-    block[place_of_count(state, agent)] = (uint8_t)count;
+    block[rbatl_place_of_count(state, agent)] = (uint8_t)count;
     for (unsigned action = 1; action < count; action++)
-        for (unsigned resource = 0; resource < job_resources(block); resource++)
-            block[place_of_cost(state, agent, action, resource)] =
+        for (unsigned resource = 0; resource < rbatl_job_resources(block); resource++)
+            block[rbatl_place_of_cost(state, agent, action, resource)] =
                 (uint8_t)within(random, 0, most);
 }
 
@@ -40,9 +40,9 @@ static void random_actions(struct random *random, uint8_t *block, unsigned state
 static unsigned random_target(struct random *random, const uint8_t *block, unsigned state,
                               unsigned joint)
 {
-    unsigned states = job_states(block);
+    unsigned states = rbatl_job_states(block);
     if (joint > 3 && one_in(random, 2))
-        return next_state(block, state, joint & 3);
+        return rbatl_next_state(block, state, joint & 3);
     if (one_in(random, 4))
         return (unsigned)below(random, states);
     return (state + within(random, 0, 2)) % states;
@@ -52,7 +52,7 @@ static unsigned random_target(struct random *random, const uint8_t *block, unsig
  * propositions, so that a reply has something to spoil. */
 static unsigned contested_target(struct random *random, const uint8_t *block, unsigned joint)
 {
-    unsigned target = (unsigned)below(random, job_states(block));
+    unsigned target = (unsigned)below(random, rbatl_job_states(block));
     return joint > 3 ? target : target & ~1u;
 }
 
@@ -65,13 +65,14 @@ static unsigned random_mask(struct random *random, unsigned state, bool contest)
 
 static void random_state(struct random *random, uint8_t *block, unsigned state, bool contest)
 {
-    unsigned masks = 1u << job_propositions(block);
-    block[place_of_mask(state)] = (uint8_t)(random_mask(random, state, contest) & (masks - 1));
-    for (unsigned agent = 0; agent < job_agents(block); agent++)
+    unsigned masks = 1u << rbatl_job_propositions(block);
+    block[rbatl_place_of_mask(state)] =
+        (uint8_t)(random_mask(random, state, contest) & (masks - 1));
+    for (unsigned agent = 0; agent < rbatl_job_agents(block); agent++)
         random_actions(random, block, state, agent);
-    for (unsigned joint = 0; joint < JOINT_ACTIONS; joint++)
+    for (unsigned joint = 0; joint < RBATL_JOINT_ACTIONS; joint++)
         if (has_joint(block, state, joint))
-            block[place_of_next(state, joint)] =
+            block[rbatl_place_of_next(state, joint)] =
                 (uint8_t)(contest ? contested_target(random, block, joint)
                                   : random_target(random, block, state, joint));
 }
@@ -83,18 +84,19 @@ static uint8_t random_bound(struct random *random, unsigned most)
 
 static void random_row(struct random *random, uint8_t *block, unsigned row, unsigned most)
 {
-    unsigned kind = row == 0 ? KIND_PROP : within(random, KIND_PROP, KIND_UNTIL);
-    unsigned operands = kind == KIND_PROP ? job_propositions(block) : row;
+    unsigned kind = row == 0 ? RBATL_PROP : within(random, RBATL_PROP, RBATL_UNTIL);
+    unsigned operands = kind == RBATL_PROP ? rbatl_job_propositions(block) : row;
 
-    block[place_of_field(row, FIELD_KIND)] = (uint8_t)kind;
-    block[place_of_field(row, FIELD_LEFT)] = (uint8_t)below(random, operands);
-    if (kind == KIND_OR || kind == KIND_UNTIL)
-        block[place_of_field(row, FIELD_RIGHT)] = (uint8_t)below(random, row);
-    if (!row_is_strategic(block, row))
+    block[rbatl_place_of_field(row, RBATL_FIELD_KIND)] = (uint8_t)kind;
+    block[rbatl_place_of_field(row, RBATL_FIELD_LEFT)] = (uint8_t)below(random, operands);
+    if (kind == RBATL_OR || kind == RBATL_UNTIL)
+        block[rbatl_place_of_field(row, RBATL_FIELD_RIGHT)] = (uint8_t)below(random, row);
+    if (!rbatl_row_is_strategic(block, row))
         return;
-    block[place_of_field(row, FIELD_COALITION)] = (uint8_t)within(random, 1, all_agents(block));
-    for (unsigned resource = 0; resource < job_resources(block); resource++)
-        block[place_of_field(row, FIELD_BOUND + resource)] = random_bound(random, most);
+    block[rbatl_place_of_field(row, RBATL_FIELD_TEAM)] =
+        (uint8_t)within(random, 1, all_agents(block));
+    for (unsigned resource = 0; resource < rbatl_job_resources(block); resource++)
+        block[rbatl_place_of_field(row, RBATL_FIELD_BOUND + resource)] = random_bound(random, most);
 }
 
 void random_job(struct random *random, uint8_t *block)
@@ -105,33 +107,34 @@ void random_job(struct random *random, uint8_t *block)
     random_sizes(random, block);
     unsigned most = bounds[below(random, sizeof bounds / sizeof bounds[0])];
     bool contest = one_in(random, 2);
-    for (unsigned state = 0; state < job_states(block); state++)
+    for (unsigned state = 0; state < rbatl_job_states(block); state++)
         random_state(random, block, state, contest);
-    for (unsigned row = 0; row < job_rows(block); row++)
+    for (unsigned row = 0; row < rbatl_job_rows(block); row++)
         random_row(random, block, row, most);
 }
 
 /* A place that the job may use, sort by sort, or any place. */
 static size_t random_place(struct random *random, const uint8_t *block)
 {
-    unsigned state = (unsigned)below(random, job_states(block));
+    unsigned state = (unsigned)below(random, rbatl_job_states(block));
     unsigned agent = (unsigned)below(random, RBATL_MAX_AGENTS);
     unsigned resource = (unsigned)below(random, RBATL_MAX_RESOURCES);
 
     switch (below(random, 7)) {
     case 0:
-        return below(random, PLACE_ROWS + 1);
+        return below(random, RBATL_PLACE_ROWS + 1);
     case 1:
-        return place_of_mask(state);
+        return rbatl_place_of_mask(state);
     case 2:
-        return place_of_count(state, agent);
+        return rbatl_place_of_count(state, agent);
     case 3:
-        return place_of_cost(state, agent, (unsigned)below(random, RBATL_MAX_ACTIONS), resource);
+        return rbatl_place_of_cost(state, agent, (unsigned)below(random, RBATL_MAX_ACTIONS),
+                                   resource);
     case 4:
-        return place_of_next(state, (unsigned)below(random, JOINT_ACTIONS));
+        return rbatl_place_of_next(state, (unsigned)below(random, RBATL_JOINT_ACTIONS));
     case 5:
-        return place_of_field((unsigned)below(random, job_rows(block)),
-                              (unsigned)below(random, ROW_FIELDS));
+        return rbatl_place_of_field((unsigned)below(random, rbatl_job_rows(block)),
+                                    (unsigned)below(random, RBATL_ROW_BYTES));
     default:
         return below(random, RBATL_BLOCK_BYTES);
     }

@@ -35,9 +35,9 @@ static void add_plans(struct run *run, struct lines *lines, const uint8_t *block
     struct view view = {block, row, outcome.bytes[0], outcome.bytes[1], 0, 0};
 
     expect(run, ask_block(run, TABLE, block, row, &outcome) == 0, "table", "a strategic row");
-    for (unsigned state = 0; state < job_states(block); state++) {
-        size_t position = full_stock(block, row, state);
-        if (!(set >> state & 1))
+    for (unsigned state = 0; state < rbatl_job_states(block); state++) {
+        size_t position = rbatl_full_stock(block, row, state);
+        if (!rbatl_set_has(set, state))
             continue;
         int added = snprintf(end_of(lines), left_of(lines), "plan,%u,%u,%u,%u\n", row, state,
                              rank_in(&view, position), view.moves[position]);
@@ -51,11 +51,11 @@ void try_listing(struct run *run, const uint8_t *block, const uint8_t *text, siz
     static struct lines due;
 
     expect(run, ask_block(run, LABEL, block, 0, &labels) == 0, "label", "a passing block");
-    due.length = (size_t)snprintf(due.bytes, sizeof due.bytes, "list,%u\n", job_rows(block));
-    for (unsigned row = 0; row < job_rows(block); row++) {
-        uint32_t set = word_at(labels.bytes[0], row);
+    due.length = (size_t)snprintf(due.bytes, sizeof due.bytes, "list,%u\n", rbatl_job_rows(block));
+    for (unsigned row = 0; row < rbatl_job_rows(block); row++) {
+        uint32_t set = rbatl_set_of(labels.bytes[0], row);
         add_set(&due, row, set);
-        if (row_is_strategic(block, row))
+        if (rbatl_row_is_strategic(block, row))
             add_plans(run, &due, block, row, set);
     }
     int32_t answer = ask_text(run, LIST, text, length, &listed);

@@ -84,8 +84,8 @@ int main(int argc, char **argv)
     }
     print_counts();
     if (argc > 3 && run.number < cases) {
-        fprintf(stderr, "long: %" PRIu64 " of %" PRIu64 " cases in %" PRIu64 " seconds\n", run.number,
-                cases, seconds);
+        fprintf(stderr, "long: %" PRIu64 " of %" PRIu64 " cases in %" PRIu64 " seconds\n",
+                run.number, cases, seconds);
         return 1;
     }
     return 0;

@@ -74,26 +74,20 @@ static void try_damaged_text(struct run *run, uint8_t *text, size_t length)
     try_listing(run, read.bytes[0], text, length);
 }
 
-uint32_t word_at(const uint8_t *sets, unsigned row)
-{
-    const uint8_t *word = sets + 4 * (size_t)row;
-    return word[0] | (uint32_t)word[1] << 8 | (uint32_t)word[2] << 16 | (uint32_t)word[3] << 24;
-}
-
 /* The set of a row that is not strategic, by the sets of lower rows. */
 static uint32_t plain_set(const uint8_t *block, unsigned row, const uint8_t *sets)
 {
-    uint32_t all = (UINT32_C(1) << job_states(block)) - 1, set = 0;
-    uint32_t left = word_at(sets, row_left(block, row));
+    uint32_t all = (UINT32_C(1) << rbatl_job_states(block)) - 1, set = 0;
+    unsigned operand = rbatl_row_left(block, row);
 
-    switch (row_kind(block, row)) {
-    case KIND_NOT:
-        return all & ~left;
-    case KIND_OR:
-        return left | word_at(sets, row_right(block, row));
+    switch (rbatl_row_kind(block, row)) {
+    case RBATL_NOT:
+        return all & ~rbatl_set_of(sets, operand);
+    case RBATL_OR:
+        return rbatl_set_of(sets, operand) | rbatl_set_of(sets, rbatl_row_right(block, row));
     default:
-        for (unsigned state = 0; state < job_states(block); state++)
-            set |= (uint32_t)(state_mask(block, state) >> row_left(block, row) & 1) << state;
+        for (unsigned state = 0; state < rbatl_job_states(block); state++)
+            set |= (uint32_t)(rbatl_state_mask(block, state) >> operand & 1) << state;
         return set;
     }
 }
@@ -104,7 +98,7 @@ static void try_states(struct run *run, const uint8_t *block, unsigned row, uint
     int32_t count = ask_block(run, STATES, block, row, &outcome), found = 0;
 
     for (unsigned state = 0; state < RBATL_MAX_STATES; state++)
-        if (set >> state & 1)
+        if (rbatl_set_has(set, state))
             expect(run, outcome.bytes[0][found++] == state, "states", "another state than label");
     expect(run, count == found, "states", "another count than label");
     while (found < RBATL_STATES_BYTES)
@@ -130,7 +124,7 @@ static uint8_t random_move(struct random *random, const struct view *view)
     if (one_in(random, 4))
         return (uint8_t)any;
     unsigned mask = one_in(random, 2) ? 0x15 : 0x3F;
-    return (uint8_t)part_of(any & mask, row_coalition(view->block, view->row));
+    return (uint8_t)part_of(any & mask, rbatl_row_team(view->block, view->row));
 }
 
 /* Exactly one side is answered, and as the table says. */
@@ -142,15 +136,15 @@ static void try_position(struct run *run, const struct view *view, size_t positi
     bool won = is_won(view, position);
 
     ask(run, &move, &outcome);
-    expect(run, outcome.answer == (won ? (int32_t)view->moves[position] : -RBATL_WRONG_SIDE),
+    expect(run, outcome.answer == (won ? (int32_t)view->moves[position] : -RBATL_E_WRONG_SIDE),
            "move", "another move than the table's");
     reply.move = random_move(&run->random, view);
     ask(run, &reply, &outcome);
-    int32_t due = -RBATL_WRONG_SIDE;
+    int32_t due = -RBATL_E_WRONG_SIDE;
     if (!won)
         due = is_allowed(view, position, reply.move)
                   ? (int32_t)due_reply(view, position, reply.move)
-                  : -RBATL_MOVE;
+                  : -RBATL_E_MOVE;
     expect(run, outcome.answer == due, "reply", "another reply than is due");
 }
 
@@ -161,9 +155,9 @@ static void try_no_position(struct run *run, const struct view *view, size_t pos
     struct request request = at_position(one_in(&run->random, 2) ? MOVE : REPLY, view, position);
     uint8_t *changed[] = {&request.state, &request.stock0, &request.stock1};
     const unsigned limits[] = {
-        job_states(view->block),
-        stock_places(view->block, view->row, 0),
-        stock_places(view->block, view->row, 1),
+        rbatl_job_states(view->block),
+        rbatl_stock_places(view->block, view->row, 0),
+        rbatl_stock_places(view->block, view->row, 1),
     };
     size_t which = below(&run->random, 3);
 
@@ -171,7 +165,7 @@ static void try_no_position(struct run *run, const struct view *view, size_t pos
                                       one_in(&run->random, 2) ? limits[which] : UINT8_MAX);
     request.move = draw_byte(&run->random);
     ask(run, &request, &outcome);
-    expect(run, outcome.answer == -RBATL_POSITION, entry_name(request.entry),
+    expect(run, outcome.answer == -RBATL_E_POSITION, entry_name(request.entry),
            "a position that there is not");
 }
 
@@ -192,18 +186,20 @@ static void try_entries(struct run *run, const struct view *view, size_t positio
 static void try_table(struct run *run, const uint8_t *block, unsigned row, const uint8_t *sets)
 {
     static struct outcome outcome;
-    size_t positions = position_count(block, row);
+    size_t positions = rbatl_position_count(block, row);
+    uint32_t set = rbatl_set_of(sets, row);
     struct view view = {block, row, outcome.bytes[0], outcome.bytes[1], 0, 0};
 
-    view.left = word_at(sets, row_left(block, row));
-    view.right = row_kind(block, row) == KIND_UNTIL ? word_at(sets, row_right(block, row)) : 0;
+    view.left = rbatl_set_of(sets, rbatl_row_left(block, row));
+    if (rbatl_row_kind(block, row) == RBATL_UNTIL)
+        view.right = rbatl_set_of(sets, rbatl_row_right(block, row));
     expect(run, ask_block(run, TABLE, block, row, &outcome) == 0, "table", "a strategic row");
     for (size_t i = 2 * positions; i < RBATL_RANKS_BYTES; i++)
         expect(run, outcome.bytes[0][i] == 0, "table", "no zeros after the ranks");
     for (size_t i = positions; i < RBATL_MOVES_BYTES; i++)
         expect(run, outcome.bytes[1][i] == 0, "table", "no zeros after the moves");
-    for (unsigned state = 0; state < job_states(block); state++)
-        expect(run, is_won(&view, full_stock(block, row, state)) == (word_at(sets, row) >> state & 1),
+    for (unsigned state = 0; state < rbatl_job_states(block); state++)
+        expect(run, is_won(&view, rbatl_full_stock(block, row, state)) == rbatl_set_has(set, state),
                "label", "another set than the table's");
     try_entries(run, &view, positions);
     for (unsigned i = 0; i < 6; i++)
@@ -223,20 +219,20 @@ static void try_no_table(struct run *run, const uint8_t *block, unsigned row)
     request.stock1 = draw_byte(&run->random);
     request.move = draw_byte(&run->random);
     ask(run, &request, &outcome);
-    expect(run, outcome.answer == -RBATL_ROW_CHOICE, entry_name(request.entry),
+    expect(run, outcome.answer == -RBATL_E_ROW_CHOICE, entry_name(request.entry),
            "a row without a table");
 }
 
 static void try_absent_row(struct run *run, const uint8_t *block)
 {
     static struct outcome outcome;
-    unsigned rows = job_rows(block);
+    unsigned rows = rbatl_job_rows(block);
     unsigned row = one_in(&run->random, 2) ? rows : within(&run->random, rows, UINT8_MAX);
 
     try_no_table(run, block, row);
-    expect(run, ask_block(run, STATES, block, row, &outcome) == -RBATL_ROW_CHOICE, "states",
+    expect(run, ask_block(run, STATES, block, row, &outcome) == -RBATL_E_ROW_CHOICE, "states",
            "an absent row");
-    expect(run, ask_block(run, REFUSAL, block, row, &outcome) == -RBATL_ROW_CHOICE,
+    expect(run, ask_block(run, REFUSAL, block, row, &outcome) == -RBATL_E_ROW_CHOICE,
            "states_refusal", "an absent row");
 }
 
@@ -248,21 +244,22 @@ static void try_rows(struct run *run, const uint8_t *block)
     const uint8_t *sets = labels.bytes[0];
 
     expect(run, ask_block(run, LABEL, block, 0, &labels) == 0, "label", "a passing block");
-    for (unsigned row = 0; row < job_rows(block); row++) {
-        bool strategic = row_is_strategic(block, row);
-        expect(run, strategic || word_at(sets, row) == plain_set(block, row, sets), "label",
+    for (unsigned row = 0; row < rbatl_job_rows(block); row++) {
+        bool strategic = rbatl_row_is_strategic(block, row);
+        expect(run, strategic || rbatl_set_of(sets, row) == plain_set(block, row, sets), "label",
                "another set of a plain row");
-        expect(run, word_at(sets, row) >> job_states(block) == 0, "label", "an absent state");
-        if (job_rows(block) > 9 && !one_in(&run->random, 4))
+        expect(run, rbatl_set_of(sets, row) >> rbatl_job_states(block) == 0, "label",
+               "an absent state");
+        if (rbatl_job_rows(block) > 9 && !one_in(&run->random, 4))
             continue;
-        try_states(run, block, row, word_at(sets, row));
+        try_states(run, block, row, rbatl_set_of(sets, row));
         if (strategic)
             try_table(run, block, row, sets);
         else
             try_no_table(run, block, row);
     }
-    for (unsigned row = job_rows(block); row < RBATL_MAX_ROWS; row++)
-        expect(run, word_at(sets, row) == 0, "label", "a set past the last row");
+    for (unsigned row = rbatl_job_rows(block); row < RBATL_MAX_ROWS; row++)
+        expect(run, rbatl_set_of(sets, row) == 0, "label", "a set past the last row");
     try_absent_row(run, block);
 }
 

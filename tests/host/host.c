@@ -5,22 +5,6 @@
 #include <stdio.h>
 #include <string.h>
 
-/* The bytes of the job Catch (document 01) that are not 0. */
-static const struct byte catch_bytes[] = {
-    /* N, R, M, P, F, and the mask of state 2 */
-    {0, 2}, {1, 1}, {2, 3}, {3, 1}, {4, 6}, {7, 1},
-    /* counts of agents 0 and 1 in states 0, 1, 2; costs of action 1 */
-    {29, 2}, {30, 2}, {32, 2}, {33, 1}, {35, 1}, {36, 1}, {103, 2}, {127, 3},
-    /* next states */
-    {678, 1}, {741, 1}, {742, 2}, {805, 2},
-    /* not,0 and or,0,1 */
-    {2221, 1}, {2229, 2}, {2231, 1},
-    /* until,1,5,2,0 and until,3,5,2,0 and until,3,4,2,0 */
-    {2237, 5}, {2238, 2}, {2240, 1}, {2241, 5},
-    {2245, 5}, {2246, 2}, {2248, 3}, {2249, 5},
-    {2253, 5}, {2254, 2}, {2256, 3}, {2257, 4},
-};
-
 /* The text of Catch before its last line, and that line. */
 #define FRONT \
     "job,2,1,3,1,6\n" \
@@ -39,63 +23,26 @@ static const struct byte catch_bytes[] = {
 const char catch_text[] = FRONT LAST;
 
 const struct refused_text refused_texts[] = {
-    {"", -RBATL_FORM},
-    {"job,2,1,25,1,6\n", -RBATL_SIZES},
-    {"job,2,1,3,1,6\nstate,00,0\n", -RBATL_FORM},
-    {"job,2,1,3,1,6\nstate,0,2\n", -RBATL_STATE},
-    {"job,1,1,1,1,1\nstate,0,0\nacts,0,0,2,1,3\n", -RBATL_STATE},
-    {"job,1,1,1,1,1\nstate,0,0\nacts,0,0,1,0\ngo,0,0,1\n", -RBATL_NEXT},
-    {"job,1,1,1,1,1\nstate,0,0\nacts,0,0,1,0\ngo,0,0,0\nnot,0\n", -RBATL_ROW},
-    {FRONT, -RBATL_FORM},
-    {FRONT "until,3,4,2,0", -RBATL_FORM},
-    {FRONT LAST "\n", -RBATL_FORM},
-    {FRONT "until,3,4,2,5\n", -RBATL_ROW},
-    {FRONT "until,3,16,2,0\n", -RBATL_ROW},
-    {FRONT "until,3,255,2,0\n", -RBATL_ROW},
-    {FRONT "until,3,256,2,0\n", -RBATL_FORM},
-    {FRONT "until,,4,2,0\n", -RBATL_FORM},
+    {"", -RBATL_E_FORM},
+    {"job,2,1,25,1,6\n", -RBATL_E_SIZES},
+    {"job,2,1,3,1,6\nstate,00,0\n", -RBATL_E_FORM},
+    {"job,2,1,3,1,6\nstate,0,2\n", -RBATL_E_STATE},
+    {"job,1,1,1,1,1\nstate,0,0\nacts,0,0,2,1,3\n", -RBATL_E_STATE},
+    {"job,1,1,1,1,1\nstate,0,0\nacts,0,0,1,0\ngo,0,0,1\n", -RBATL_E_NEXT},
+    {"job,1,1,1,1,1\nstate,0,0\nacts,0,0,1,0\ngo,0,0,0\nnot,0\n", -RBATL_E_ROW},
+    {FRONT, -RBATL_E_FORM},
+    {FRONT "until,3,4,2,0", -RBATL_E_FORM},
+    {FRONT LAST "\n", -RBATL_E_FORM},
+    {FRONT "until,3,4,2,5\n", -RBATL_E_ROW},
+    {FRONT "until,3,16,2,0\n", -RBATL_E_ROW},
+    {FRONT "until,3,255,2,0\n", -RBATL_E_ROW},
+    {FRONT "until,3,256,2,0\n", -RBATL_E_FORM},
+    {FRONT "until,,4,2,0\n", -RBATL_E_FORM},
 };
 const size_t refused_count = sizeof refused_texts / sizeof refused_texts[0];
 
-const struct damage damages[] = {
-    {"Catch", {0, 2}, 0},
-    {"a fourth state without actions", {2, 4}, -RBATL_STATE},
-    {"M 25", {2, 25}, -RBATL_SIZES},
-    {"N 0", {0, 0}, -RBATL_SIZES},
-    {"mask of state 0 with a second proposition", {5, 2}, -RBATL_STATE},
-    {"count 5", {29, 5}, -RBATL_STATE},
-    {"cost 15", {103, 15}, 0},
-    {"cost 16", {103, 16}, -RBATL_STATE},
-    {"idle with a cost", {125, 1}, -RBATL_STATE},
-    {"next state 2", {677, 2}, 0},
-    {"next state 3", {677, 3}, -RBATL_NEXT},
-    {"row 1 on itself", {2222, 1}, -RBATL_ROW},
-    {"empty coalition", {2240, 0}, -RBATL_ROW},
-    {"bound 15", {2241, 15}, 0},
-    {"bound 16", {2241, 16}, -RBATL_ROW},
-    {"bound unlimited", {2241, RBATL_UNLIMITED}, 0},
-    {"byte 28", {28, 1}, -RBATL_UNUSED},
-    {"last byte", {2468, 1}, -RBATL_UNUSED},
-};
-const size_t damage_count = sizeof damages / sizeof damages[0];
-
 static int passed;
 static int failed;
-
-void fill_catch(uint8_t *block)
-{
-    memset(block, 0, RBATL_BLOCK_BYTES);
-    for (size_t i = 0; i < sizeof catch_bytes / sizeof catch_bytes[0]; i++)
-        block[catch_bytes[i].place] = catch_bytes[i].value;
-}
-
-/* Catch with the i-th damage, and whether that is one that is refused. */
-int fill_damaged(uint8_t *block, size_t i)
-{
-    fill_catch(block);
-    block[damages[i].change.place] = damages[i].change.value;
-    return damages[i].answer != 0;
-}
 
 void count(int good, const char *name, const char *what)
 {
@@ -126,10 +73,12 @@ void count_answer(const char *name, const char *call, int32_t answer, int32_t ex
 /* The room, one byte longer than lent, must hold zeros, or, after a wrong length, be as it was. */
 void count_room(const char *name, const uint8_t *room, int32_t expected)
 {
-    if (expected == -RBATL_LENGTH)
-        count(all(room, RBATL_ROOM_BYTES + 1, FILL), name, "a wrong length, but the room has changed");
+    if (expected == -RBATL_E_LENGTH)
+        count(all(room, RBATL_ROOM_BYTES + 1, FILL), name,
+              "a wrong length, but the room has changed");
     else
-        count(all(room, RBATL_ROOM_BYTES, 0) && room[RBATL_ROOM_BYTES] == FILL, name, "no zeros in the room");
+        count(all(room, RBATL_ROOM_BYTES, 0) && room[RBATL_ROOM_BYTES] == FILL, name,
+              "no zeros in the room");
 }
 
 /* The answer must be the expected one, and the block must keep its bytes. */
@@ -151,16 +100,16 @@ static void check_lengths(void)
 
     fill_catch(bytes);
     for (size_t i = 0; i < sizeof lengths / sizeof lengths[0]; i++)
-        expect("another length", bytes, lengths[i], -RBATL_LENGTH);
+        expect("another length", bytes, lengths[i], -RBATL_E_LENGTH);
 }
 
 static void check_damages(void)
 {
     static uint8_t block[RBATL_BLOCK_BYTES];
 
-    for (size_t i = 0; i < damage_count; i++) {
-        fill_damaged(block, i);
-        expect(damages[i].name, block, sizeof block, damages[i].answer);
+    for (size_t i = 0; i < DAMAGES; i++) {
+        struct damage damage = fill_damaged(block, i);
+        expect(damage.name, block, sizeof block, damage.answer);
     }
 }
 
@@ -190,19 +139,20 @@ static void check_read(void)
     static const char inf[] = FRONT "until,3,inf,2,0\n";
     static char longest[RBATL_TEXT_BYTES + 1];
     static uint8_t job[RBATL_BLOCK_BYTES];
+    const size_t length = sizeof catch_text - 1;
 
     fill_catch(job);
-    expect_read("Catch", catch_text, sizeof catch_text - 1, sizeof job, 0, job);
-    expect_read("a short block", catch_text, sizeof catch_text - 1, sizeof job - 1, -RBATL_LENGTH, NULL);
-    expect_read("a long block", catch_text, sizeof catch_text - 1, sizeof job + 1, -RBATL_LENGTH, NULL);
-    expect_read("no block", catch_text, sizeof catch_text - 1, 0, -RBATL_LENGTH, NULL);
-    expect_read("the byte after Catch", catch_text, sizeof catch_text, sizeof job, -RBATL_FORM, NULL);
-    job[2257] = RBATL_UNLIMITED;
+    expect_read("Catch", catch_text, length, sizeof job, 0, job);
+    expect_read("a short block", catch_text, length, sizeof job - 1, -RBATL_E_LENGTH, NULL);
+    expect_read("a long block", catch_text, length, sizeof job + 1, -RBATL_E_LENGTH, NULL);
+    expect_read("no block", catch_text, length, 0, -RBATL_E_LENGTH, NULL);
+    expect_read("the byte after Catch", catch_text, length + 1, sizeof job, -RBATL_E_FORM, NULL);
+    job[rbatl_place_of_field(5, RBATL_FIELD_BOUND)] = RBATL_UNLIMITED;
     expect_read("an empty bound", empty, sizeof empty - 1, sizeof job, 0, job);
     expect_read("inf", inf, sizeof inf - 1, sizeof job, 0, job);
     memcpy(longest, catch_text, sizeof catch_text);
-    expect_read("32,768 bytes", longest, sizeof longest - 1, sizeof job, -RBATL_FORM, NULL);
-    expect_read("32,769 bytes", longest, sizeof longest, sizeof job, -RBATL_LENGTH, NULL);
+    expect_read("32,768 bytes", longest, sizeof longest - 1, sizeof job, -RBATL_E_FORM, NULL);
+    expect_read("32,769 bytes", longest, sizeof longest, sizeof job, -RBATL_E_LENGTH, NULL);
     for (size_t i = 0; i < refused_count; i++) {
         const char *text = refused_texts[i].text;
         expect_read(text, text, strlen(text), sizeof job, refused_texts[i].answer, NULL);
@@ -242,15 +192,17 @@ static void check_write(void)
 
     fill_catch(bytes);
     expect_write("Catch", bytes, size, RBATL_TEXT_BYTES, sizeof catch_text - 1, catch_text);
-    expect_write("a short block", bytes, size - 1, RBATL_TEXT_BYTES, -RBATL_LENGTH, NULL);
-    expect_write("a long block", bytes, size + 1, RBATL_TEXT_BYTES, -RBATL_LENGTH, NULL);
+    expect_write("a short block", bytes, size - 1, RBATL_TEXT_BYTES, -RBATL_E_LENGTH, NULL);
+    expect_write("a long block", bytes, size + 1, RBATL_TEXT_BYTES, -RBATL_E_LENGTH, NULL);
     for (size_t i = 0; i < sizeof lengths / sizeof lengths[0]; i++)
-        expect_write("another length", bytes, size, lengths[i], -RBATL_LENGTH, NULL);
-    bytes[2257] = RBATL_UNLIMITED;
+        expect_write("another length", bytes, size, lengths[i], -RBATL_E_LENGTH, NULL);
+    bytes[rbatl_place_of_field(5, RBATL_FIELD_BOUND)] = RBATL_UNLIMITED;
     expect_write("inf", bytes, size, RBATL_TEXT_BYTES, sizeof inf - 1, inf);
-    for (size_t i = 0; i < damage_count; i++)
-        if (fill_damaged(bytes, i))
-            expect_write(damages[i].name, bytes, size, RBATL_TEXT_BYTES, damages[i].answer, NULL);
+    for (size_t i = 0; i < DAMAGES; i++) {
+        struct damage damage = fill_damaged(bytes, i);
+        if (damage.answer != 0)
+            expect_write(damage.name, bytes, size, RBATL_TEXT_BYTES, damage.answer, NULL);
+    }
 }
 
 int main(void)
@@ -259,6 +211,7 @@ int main(void)
     check_lengths();
     check_read();
     check_write();
+    check_job();
     check_label();
     check_table();
     check_states();

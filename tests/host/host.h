@@ -2,7 +2,7 @@
 #ifndef HOST_H
 #define HOST_H
 
-#include "rbatl.h"
+#include "rbatl_job.h"
 
 /* A byte that no text, block or buffer of a job has here. */
 #define FILL 0xEE
@@ -12,6 +12,9 @@ struct byte {
     size_t place;
     uint8_t value;
 };
+
+/* The fields of a row of a job with one resource. */
+#define ROW_FIELDS (RBATL_FIELD_BOUND + 1)
 
 /* Catch with one byte changed, and the answer that it must get. */
 struct damage {
@@ -32,16 +35,20 @@ struct refused_text {
 extern const struct refused_text refused_texts[];
 extern const size_t refused_count;
 
-extern const struct damage damages[];
-extern const size_t damage_count;
+/* How many damages there are. Some leave a job that passes, with answer 0. */
+#define DAMAGES 18
 
+/* The block of Catch, a row in a block, and Catch with the i-th damage. */
 void fill_catch(uint8_t *block);
-int fill_damaged(uint8_t *block, size_t i);
+void fill_row(uint8_t *block, unsigned row, const uint8_t *fields);
+struct damage fill_damaged(uint8_t *block, size_t i);
+
 void count(int good, const char *name, const char *what);
 void count_answer(const char *name, const char *call, int32_t answer, int32_t expected);
 void count_room(const char *name, const uint8_t *room, int32_t expected);
 int all(const uint8_t *bytes, size_t length, uint8_t value);
 
+void check_job(void);
 void check_label(void);
 void check_table(void);
 void check_states(void);

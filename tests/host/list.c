@@ -39,7 +39,7 @@ static void expect_list(const char *name, const char *text, size_t length, struc
         count(all(listing + end, RBATL_LISTING_BYTES - end, 0), name, "no zeros after the listing");
         count(listing[RBATL_LISTING_BYTES] == FILL, name, "listing written too far");
     }
-    if (expected == -RBATL_LENGTH) {
+    if (expected == -RBATL_E_LENGTH) {
         count(all(ranks, sizeof ranks, FILL), name, "a wrong length, but the ranks have changed");
         count(all(moves, sizeof moves, FILL), name, "a wrong length, but the moves have changed");
     } else {
@@ -60,9 +60,9 @@ static void check_lent(const char *text, size_t length)
             {right.listing, right.ranks + (size_t)more, right.moves},
             {right.listing, right.ranks, right.moves + (size_t)more},
         };
-        expect_list("another listing", text, length, others[0], -RBATL_LENGTH);
-        expect_list("other ranks", text, length, others[1], -RBATL_LENGTH);
-        expect_list("other moves", text, length, others[2], -RBATL_LENGTH);
+        expect_list("another listing", text, length, others[0], -RBATL_E_LENGTH);
+        expect_list("other ranks", text, length, others[1], -RBATL_E_LENGTH);
+        expect_list("other moves", text, length, others[2], -RBATL_E_LENGTH);
     }
 }
 
@@ -75,8 +75,8 @@ void check_list(void)
     check_lent(catch_text, length);
     check_lent("", 0);
     memcpy(longest, catch_text, length);
-    expect_list("32,768 bytes", longest, sizeof longest - 1, right, -RBATL_FORM);
-    expect_list("32,769 bytes", longest, sizeof longest, right, -RBATL_LENGTH);
+    expect_list("32,768 bytes", longest, sizeof longest - 1, right, -RBATL_E_FORM);
+    expect_list("32,769 bytes", longest, sizeof longest, right, -RBATL_E_LENGTH);
     for (size_t i = 0; i < refused_count; i++) {
         const char *text = refused_texts[i].text;
         expect_list(text, text, strlen(text), right, refused_texts[i].answer);

@@ -15,16 +15,16 @@ static const struct asked moves[] = {
     {3, 2, 0, 0, 0, 0},
     {4, 0, 5, 0, 0, 1},
     {5, 1, 4, 0, 0, 1},
-    {1, 0, 0, 0, 0, -RBATL_ROW_CHOICE},
-    {6, 0, 0, 0, 0, -RBATL_ROW_CHOICE},
-    {255, 255, 255, 255, 0, -RBATL_ROW_CHOICE},
-    {3, 3, 0, 0, 0, -RBATL_POSITION},
-    {3, 1, 6, 0, 0, -RBATL_POSITION},
-    {3, 1, 5, 1, 0, -RBATL_POSITION},
-    {5, 1, 5, 0, 0, -RBATL_POSITION},
-    {3, 0, 5, 0, 0, -RBATL_WRONG_SIDE},
-    {3, 1, 2, 0, 0, -RBATL_WRONG_SIDE},
-    {4, 0, 4, 0, 0, -RBATL_WRONG_SIDE},
+    {1, 0, 0, 0, 0, -RBATL_E_ROW_CHOICE},
+    {6, 0, 0, 0, 0, -RBATL_E_ROW_CHOICE},
+    {255, 255, 255, 255, 0, -RBATL_E_ROW_CHOICE},
+    {3, 3, 0, 0, 0, -RBATL_E_POSITION},
+    {3, 1, 6, 0, 0, -RBATL_E_POSITION},
+    {3, 1, 5, 1, 0, -RBATL_E_POSITION},
+    {5, 1, 5, 0, 0, -RBATL_E_POSITION},
+    {3, 0, 5, 0, 0, -RBATL_E_WRONG_SIDE},
+    {3, 1, 2, 0, 0, -RBATL_E_WRONG_SIDE},
+    {4, 0, 4, 0, 0, -RBATL_E_WRONG_SIDE},
 };
 
 static const struct asked replies[] = {
@@ -32,20 +32,20 @@ static const struct asked replies[] = {
     {3, 0, 5, 0, 0, 0},
     {3, 0, 4, 0, 1, 0},
     {4, 0, 4, 0, 5, 0},
-    {1, 0, 0, 0, 0, -RBATL_ROW_CHOICE},
-    {6, 3, 6, 1, 255, -RBATL_ROW_CHOICE},
-    {3, 3, 0, 0, 0, -RBATL_POSITION},
-    {3, 1, 6, 0, 255, -RBATL_POSITION},
-    {3, 0, 5, 1, 1, -RBATL_POSITION},
-    {3, 1, 3, 0, 1, -RBATL_WRONG_SIDE},
-    {3, 2, 0, 0, 255, -RBATL_WRONG_SIDE},
-    {4, 0, 5, 0, 1, -RBATL_WRONG_SIDE},
-    {3, 0, 1, 0, 1, -RBATL_MOVE},
-    {3, 0, 5, 0, 2, -RBATL_MOVE},
-    {3, 0, 5, 0, 4, -RBATL_MOVE},
-    {4, 0, 4, 0, 16, -RBATL_MOVE},
-    {3, 0, 5, 0, 64, -RBATL_MOVE},
-    {3, 0, 5, 0, 255, -RBATL_MOVE},
+    {1, 0, 0, 0, 0, -RBATL_E_ROW_CHOICE},
+    {6, 3, 6, 1, 255, -RBATL_E_ROW_CHOICE},
+    {3, 3, 0, 0, 0, -RBATL_E_POSITION},
+    {3, 1, 6, 0, 255, -RBATL_E_POSITION},
+    {3, 0, 5, 1, 1, -RBATL_E_POSITION},
+    {3, 1, 3, 0, 1, -RBATL_E_WRONG_SIDE},
+    {3, 2, 0, 0, 255, -RBATL_E_WRONG_SIDE},
+    {4, 0, 5, 0, 1, -RBATL_E_WRONG_SIDE},
+    {3, 0, 1, 0, 1, -RBATL_E_MOVE},
+    {3, 0, 5, 0, 2, -RBATL_E_MOVE},
+    {3, 0, 5, 0, 4, -RBATL_E_MOVE},
+    {4, 0, 4, 0, 16, -RBATL_E_MOVE},
+    {3, 0, 5, 0, 64, -RBATL_E_MOVE},
+    {3, 0, 5, 0, 255, -RBATL_E_MOVE},
 };
 
 /* Where every call that gets to the position answers a move, or a reply. */
@@ -75,8 +75,8 @@ static void expect_at(const char *name, enum call call, struct asked at, const u
     memset(room, FILL, sizeof room);
     memcpy(before, block, length);
     int32_t answer = ask(call, at, block, length, room, room_length);
-    snprintf(what, sizeof what, "%s of row %d at %d, %d and %d", call == MOVE ? "move" : "reply", at.row,
-             at.state, at.stock0, at.stock1);
+    snprintf(what, sizeof what, "%s of row %d at %d, %d and %d", call == MOVE ? "move" : "reply",
+             at.row, at.state, at.stock0, at.stock1);
     count_answer(name, what, answer, expected);
     count(memcmp(before, block, length) == 0, name, "the block has changed");
     count_room(name, room, expected);
@@ -89,16 +89,17 @@ static void check_block(enum call call, struct asked at)
     const size_t size = RBATL_BLOCK_BYTES, room = RBATL_ROOM_BYTES;
 
     fill_catch(bytes);
-    expect_at("a short block", call, at, bytes, size - 1, room, -RBATL_LENGTH);
-    expect_at("a long block", call, at, bytes, size + 1, room, -RBATL_LENGTH);
-    expect_at("a short room", call, at, bytes, size, room - 1, -RBATL_LENGTH);
-    expect_at("a long room", call, at, bytes, size, room + 1, -RBATL_LENGTH);
-    expect_at("no room", call, at, bytes, size, 0, -RBATL_LENGTH);
-    for (size_t i = 0; i < damage_count; i++) {
-        if (!fill_damaged(bytes, i))
+    expect_at("a short block", call, at, bytes, size - 1, room, -RBATL_E_LENGTH);
+    expect_at("a long block", call, at, bytes, size + 1, room, -RBATL_E_LENGTH);
+    expect_at("a short room", call, at, bytes, size, room - 1, -RBATL_E_LENGTH);
+    expect_at("a long room", call, at, bytes, size, room + 1, -RBATL_E_LENGTH);
+    expect_at("no room", call, at, bytes, size, 0, -RBATL_E_LENGTH);
+    for (size_t i = 0; i < DAMAGES; i++) {
+        struct damage damage = fill_damaged(bytes, i);
+        if (damage.answer == 0)
             continue;
-        expect_at(damages[i].name, call, at, bytes, size, room, damages[i].answer);
-        expect_at(damages[i].name, call, at, bytes, size, room + 1, -RBATL_LENGTH);
+        expect_at(damage.name, call, at, bytes, size, room, damage.answer);
+        expect_at(damage.name, call, at, bytes, size, room + 1, -RBATL_E_LENGTH);
     }
 }
 
@@ -114,13 +115,13 @@ static void check_asked(enum call call, const struct asked *asked, size_t number
 /* Catch with the seventh row always,2,0,1. */
 static void check_seventh_row(void)
 {
-    static const struct byte row[] = {{4, 7}, {2261, 4}, {2262, 1}, {2264, 2}};
+    static const uint8_t fields[ROW_FIELDS] = {RBATL_ALWAYS, 1, 0, 2, 0};
     static const struct asked first = {6, 0, 0, 0, 0, 4};
     static uint8_t block[RBATL_BLOCK_BYTES];
 
     fill_catch(block);
-    for (size_t i = 0; i < sizeof row / sizeof row[0]; i++)
-        block[row[i].place] = row[i].value;
+    block[RBATL_PLACE_ROWS] = 7;
+    fill_row(block, 6, fields);
     expect_at("a seventh row", MOVE, first, block, sizeof block, RBATL_ROOM_BYTES, first.answer);
 }
 

@@ -8,20 +8,13 @@
  * stocks 0 to 5. */
 static const uint32_t catch_sets[] = {4, 3, 7, 6, 7, 6};
 static const uint16_t catch_ranks[] = {
-    RBATL_NEVER, RBATL_NEVER, RBATL_NEVER, RBATL_NEVER, RBATL_NEVER, 2, RBATL_NEVER, RBATL_NEVER, RBATL_NEVER, 1, 1, 1, 0, 0, 0, 0, 0, 0,
+    RBATL_NEVER, RBATL_NEVER, RBATL_NEVER, RBATL_NEVER, RBATL_NEVER, 2,
+    RBATL_NEVER, RBATL_NEVER, RBATL_NEVER, 1, 1, 1,
+    0, 0, 0, 0, 0, 0,
 };
 static const uint8_t catch_moves[] = {
     255, 255, 255, 255, 255, 1, 255, 255, 255, 1, 1, 1, 0, 0, 0, 0, 0, 0,
 };
-
-/* The bytes of a word, lowest first, must stand there. */
-static int holds(const uint8_t *bytes, uint32_t word, size_t length)
-{
-    for (size_t i = 0; i < length; i++)
-        if (bytes[i] != (uint8_t)(word >> 8 * i))
-            return 0;
-    return 1;
-}
 
 /* The sets must be those of Catch, or, refused, be as they were; the room must
  * hold zeros, or, after a wrong length, be as it was. */
@@ -37,8 +30,8 @@ static void expect_label(const char *name, const uint8_t *block, size_t length, 
     int32_t answer = rbatl_label(block, length, sets, sets_length, room, room_length);
     count_answer(name, "label", answer, expected);
     if (expected == 0) {
-        for (size_t i = 0; i < words; i++)
-            same &= holds(sets + 4 * i, catch_sets[i], 4);
+        for (unsigned row = 0; row < words; row++)
+            same &= rbatl_set_of(sets, row) == catch_sets[row];
         count(same && all(sets + 4 * words, RBATL_SETS_BYTES - 4 * words, 0), name, "other sets");
         count(sets[RBATL_SETS_BYTES] == FILL, name, "sets written too far");
     } else {
@@ -50,19 +43,21 @@ static void expect_label(const char *name, const uint8_t *block, size_t length, 
 void check_label(void)
 {
     static uint8_t bytes[RBATL_BLOCK_BYTES + 1];
-    const size_t size = RBATL_BLOCK_BYTES;
+    const size_t size = RBATL_BLOCK_BYTES, sets = RBATL_SETS_BYTES, room = RBATL_ROOM_BYTES;
 
     fill_catch(bytes);
-    expect_label("Catch", bytes, size, RBATL_SETS_BYTES, RBATL_ROOM_BYTES, 0);
-    expect_label("a short block", bytes, size - 1, RBATL_SETS_BYTES, RBATL_ROOM_BYTES, -RBATL_LENGTH);
-    expect_label("a long block", bytes, size + 1, RBATL_SETS_BYTES, RBATL_ROOM_BYTES, -RBATL_LENGTH);
-    expect_label("short sets", bytes, size, RBATL_SETS_BYTES - 1, RBATL_ROOM_BYTES, -RBATL_LENGTH);
-    expect_label("long sets", bytes, size, RBATL_SETS_BYTES + 1, RBATL_ROOM_BYTES, -RBATL_LENGTH);
-    expect_label("a short room", bytes, size, RBATL_SETS_BYTES, RBATL_ROOM_BYTES - 1, -RBATL_LENGTH);
-    expect_label("a long room", bytes, size, RBATL_SETS_BYTES, RBATL_ROOM_BYTES + 1, -RBATL_LENGTH);
-    for (size_t i = 0; i < damage_count; i++)
-        if (fill_damaged(bytes, i))
-            expect_label(damages[i].name, bytes, size, RBATL_SETS_BYTES, RBATL_ROOM_BYTES, damages[i].answer);
+    expect_label("Catch", bytes, size, sets, room, 0);
+    expect_label("a short block", bytes, size - 1, sets, room, -RBATL_E_LENGTH);
+    expect_label("a long block", bytes, size + 1, sets, room, -RBATL_E_LENGTH);
+    expect_label("short sets", bytes, size, sets - 1, room, -RBATL_E_LENGTH);
+    expect_label("long sets", bytes, size, sets + 1, room, -RBATL_E_LENGTH);
+    expect_label("a short room", bytes, size, sets, room - 1, -RBATL_E_LENGTH);
+    expect_label("a long room", bytes, size, sets, room + 1, -RBATL_E_LENGTH);
+    for (size_t i = 0; i < DAMAGES; i++) {
+        struct damage damage = fill_damaged(bytes, i);
+        if (damage.answer != 0)
+            expect_label(damage.name, bytes, size, sets, room, damage.answer);
+    }
 }
 
 /* The table must be that of Catch's row 4, or, refused, leave both buffers as
@@ -85,35 +80,39 @@ static void expect_table(const char *name, const uint8_t *block, size_t length, 
         return;
     }
     for (size_t i = 0; i < positions; i++)
-        same &= holds(ranks + 2 * i, catch_ranks[i], 2);
-    count(same && all(ranks + 2 * positions, RBATL_RANKS_BYTES - 2 * positions, 0), name, "other ranks");
+        same &= rbatl_rank_at(ranks, i) == catch_ranks[i];
+    count(same && all(ranks + 2 * positions, RBATL_RANKS_BYTES - 2 * positions, 0), name,
+          "other ranks");
     count(memcmp(moves, catch_moves, positions) == 0, name, "other moves");
-    count(all(moves + positions, RBATL_MOVES_BYTES - positions, 0), name, "no zeros after the moves");
-    count(ranks[RBATL_RANKS_BYTES] == FILL && moves[RBATL_MOVES_BYTES] == FILL, name, "written too far");
+    count(all(moves + positions, RBATL_MOVES_BYTES - positions, 0), name,
+          "no zeros after the moves");
+    count(ranks[RBATL_RANKS_BYTES] == FILL && moves[RBATL_MOVES_BYTES] == FILL, name,
+          "written too far");
 }
 
 void check_table(void)
 {
     static const uint8_t tableless[] = {0, 1, 2, 6, 31, 32, 255};
     static uint8_t bytes[RBATL_BLOCK_BYTES + 1];
-    const size_t size = RBATL_BLOCK_BYTES;
+    const size_t size = RBATL_BLOCK_BYTES, ranks = RBATL_RANKS_BYTES, moves = RBATL_MOVES_BYTES;
 
     fill_catch(bytes);
-    expect_table("Catch", bytes, size, 4, RBATL_RANKS_BYTES, RBATL_MOVES_BYTES, 0);
-    expect_table("a short block", bytes, size - 1, 4, RBATL_RANKS_BYTES, RBATL_MOVES_BYTES, -RBATL_LENGTH);
-    expect_table("a long block", bytes, size + 1, 4, RBATL_RANKS_BYTES, RBATL_MOVES_BYTES, -RBATL_LENGTH);
-    expect_table("short ranks", bytes, size, 4, RBATL_RANKS_BYTES - 1, RBATL_MOVES_BYTES, -RBATL_LENGTH);
-    expect_table("long ranks", bytes, size, 4, RBATL_RANKS_BYTES + 1, RBATL_MOVES_BYTES, -RBATL_LENGTH);
-    expect_table("short moves", bytes, size, 4, RBATL_RANKS_BYTES, RBATL_MOVES_BYTES - 1, -RBATL_LENGTH);
-    expect_table("long moves", bytes, size, 255, RBATL_RANKS_BYTES, RBATL_MOVES_BYTES + 1, -RBATL_LENGTH);
+    expect_table("Catch", bytes, size, 4, ranks, moves, 0);
+    expect_table("a short block", bytes, size - 1, 4, ranks, moves, -RBATL_E_LENGTH);
+    expect_table("a long block", bytes, size + 1, 4, ranks, moves, -RBATL_E_LENGTH);
+    expect_table("short ranks", bytes, size, 4, ranks - 1, moves, -RBATL_E_LENGTH);
+    expect_table("long ranks", bytes, size, 4, ranks + 1, moves, -RBATL_E_LENGTH);
+    expect_table("short moves", bytes, size, 4, ranks, moves - 1, -RBATL_E_LENGTH);
+    expect_table("long moves", bytes, size, 255, ranks, moves + 1, -RBATL_E_LENGTH);
     for (size_t i = 0; i < sizeof tableless; i++)
-        expect_table("a row without a table", bytes, size, tableless[i], RBATL_RANKS_BYTES, RBATL_MOVES_BYTES,
-                     -RBATL_ROW_CHOICE);
-    for (size_t i = 0; i < damage_count; i++) {
-        if (!fill_damaged(bytes, i))
+        expect_table("a row without a table", bytes, size, tableless[i], ranks, moves,
+                     -RBATL_E_ROW_CHOICE);
+    for (size_t i = 0; i < DAMAGES; i++) {
+        struct damage damage = fill_damaged(bytes, i);
+        if (damage.answer == 0)
             continue;
-        expect_table(damages[i].name, bytes, size, 4, RBATL_RANKS_BYTES, RBATL_MOVES_BYTES, damages[i].answer);
-        expect_table(damages[i].name, bytes, size, 255, RBATL_RANKS_BYTES, RBATL_MOVES_BYTES, damages[i].answer);
+        expect_table(damage.name, bytes, size, 4, ranks, moves, damage.answer);
+        expect_table(damage.name, bytes, size, 255, ranks, moves, damage.answer);
     }
 }
 
@@ -149,7 +148,7 @@ static void expect_states(const char *name, const uint8_t *block, size_t length,
         count(all(list, sizeof list, FILL), name, "refused, but the list has changed");
     } else {
         for (uint8_t state = 0; state < RBATL_MAX_STATES; state++)
-            if (catch_sets[row] >> state & 1)
+            if (rbatl_set_has(catch_sets[row], state))
                 same &= list[end++] == state;
         count(same && end == (size_t)expected, name, "other states");
         count(all(list + end, RBATL_STATES_BYTES - end, 0), name, "no zeros after the states");
@@ -169,18 +168,19 @@ void check_states(void)
     fill_catch(bytes);
     for (uint8_t row = 0; row < sizeof counts / sizeof counts[0]; row++)
         expect_states("Catch", bytes, size, row, list, room, counts[row]);
-    expect_states("a short block", bytes, size - 1, 4, list, room, -RBATL_LENGTH);
-    expect_states("a long block", bytes, size + 1, 4, list, room, -RBATL_LENGTH);
-    expect_states("a short list", bytes, size, 4, list - 1, room, -RBATL_LENGTH);
-    expect_states("a long list", bytes, size, 255, list + 1, room, -RBATL_LENGTH);
-    expect_states("a short room", bytes, size, 4, list, room - 1, -RBATL_LENGTH);
-    expect_states("a long room", bytes, size, 255, list, room + 1, -RBATL_LENGTH);
+    expect_states("a short block", bytes, size - 1, 4, list, room, -RBATL_E_LENGTH);
+    expect_states("a long block", bytes, size + 1, 4, list, room, -RBATL_E_LENGTH);
+    expect_states("a short list", bytes, size, 4, list - 1, room, -RBATL_E_LENGTH);
+    expect_states("a long list", bytes, size, 255, list + 1, room, -RBATL_E_LENGTH);
+    expect_states("a short room", bytes, size, 4, list, room - 1, -RBATL_E_LENGTH);
+    expect_states("a long room", bytes, size, 255, list, room + 1, -RBATL_E_LENGTH);
     for (size_t i = 0; i < sizeof absent; i++)
-        expect_states("an absent row", bytes, size, absent[i], list, room, -RBATL_ROW_CHOICE);
-    for (size_t i = 0; i < damage_count; i++) {
-        if (!fill_damaged(bytes, i))
+        expect_states("an absent row", bytes, size, absent[i], list, room, -RBATL_E_ROW_CHOICE);
+    for (size_t i = 0; i < DAMAGES; i++) {
+        struct damage damage = fill_damaged(bytes, i);
+        if (damage.answer == 0)
             continue;
-        expect_states(damages[i].name, bytes, size, 0, list, room, damages[i].answer);
-        expect_states(damages[i].name, bytes, size, 255, list, room, damages[i].answer);
+        expect_states(damage.name, bytes, size, 0, list, room, damage.answer);
+        expect_states(damage.name, bytes, size, 255, list, room, damage.answer);
     }
 }

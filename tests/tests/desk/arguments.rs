@@ -1,56 +1,78 @@
 //! Wrong arguments: a reason and a usage line on standard error, status 2.
 
-use super::{desk, run, Says};
+use super::{complains, desk, run, Says, COUNT, NUMBER, STOCKS};
 use rbatl_tests::jobs;
 
-fn is_usage(line: &str) {
-    let ran = desk(line, &jobs::text("catch.job"));
-    assert!(ran.usage(), "{line}: {ran:?}");
+/// The reason is the same whatever the job is.
+fn complains_first(line: &str, reason: &str) {
+    for job in [&jobs::text("catch.job")[..], b"no job"] {
+        assert!(complains(line, job, reason), "{line}");
+    }
 }
 
 #[test]
 fn unknown_commands() {
-    let unknown = [
-        "", "help", "Check", "checks", "chec", "-h", "--help", "0", "table4",
-    ];
-    unknown.into_iter().for_each(is_usage);
+    let near = ["Check", "checks", "chec", "0", "table4"];
+    let words = ["-h", "-help", "--helps", "Help", "version", "--version=1"];
+    for line in near.into_iter().chain(words) {
+        complains_first(line, "unknown command");
+    }
+    complains_first("", "no command");
     assert!(run(&[""], &[]).usage());
 }
 
+/// Fewer or more numbers than any job wants.
 #[test]
 fn wrong_counts() {
     for line in [
         "check 0",
         "list 0",
-        "table",
         "table 4 0",
-        "dot",
         "dot 4 4",
         "move",
         "move 4",
-        "move 4 0",
         "move 4 0 5 0 0",
         "reply",
+        "reply 4",
         "reply 4 0",
-        "reply 4 0 5",
         "reply 4 0 5 1 0 0",
     ] {
-        is_usage(line);
+        complains_first(line, COUNT);
+    }
+}
+
+/// As many as some job wants, the fewest and the most: the job is read, and here
+/// refused.
+#[test]
+fn counts_that_wait_for_the_job() {
+    for line in [
+        "check",
+        "list",
+        "table",
+        "table 4",
+        "dot",
+        "dot 4",
+        "move 0 5",
+        "move 4 0 5",
+        "move 4 0 5 0",
+        "reply 0 5 1",
+        "reply 4 0 5 1",
+        "reply 4 0 5 0 1",
+    ] {
+        assert!(desk(line, b"").refused(7), "{line}");
     }
 }
 
 /// One stock for each resource of the job; the job decides that.
 #[test]
 fn wrong_counts_of_stocks() {
-    is_usage("move 4 0 5 0");
-    is_usage("reply 4 0 5 0 1");
-    let sensor = jobs::text("sensor.job");
-    for line in ["move 3 0 3", "reply 3 0 3 1"] {
-        let ran = desk(line, &sensor);
-        assert!(ran.usage(), "{line}: {ran:?}");
+    let (catch, sensor) = (jobs::text("catch.job"), jobs::text("sensor.job"));
+    for line in ["move 4 0 5 0", "reply 4 0 5 0 1"] {
+        assert!(complains(line, &catch, STOCKS), "{line}");
     }
-    // A refused text has no resources to count.
-    assert!(desk("move 4 0 5 0", b"").refused(7));
+    for line in ["move 0 3", "reply 0 3 1"] {
+        assert!(complains(line, &sensor, STOCKS), "{line}");
+    }
 }
 
 #[test]
@@ -83,22 +105,16 @@ fn no_numbers() {
             format!("move {word} 0 5"),
             format!("move 4 {word} 5"),
             format!("move 4 0 {word}"),
+            format!("move {word} 5"),
             format!("reply 3 0 5 {word}"),
         ] {
-            is_usage(&line);
+            complains_first(&line, NUMBER);
         }
     }
     for word in ["", " ", "4 ", " 4", "4\n", "\t4"] {
         let ran = run(&["table", word], &jobs::text("catch.job"));
         assert!(ran.usage(), "{word:?}: {ran:?}");
     }
-}
-
-/// The arguments are tried before the job is read, and before it is judged.
-#[test]
-fn arguments_come_first() {
-    assert!(desk("table 256", b"no job").usage());
-    assert!(desk("tables 4", b"no job").usage());
 }
 
 /// 255 is a number, but no row.

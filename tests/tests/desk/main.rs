@@ -3,6 +3,8 @@
 mod answers;
 mod arguments;
 mod drawing;
+mod help;
+mod left_out;
 mod random;
 mod refusals;
 mod streams;
@@ -13,6 +15,12 @@ use std::path::PathBuf;
 const DONE: i32 = 0;
 const REFUSED: i32 = 1;
 const FAILED: i32 = 2;
+
+/// Reasons that it gives for wrong arguments.
+const COUNT: &str = "wrong count of numbers";
+const NUMBER: &str = "not a number from 0 to 255 without leading zeros";
+const STOCKS: &str = "not one stock for each resource of the job";
+const NO_ROW: &str = "no row given, and the job has not exactly one of kind next, always or until";
 
 /// What a run of the desk says.
 trait Says {
@@ -39,7 +47,7 @@ impl Says for Ran {
     /// That the arguments are wrong: a reason, and the usage line.
     fn usage(&self) -> bool {
         let lines: Vec<&str> = self.err.lines().collect();
-        let told = lines.len() == 2 && lines[1].starts_with("usage: desk check | list | ");
+        let told = lines.len() == 2 && lines[1].starts_with("usage: desk check | list | table ");
         self.status == FAILED && self.out.is_empty() && told
     }
 }
@@ -56,6 +64,12 @@ fn words(line: &str) -> Vec<&str> {
 /// Runs a command on a job's text.
 fn desk(line: &str, text: &[u8]) -> Ran {
     run(&words(line), text)
+}
+
+/// Whether a command has wrong arguments, for the reason.
+fn complains(line: &str, text: &[u8], reason: &str) -> bool {
+    let ran = desk(line, text);
+    ran.usage() && ran.err.starts_with(&format!("desk: {reason}\n"))
 }
 
 fn run(arguments: &[&str], text: &[u8]) -> Ran {

@@ -15,6 +15,9 @@ const COMMANDS: [&str; 6] = [
     "dot 4",
 ];
 
+/// What the desk says about itself, without a job.
+const WITHOUT_A_JOB: [&str; 4] = ["--help", "--version", "help", "help move"];
+
 /// Runs the desk by a shell that redirects its streams.
 fn redirected(line: &str, redirections: &str) -> Ran {
     shell(&program(), &format!("\"$0\" {line} {redirections}"))
@@ -27,7 +30,7 @@ fn cannot(ran: &Ran, what: &str) -> bool {
 
 #[test]
 fn output_on_a_full_device() {
-    for line in COMMANDS {
+    for line in COMMANDS.into_iter().chain(WITHOUT_A_JOB) {
         let full = OpenOptions::new().write(true).open("/dev/full");
         let job = File::open(jobs::folder().join("catch.job")).expect("Catch");
         let output = Command::new(program())
@@ -50,7 +53,7 @@ fn long_output_on_a_full_device() {
 
 #[test]
 fn closed_output() {
-    for line in COMMANDS {
+    for line in COMMANDS.into_iter().chain(WITHOUT_A_JOB) {
         let ran = redirected(line, "< \"$1/catch.job\" >&-");
         assert!(cannot(&ran, "write"), "{line}: {ran:?}");
     }
@@ -80,6 +83,17 @@ fn closed_input() {
         let ran = redirected(line, "<&-");
         assert!(cannot(&ran, "read the job"), "{line}: {ran:?}");
         assert_eq!(ran.out, "");
+    }
+}
+
+/// Where no job is asked about, none is read.
+#[test]
+fn input_that_is_left_alone() {
+    for line in WITHOUT_A_JOB {
+        let ran = redirected(line, "<&-");
+        assert!(!ran.answer().is_empty(), "{line}");
+        let script = format!("echo job | {{ \"$0\" {line} > /dev/null; cat; }}");
+        assert_eq!(shell(&program(), &script).answer(), "job\n", "{line}");
     }
 }
 

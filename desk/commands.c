@@ -1,0 +1,117 @@
+/* The commands, and the words of their help. */
+#include "command.h"
+
+#include <string.h>
+
+#define NOTHING "Arguments: none.\n"
+
+/* What the commands say that need a strategic row. */
+#define STRATEGIC_ROW                                                                              \
+    "Arguments:\n"                                                                                 \
+    "  ROW    a row of kind next, always or until; it may be left out where the job\n"             \
+    "         has exactly one\n"
+
+/* The arguments of a position, after the row. */
+#define POSITION                                                                                   \
+    "  STATE  the state\n"                                                                         \
+    "  STOCK  what is left of each resource, one number for each; 0 if unlimited\n"
+
+const struct command commands[] = {
+    {
+        .name = "check",
+        .run = check,
+        .words = "",
+        .summary = "that the job passes, and its sizes",
+        .does = "Says that the job passes, with its sizes.\n",
+        .takes = NOTHING,
+        .prints = "Output: one line, as in\n"
+                  "  passes: 2 agents, 1 resource, 3 states, 1 proposition, 6 rows\n",
+    },
+    {
+        .name = "list",
+        .run_on_text = list,
+        .words = "",
+        .summary = "the listing: the states of each row, with rank and move",
+        .does = "Lists the states in which each row is true and, for a row of kind next, always\n"
+                "or until, rank and move in each of them at full stock.\n",
+        .takes = NOTHING,
+        .prints =
+            "Output: lines of numbers with commas between them, as in\n"
+            "  list,6        the number of rows\n"
+            "  set,4,3,7     each row: row, count of its states, word with bit s for state s\n"
+            "  plan,4,0,2,1  after it, each of these states: row, state, rank, move\n",
+    },
+    {
+        .name = "table",
+        .row = true,
+        .run = show_table,
+        .words = " [ROW]",
+        .summary = "the states of a row; rank and move of each position",
+        .does = "Shows rank and move of a row at each position, which is a state with a stock of\n"
+                "each resource.\n",
+        .takes = STRATEGIC_ROW,
+        .prints = "Output: the row, its states, and a line for each position, as in\n"
+                  "  row 4: coalition 0, 1 within 5: row 2 until row 0\n"
+                  "  states: 0 1 2\n"
+                  "  state 0, stock 5: rank 2, move 1: agent 0 action 1, agent 1 idle\n",
+    },
+    {
+        .name = "move",
+        .row = true,
+        .others = 1,
+        .stocks = true,
+        .run = show_move,
+        .words = " [ROW] STATE STOCK..",
+        .summary = "the coalition's move at a position",
+        .does = "Gives the coalition's move at a position where it wins the row.\n",
+        .takes = STRATEGIC_ROW POSITION
+        "The count of the numbers tells whether ROW is left out. With one resource two\n"
+        "are STATE STOCK, and three have ROW in front; with two resources three are\n"
+        "STATE STOCK STOCK, and four have ROW in front.\n",
+        .prints = "Output: one line with the move's number and the actions of its agents, as in\n"
+                  "  move 1: agent 0 action 1, agent 1 idle\n",
+    },
+    {
+        .name = "reply",
+        .row = true,
+        .others = 2,
+        .stocks = true,
+        .run = show_reply,
+        .words = " [ROW] STATE STOCK.. MOVE",
+        .summary = "its opponents' reply to a move there",
+        .does = "Gives the reply of all other agents to a move of the coalition at a position\n"
+                "where the coalition does not win the row.\n",
+        .takes = STRATEGIC_ROW POSITION
+        "  MOVE   the move's number, a0 + 4 * a1 + 16 * a2 by its agents' actions\n"
+        "The count of the numbers tells whether ROW is left out. With one resource\n"
+        "three are STATE STOCK MOVE, and four have ROW in front; with two resources four\n"
+        "are STATE STOCK STOCK MOVE, and five have ROW in front.\n",
+        .prints = "Output: one line with the reply's number and the actions of its agents, as in\n"
+                  "  reply 4: agent 1 action 1\n",
+    },
+    {
+        .name = "dot",
+        .row = true,
+        .run = draw,
+        .words = " [ROW]",
+        .summary = "a drawing of the job for a row",
+        .does = "Draws the job in the language of Graphviz: the states, filled where the row is\n"
+                "true, and the joint actions that lead from one to another.\n",
+        .takes = "Arguments:\n"
+                 "  ROW    a row of any kind; it may be left out where the job has exactly one of\n"
+                 "         kind next, always or until, which is then drawn\n",
+        .prints = "Output: a graph with a line for each state and each edge, as in\n"
+                  "  s0 [label=\"state 0\\nmove (1,0), cost 2\\nrank 2\", fillcolor=\"#cfe8cf\"];\n"
+                  "  s0 -> s1 [label=\"(1,0)\", penwidth=2.5];\n",
+    },
+};
+
+const size_t command_count = sizeof commands / sizeof commands[0];
+
+const struct command *find_command(const char *name)
+{
+    for (size_t i = 0; i < command_count; i++)
+        if (strcmp(commands[i].name, name) == 0)
+            return &commands[i];
+    return NULL;
+}
