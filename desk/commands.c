@@ -19,10 +19,11 @@
 const struct command commands[] = {
     {
         .name = "check",
-        .run = check,
+        .run_on_text = check,
         .words = "",
         .summary = "that the job passes, and its sizes",
-        .does = "Says that the job passes, with its sizes.\n",
+        .does = "Says that the job passes, with its sizes. Of a text that is refused it shows the\n"
+                "line where reading stopped on standard error, with a mark under the field.\n",
         .takes = NOTHING,
         .prints = "Output: one line, as in\n"
                   "  passes: 2 agents, 1 resource, 3 states, 1 proposition, 6 rows\n",

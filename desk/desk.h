@@ -44,9 +44,13 @@ enum status find_states(const uint8_t *block, unsigned row, uint32_t *set);
 /* Says on standard error why a call refused; the status for it. */
 enum status refuse(int32_t answer);
 
+/* Shows on standard error the line where reading a refused text stops, with a
+ * mark under the field. */
+void show_stop(const struct text *text);
+
 /* The commands. Each prints on standard output. */
 enum status list(const struct text *text);
-enum status check(const uint8_t *block, const struct numbers *numbers);
+enum status check(const struct text *text);
 enum status show_table(const uint8_t *block, const struct numbers *numbers);
 enum status show_move(const uint8_t *block, const struct numbers *numbers);
 enum status show_reply(const uint8_t *block, const struct numbers *numbers);

@@ -8,9 +8,15 @@ static void print_count(const char *before, unsigned count, const char *noun)
     printf("%s%u %s%s", before, count, noun, count == 1 ? "" : "s");
 }
 
-enum status check(const uint8_t *block, const struct numbers *numbers)
+enum status check(const struct text *text)
 {
-    (void)numbers;
+    uint8_t block[RBATL_BLOCK_BYTES];
+
+    enum status status = read_job(text, block);
+    if (status != DONE) {
+        show_stop(text);
+        return status;
+    }
     print_count("passes: ", rbatl_job_agents(block), "agent");
     print_count(", ", rbatl_job_resources(block), "resource");
     print_count(", ", rbatl_job_states(block), "state");

@@ -176,6 +176,11 @@ int32_t rbatl_check(const uint8_t *block, size_t block_len);
  * A refused call leaves the block as it was. */
 int32_t rbatl_read(const uint8_t *text, size_t text_len, uint8_t *block, size_t block_len);
 
+/* Where reading stops: the offset of the field that a text is refused for, or of
+ * the bytes after the last line; the length of a text that rbatl_read accepts.
+ * -RBATL_E_LENGTH for a text above RBATL_TEXT_BYTES. */
+int32_t rbatl_read_at(const uint8_t *text, size_t text_len);
+
 /* Writes the text of a block into a buffer of RBATL_TEXT_BYTES: the length of
  * the text, and zeros stand after it; -RBATL_E_LENGTH for a block or a buffer
  * of any other length; else what rbatl_check answers on the block. An unlimited

@@ -32,6 +32,7 @@ struct shape {
 static const struct shape shapes[ENTRIES] = {
     [CHECK] = {"check", {{NONE, 0}}, 0, OF_BLOCK},
     [READ] = {"read", {{FILLED, RBATL_BLOCK_BYTES}}, 0, OF_TEXT},
+    [READ_AT] = {"read_at", {{NONE, 0}}, RBATL_TEXT_BYTES, BIT(RBATL_E_LENGTH)},
     [LIST] = {"list",
               {{FILLED, RBATL_LISTING_BYTES}, {ROOM, RBATL_RANKS_BYTES}, {ROOM, RBATL_MOVES_BYTES}},
               RBATL_LISTING_BYTES,
@@ -56,7 +57,7 @@ static const struct shape shapes[ENTRIES] = {
 
 bool takes_text(enum entry entry)
 {
-    return entry == READ || entry == LIST;
+    return entry == READ || entry == READ_AT || entry == LIST;
 }
 
 const char *entry_name(enum entry entry)
@@ -88,6 +89,8 @@ static int32_t call(const struct request *r, const struct lent *in, const struct
         return rbatl_check(input, length);
     case READ:
         return rbatl_read(input, length, a->bytes, a->length);
+    case READ_AT:
+        return rbatl_read_at(input, length);
     case LIST:
         return rbatl_list(input, length, a->bytes, a->length, b->bytes, b->length, c->bytes,
                           c->length);

@@ -6,13 +6,26 @@
 #include "random.h"
 
 /* The calls of the library. */
-enum entry { CHECK, READ, LIST, WRITE, LABEL, TABLE, MOVE, REPLY, STATES, REFUSAL, ENTRIES };
+enum entry {
+    CHECK,
+    READ,
+    READ_AT,
+    LIST,
+    WRITE,
+    LABEL,
+    TABLE,
+    MOVE,
+    REPLY,
+    STATES,
+    REFUSAL,
+    ENTRIES
+};
 
 /* How many buffers beside the input a call is lent at most. */
 #define MAX_LENT 3
 
-/* What a call is asked: the input is a text for READ and LIST, and a block for
- * the rest. */
+/* What a call is asked: the input is a text for READ, READ_AT and LIST, and a
+ * block for the rest. */
 struct request {
     enum entry entry;
     const uint8_t *input;

@@ -54,6 +54,21 @@ static size_t try_text(struct run *run, const uint8_t *block, uint8_t *text)
     return emptied;
 }
 
+/* Reading stops at the end of a text that is accepted; what stands before the
+ * place where it stops, read alone, stops there too. */
+static void try_stop(struct run *run, const uint8_t *text, size_t length, bool accepted)
+{
+    static struct outcome outcome;
+    int32_t stop = ask_text(run, READ_AT, text, length, &outcome);
+
+    if (stop < 0)
+        return;
+    expect(run, (size_t)stop <= length, "read_at", "a place past the end");
+    expect(run, !accepted || (size_t)stop == length, "read_at", "not the end of an accepted text");
+    expect(run, ask_text(run, READ_AT, text, (size_t)stop, &outcome) == stop, "read_at",
+           "another place without what follows");
+}
+
 /* A text that is read is the text of its block, but for empty bounds. */
 static void try_damaged_text(struct run *run, uint8_t *text, size_t length)
 {
@@ -61,7 +76,9 @@ static void try_damaged_text(struct run *run, uint8_t *text, size_t length)
     static uint8_t filled[4 * TEXT_ROOM];
 
     length = damage_text(&run->random, text, length);
-    if (ask_text(run, READ, text, length, &read) < 0) {
+    int32_t refused = ask_text(run, READ, text, length, &read);
+    try_stop(run, text, length, refused == 0);
+    if (refused < 0) {
         expect(run, ask_text(run, LIST, text, length, &listed) == read.answer, "list",
                "another refusal than of reading");
         return;
@@ -314,7 +331,8 @@ static struct request misfit(struct run *run, enum entry entry, const uint8_t *i
     return request;
 }
 
-/* Each call with a wrong length; that it is refused with 1 is checked there. */
+/* Each call with a wrong length, if it has a buffer beside a text; that it is
+ * refused with 1 is checked there. */
 static void try_lengths(struct run *run, const uint8_t *block, const uint8_t *text, size_t length)
 {
     static struct outcome outcome;
@@ -323,6 +341,8 @@ static void try_lengths(struct run *run, const uint8_t *block, const uint8_t *te
     memcpy(input, block, RBATL_BLOCK_BYTES);
     for (unsigned i = 0; i < ENTRIES; i++) {
         enum entry entry = (enum entry)i;
+        if (takes_text(entry) && lent_count(entry) == 0)
+            continue;
         struct request request = takes_text(entry)
                                      ? misfit(run, entry, text, length)
                                      : misfit(run, entry, input, RBATL_BLOCK_BYTES);

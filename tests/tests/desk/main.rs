@@ -7,6 +7,7 @@ mod help;
 mod left_out;
 mod random;
 mod refusals;
+mod stops;
 mod streams;
 
 use rbatl_tests::process::{self, built, Ran};
@@ -36,11 +37,13 @@ impl Says for Ran {
         self.out
     }
 
-    /// That the library refused: the number in words on standard error.
+    /// That the library refused: the number in words on standard error, and of a
+    /// text perhaps where it stops.
     fn refused(&self, number: u8) -> bool {
         let start = format!("desk: refused, {number}: ");
         let words = self.err.strip_prefix(&start);
-        let in_words = words.is_some_and(|words| words.len() > 10 && self.err.lines().count() == 1);
+        let lines = self.err.lines().count();
+        let in_words = words.is_some_and(|words| words.len() > 10 && [1, 4].contains(&lines));
         self.status == REFUSED && self.out.is_empty() && in_words
     }
 

@@ -1,0 +1,90 @@
+//! What `check` shows of a text that is refused: the line, and a mark under the
+//! field.
+
+use super::{desk, REFUSED};
+use rbatl_tests::{jobs, text};
+
+/// What stands on standard error after the refusal.
+fn shown(text: &[u8]) -> String {
+    let ran = desk("check", text);
+    assert_eq!((ran.status, ran.out.as_str()), (REFUSED, ""), "{ran:?}");
+    let (_, shown) = ran.err.split_once('\n').unwrap();
+    shown.to_string()
+}
+
+fn catch_with(from: &str, to: &str) -> Vec<u8> {
+    let catch = String::from_utf8(jobs::text("catch.job")).unwrap();
+    assert!(catch.contains(from), "{from}");
+    catch.replacen(from, to, 1).into_bytes()
+}
+
+#[test]
+fn the_line_and_the_field() {
+    let cases = [
+        ("job,2", "jib,2", "line 1, column 1:\njib,2,1,3,1,6\n^\n"),
+        (
+            "acts,0,0,2,0,2",
+            "acts,0,0,5,0,2",
+            "line 3, column 10:\nacts,0,0,5,0,2\n         ^\n",
+        ),
+        (
+            "until,3,4,2,0\n",
+            "until,3,4,2,9\n",
+            "line 23, column 13:\nuntil,3,4,2,9\n            ^\n",
+        ),
+        (
+            "state,0,0\n",
+            "state,0,0\r\n",
+            "line 2, column 9:\nstate,0,0?\n        ^\n",
+        ),
+    ];
+    for (from, to, expected) in cases {
+        assert_eq!(shown(&catch_with(from, to)), expected, "{to:?}");
+    }
+}
+
+/// A text that ends too soon, one that goes on, and none.
+#[test]
+fn ends() {
+    let catch = jobs::text("catch.job");
+    let cut = &catch[..catch.len() - 1];
+    assert_eq!(
+        shown(cut),
+        "line 23, column 13:\nuntil,3,4,2,0\n            ^\n"
+    );
+    let longer = [&catch, &b"prop,0\n"[..]].concat();
+    assert_eq!(shown(&longer), "line 24, column 1:\nprop,0\n^\n");
+    assert_eq!(shown(b""), "line 1, column 1:\n\n^\n");
+}
+
+/// Of a long line a part is shown, and no byte that a terminal may act on.
+#[test]
+fn long_lines_and_other_bytes() {
+    let long = [&b"job,"[..], &[b'1'; 200]].concat();
+    let expected = format!("line 1, column 5:\njob,{}\n    ^\n", "1".repeat(20));
+    assert_eq!(shown(&long), expected);
+    let rows = catch_with("acts,0,0,2,0,2", "acts,0,0,2,0,\x1b[2J");
+    assert_eq!(
+        shown(&rows),
+        "line 3, column 14:\nacts,0,0,2,0,?[2J\n             ^\n"
+    );
+}
+
+/// A text that is too long is not looked at.
+#[test]
+fn too_long() {
+    let mut text = jobs::text("catch.job");
+    text.resize(text::TEXT_BYTES, b'\n');
+    assert!(shown(&text).starts_with("line 24, column 1:\n"));
+    text.push(b'\n');
+    assert_eq!(shown(&text), "");
+}
+
+/// The other commands say the refusal alone.
+#[test]
+fn other_commands() {
+    for line in ["list", "table 4", "move 4 0 5", "reply 4 0 5 1", "dot 4"] {
+        let ran = desk(line, b"jib");
+        assert_eq!(ran.err.lines().count(), 1, "{line}: {ran:?}");
+    }
+}
