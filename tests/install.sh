@@ -115,6 +115,36 @@ if command -v groff > /dev/null; then
     try 'the man page without warnings' no_warning
 fi
 
+# The entry of a refusal in the man page, and that the desk says so of a job with an
+# edit: NUMBER EDIT WORDS.. Refusal 6 does not come from a text.
+entry() {
+    awk -v number="$1" '
+        /^The refusals are/ { listed = 1 }
+        /^[.]/ { here = listed && $0 == ".B " number; next }
+        here { printf "%s%s", space, $0; space = " " }' "$page"
+}
+says_entry() {
+    local number=$1 edit=$2 said
+    shift 2
+    said=$(sed "$edit" jobs/first.job | "$there/bin/desk" "$@" 2>&1)
+    [[ -n $(entry "$number") && $said == *"refused, $number"* && $said == *"$(entry "$number")"* ]]
+}
+while read -r number edit words; do
+    # shellcheck disable=SC2086 # the words of a command
+    try "the man page on refusal $number" says_entry "$number" "$edit" $words
+done << 'end'
+1 s/^job.*/&&&&&&&&&&&&&&&&/;s/^job.*/&&&&&&&&&&&&&&&&/;s/^job.*/&&&&&&&&&&&&&&&&/ check
+2 s/^job,1/job,9/ check
+3 s/^state,0,0/state,0,9/ check
+4 s/^go,0,0,0/go,0,0,9/ check
+5 s/^until,1/until,0/ check
+7 s/^not/nor/ check
+8 s/^// table 0
+9 s/^// move 2 9 0
+10 s/^// move 2 0 1
+11 s/^// reply 2 0 1 1
+end
+
 gone() { [[ -d $root && -z $(find "$root" ! -type d) ]]; }
 try 'make uninstall' run_make PREFIX="$prefix" uninstall
 try 'nothing left' gone
