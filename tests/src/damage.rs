@@ -4,6 +4,7 @@ use crate::block::used_places;
 use crate::jobs;
 use crate::layout::*;
 use crate::random::Rng;
+use crate::text::TEXT_BYTES;
 
 /// Values at both sides of every border in document 01.
 pub const BORDERS: [u8; 25] = [
@@ -11,15 +12,24 @@ pub const BORDERS: [u8; 25] = [
 ];
 
 /// Lengths near the only right one, and far from it.
-const LENGTHS: [usize; 8] = [0, 1, 5, 2213, 2468, 2470, 4938, 32768];
+const LENGTHS: [usize; 8] = [
+    0,
+    1,
+    mask(0),
+    row(0, 0),
+    BLOCK_BYTES - 1,
+    BLOCK_BYTES + 1,
+    2 * BLOCK_BYTES,
+    TEXT_BYTES,
+];
 
 /// Damage for each number of the block, in Catch.
 const DAMAGES: [(u8, usize, u8); 5] = [
     (2, STATES, 25),
-    (3, 29, 5),
-    (4, 677, 3),
-    (5, 2253, 6),
-    (6, 28, 1),
+    (3, count(0, 0), 5),
+    (4, next(0, 0), 3),
+    (5, row(5, KIND), 6),
+    (6, mask(23), 1),
 ];
 
 /// Chooses a place of one sort in a job.

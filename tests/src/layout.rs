@@ -1,5 +1,5 @@
 //! Where each byte of a block stands (document 01, "The job"). No other file
-//! writes an offset.
+//! writes an offset, but tests/jobs.rs: those of Catch, read off the document.
 
 pub const BLOCK_BYTES: usize = 2469;
 
@@ -40,23 +40,23 @@ pub const BOUND: usize = 4;
 pub const PADDING: usize = 6;
 pub const ROW_BYTES: usize = 8;
 
-pub fn mask(state: usize) -> usize {
+pub const fn mask(state: usize) -> usize {
     5 + state
 }
 
-pub fn count(state: usize, agent: usize) -> usize {
+pub const fn count(state: usize, agent: usize) -> usize {
     29 + 3 * state + agent
 }
 
-pub fn cost(state: usize, agent: usize, action: usize, resource: usize) -> usize {
+pub const fn cost(state: usize, agent: usize, action: usize, resource: usize) -> usize {
     101 + 24 * state + 8 * agent + 2 * action + resource
 }
 
-pub fn next(state: usize, joint: usize) -> usize {
+pub const fn next(state: usize, joint: usize) -> usize {
     677 + 64 * state + joint
 }
 
-pub fn row(row: usize, field: usize) -> usize {
+pub const fn row(row: usize, field: usize) -> usize {
     2213 + 8 * row + field
 }
 

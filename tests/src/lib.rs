@@ -12,11 +12,10 @@ pub mod games;
 pub mod jobs;
 pub mod layout;
 pub mod listing;
-pub mod lookup;
+pub mod model;
 pub mod play;
 pub mod process;
 pub mod random;
-pub mod solver;
 pub mod text;
 pub mod text_damage;
 

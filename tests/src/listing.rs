@@ -3,8 +3,8 @@
 
 use crate::checker::search;
 use crate::checker::structure::{contains, Structure};
+use crate::model::{MOVES_BYTES, RANKS_BYTES};
 use crate::random::{cases, Rng};
-use crate::solver::{MOVES_BYTES, RANKS_BYTES};
 use crate::text::TEXT_BYTES;
 use crate::{games, jobs, refusal, text, text_damage};
 

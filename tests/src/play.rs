@@ -1,24 +1,17 @@
 //! Plays of a row (document 01, "When a row is true"): states and stock are
 //! followed move by move, and the row is judged by the states alone.
 
+use crate::checker::aim::{aim, Aim};
 use crate::checker::search;
 use crate::checker::structure::*;
 use crate::layout::MAX_RESOURCES;
-use crate::lookup::At;
+use crate::model::At;
 
 /// A strategic row, and what can be played in each state.
 pub struct Game {
     moves: Vec<Vec<Move>>,
     limited: [bool; MAX_RESOURCES],
     aim: Aim,
-}
-
-/// When the row is true on a play.
-#[derive(Clone, Copy)]
-pub enum Aim {
-    Next { left: Set },
-    Always { left: Set },
-    Until { left: Set, right: Set },
 }
 
 /// The states from the first on, and the position that the last move left.
@@ -39,15 +32,7 @@ impl Game {
     pub fn of(block: &[u8], row: u8) -> Game {
         let structure = Structure::of(block);
         let sets = search::label(&structure);
-        let (ability, aim) = match structure.formulas[usize::from(row)] {
-            Formula::Next(ability, left) => (ability, Aim::Next { left: sets[left] }),
-            Formula::Always(ability, left) => (ability, Aim::Always { left: sets[left] }),
-            Formula::Until(ability, left, right) => {
-                let (left, right) = (sets[left], sets[right]);
-                (ability, Aim::Until { left, right })
-            }
-            formula => panic!("{formula:?} is not strategic"),
-        };
+        let (ability, aim) = aim(structure.formulas[usize::from(row)], &sets);
         Game {
             moves: structure.moves(ability.coalition),
             limited: ability.bound.map(|bound| bound != INFINITE),

@@ -2,7 +2,7 @@
 
 use super::{compare, lend, Outcome};
 use crate::ffi;
-use crate::lookup::{At, Model};
+use crate::model::{At, Model};
 
 /// The coalition's move with the lent room; `what` names the block if the
 /// library and the model differ.

@@ -3,7 +3,7 @@
 
 use super::{compare, lend_two, Outcome};
 use crate::ffi;
-use crate::solver::Model;
+use crate::model::Model;
 
 /// What labelling the block gives in the lent sets and room; `what` names the
 /// block if the library and the model differ.

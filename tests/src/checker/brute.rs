@@ -3,20 +3,10 @@
 //! computation. Only strategies up to a number of moves are tried, after which
 //! they idle and spend nothing.
 
+use super::aim::Aim;
 use super::structure::*;
 use crate::layout::MAX_RESOURCES;
 use std::collections::HashMap;
-
-/// What a strategy is for.
-#[derive(Clone, Copy)]
-pub enum Aim {
-    /// Left at the second state.
-    Next { left: Set },
-    /// Left at every state of the first n + 1.
-    Always { left: Set },
-    /// Right at a state of the first n + 1, left at all earlier ones.
-    Until { left: Set, right: Set },
-}
 
 /// A finite computation from a state.
 type History = Vec<usize>;
@@ -140,7 +130,8 @@ impl Trial<'_> {
         })
     }
 
-    /// Whether the aim is met, as soon as the states so far decide it.
+    /// Whether the aim is met, as soon as the states so far decide it; of always
+    /// and until, in the first n + 1 states.
     pub(super) fn decided(&self, history: &[usize], n: usize) -> Option<bool> {
         let state = history[history.len() - 1];
         let made = history.len() - 1;

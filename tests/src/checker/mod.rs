@@ -1,8 +1,9 @@
 //! A checker made from document 003: which states satisfy each row, by the
 //! algorithm of its section 4 (`splits`), by a search on positions that also
 //! finds ranks, moves and replies (`search`), and by trying strategies outright
-//! (`brute`, `verdict`). The three share the decoded job and nothing else.
+//! (`aim`, `brute`, `verdict`). The three share the decoded job and nothing else.
 
+pub mod aim;
 pub mod brute;
 pub mod search;
 pub mod splits;

@@ -1,7 +1,8 @@
 //! What trials of all strategies say of the rows of a tiny job: sets, ranks,
 //! moves and replies, and whether a rule for the replies wins.
 
-use super::brute::{left_over, Aim, Rule, Trial};
+use super::aim::{aim, Aim};
+use super::brute::{left_over, Rule, Trial};
 use super::structure::*;
 use super::{NEVER, NO_MOVE};
 use crate::layout::MAX_RESOURCES;
@@ -70,19 +71,6 @@ pub fn rule_wins(
         }
     }
     Some(true)
-}
-
-/// The ability and the aim of a strategic row.
-fn aim(formula: Formula, sets: &[Set]) -> (Ability, Aim) {
-    match formula {
-        Formula::Next(ability, left) => (ability, Aim::Next { left: sets[left] }),
-        Formula::Always(ability, left) => (ability, Aim::Always { left: sets[left] }),
-        Formula::Until(ability, left, right) => {
-            let (left, right) = (sets[left], sets[right]);
-            (ability, Aim::Until { left, right })
-        }
-        Formula::Prop(_) | Formula::Not(_) | Formula::Or(..) => panic!("{formula:?}"),
-    }
 }
 
 fn plain(set: Set) -> Verdict {

@@ -1,6 +1,6 @@
 //! The calls at one position.
 
-use crate::lookup::At;
+use crate::model::At;
 
 extern "C" {
     fn rbatl_move(

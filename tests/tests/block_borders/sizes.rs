@@ -5,7 +5,9 @@ use super::*;
 #[test]
 fn length() {
     let mut cases = Cases::default();
-    for (length, number) in [(0, 1), (1, 1), (2468, 1), (2469, 0), (2470, 1), (4938, 1)] {
+    let right = BLOCK_BYTES;
+    let near = [(right - 1, 1), (right, 0), (right + 1, 1)];
+    for (length, number) in near.into_iter().chain([(0, 1), (1, 1), (2 * right, 1)]) {
         let mut block = smallest(1, 1, 1, 1, 1);
         block.resize(length, 0);
         cases.expect(&format!("length {length}"), &block, &[], number);

@@ -23,17 +23,22 @@ fn refuses_all(name: &str, block: &[u8], places: impl Iterator<Item = usize>) {
 #[test]
 fn byte_28() {
     let mut cases = Cases::default();
-    cases.values("byte 28 of three states", &small(), 28, &[(0, 0), (1, 6)]);
+    cases.values(
+        "byte 28 of three states",
+        &small(),
+        mask(23),
+        &[(0, 0), (1, 6)],
+    );
     cases.values(
         "byte 28 of 23 states",
         &smallest(1, 1, 23, 1, 1),
-        28,
+        mask(23),
         &[(0, 0), (1, 6)],
     );
     cases.values(
         "byte 28 of 24 states",
         &smallest(1, 1, 24, 1, 1),
-        28,
+        mask(23),
         &[(0, 0), (1, 0)],
     );
     cases.report();

@@ -3,9 +3,8 @@
 use super::{desk, Says};
 use rbatl_tests::layout::*;
 use rbatl_tests::listing::{listing, try_damaged_texts, try_job_files, try_random_jobs};
-use rbatl_tests::lookup::{At, Model};
+use rbatl_tests::model::{At, Model, ROOM_BYTES};
 use rbatl_tests::random::{cases, Rng};
-use rbatl_tests::solver::ROOM_BYTES;
 use rbatl_tests::{games, text};
 
 const SEED: u64 = 57;

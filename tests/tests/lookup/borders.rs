@@ -4,6 +4,8 @@ use super::*;
 use rbatl_tests::damage::whole_and_damaged;
 use rbatl_tests::jobs::{self, catch};
 use rbatl_tests::layout::*;
+use rbatl_tests::model::{MOVES_BYTES, SETS_BYTES};
+use rbatl_tests::text::TEXT_BYTES;
 
 /// Places in Catch, each with a move: won, not won and not won with a move that
 /// is none; then such as break a rule of the position, and of the row as well.
@@ -30,7 +32,9 @@ fn refused_everywhere(asked: &Asked, number: u8) {
 #[test]
 fn room_lengths() {
     for (block, number) in whole_and_damaged() {
-        for length in [0, 1, 128, 2469, 6144, 12_287, 12_289, 24_576, 32_768] {
+        let near = [ROOM_BYTES - 1, ROOM_BYTES + 1, 2 * ROOM_BYTES];
+        let far = [0, 1, SETS_BYTES, BLOCK_BYTES, MOVES_BYTES, TEXT_BYTES];
+        for length in near.into_iter().chain(far) {
             let what = format!("a room of {length}, damage {number}");
             refused_everywhere(&Asked::new(&block, agree::pattern(length), what), 1);
         }
@@ -40,7 +44,9 @@ fn room_lengths() {
 #[test]
 fn block_lengths() {
     for (block, number) in whole_and_damaged() {
-        for length in [0, 1, 5, 2213, 2468, 2470, 4938, 12_288] {
+        let near = [BLOCK_BYTES - 1, BLOCK_BYTES + 1, 2 * BLOCK_BYTES];
+        let far = [0, 1, mask(0), row(0, 0), ROOM_BYTES];
+        for length in near.into_iter().chain(far) {
             let mut block = block.clone();
             block.resize(length, 0);
             let what = format!("a block of {length}, damage {number}");

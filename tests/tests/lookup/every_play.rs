@@ -2,8 +2,9 @@
 //! come to, move after move, whoever plays against the library.
 
 use super::*;
+use rbatl_tests::checker::aim::Aim;
 use rbatl_tests::checker::NEVER;
-use rbatl_tests::play::{Aim, Game};
+use rbatl_tests::play::Game;
 use rbatl_tests::random::{cases, Rng};
 use rbatl_tests::{ffi, games};
 use std::collections::{BTreeMap, BTreeSet};

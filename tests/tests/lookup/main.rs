@@ -9,8 +9,7 @@ mod random;
 
 use rbatl_tests::agree::{self, Outcome};
 use rbatl_tests::answers::{assert_each_came, number};
-use rbatl_tests::lookup::{At, Model};
-use rbatl_tests::solver::ROOM_BYTES;
+use rbatl_tests::model::{At, Model, ROOM_BYTES};
 
 /// The room after a call.
 const ZEROS: [u8; ROOM_BYTES] = [0; ROOM_BYTES];

@@ -3,9 +3,10 @@
 //! not win.
 
 use super::*;
+use rbatl_tests::checker::aim::Aim;
 use rbatl_tests::checker::structure::{Move, Reply};
 use rbatl_tests::layout::{ALWAYS, NEXT, UNTIL};
-use rbatl_tests::play::{Aim, Game, Play};
+use rbatl_tests::play::{Game, Play};
 use rbatl_tests::random::{cases, Rng};
 use rbatl_tests::{ffi, games};
 

@@ -5,17 +5,21 @@ use super::*;
 use rbatl_tests::damage::{whole_and_damaged, BORDERS};
 use rbatl_tests::jobs::{self, catch};
 use rbatl_tests::layout::*;
+use rbatl_tests::text::TEXT_BYTES;
 
 /// Lengths beside the right one, and far from it.
 pub fn other_lengths(right: usize) -> Vec<usize> {
-    let lengths = [
-        0, 1, 2, 23, 24, 25, 32, 64, 127, 128, 129, 256, 2468, 2469, 2470, 6143, 6144, 6145,
-        12_287, 12_288, 12_289, 24_576, 32_768,
+    let rights = [
+        STATES_BYTES,
+        SETS_BYTES,
+        BLOCK_BYTES,
+        MOVES_BYTES,
+        ROOM_BYTES,
     ];
-    lengths
-        .into_iter()
-        .filter(|&length| length != right)
-        .collect()
+    let near = rights.map(|length| [length - 1, length, length + 1]);
+    let far = [0, 1, 2, 32, 64, 256, 2 * ROOM_BYTES, TEXT_BYTES];
+    let lengths = near.into_iter().flatten().chain(far);
+    lengths.filter(|&length| length != right).collect()
 }
 
 /// A refusal that leaves the sets; the room holds zeros unless a length is wrong.

@@ -10,7 +10,7 @@ mod states;
 
 use rbatl_tests::agree::{self, Outcome};
 use rbatl_tests::answers::{assert_each_came, number};
-use rbatl_tests::solver::*;
+use rbatl_tests::model::*;
 
 /// What the lent buffers hold before a call.
 struct Lent {

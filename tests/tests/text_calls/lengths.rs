@@ -4,8 +4,28 @@ use super::*;
 use rbatl_tests::text::{self, TEXT_BYTES};
 use rbatl_tests::{agree, jobs};
 
-const BLOCK_LENGTHS: [usize; 9] = [0, 1, 5, 1234, 2468, 2470, 2477, 4938, 32_768];
-const TEXT_LENGTHS: [usize; 9] = [0, 1, 267, 2469, 24_570, 32_767, 32_769, 32_776, 65_536];
+const BLOCK_LENGTHS: [usize; 9] = [
+    0,
+    1,
+    mask(0),
+    BLOCK_BYTES / 2,
+    BLOCK_BYTES - 1,
+    BLOCK_BYTES + 1,
+    BLOCK_BYTES + ROW_BYTES,
+    2 * BLOCK_BYTES,
+    TEXT_BYTES,
+];
+const TEXT_LENGTHS: [usize; 9] = [
+    0,
+    1,
+    267,
+    BLOCK_BYTES,
+    24_570,
+    TEXT_BYTES - 1,
+    TEXT_BYTES + 1,
+    TEXT_BYTES + 8,
+    2 * TEXT_BYTES,
+];
 
 /// A job's text, and bytes after it up to the length.
 fn padded(name: &str, byte: u8, length: usize) -> Vec<u8> {
@@ -129,7 +149,7 @@ fn write_blocks_of_other_lengths_and_damaged_ones() {
         (3, count(0, 0), 5),
         (4, next(0, 0), 3),
         (5, row(5, BOUND), 16),
-        (6, 28, 1),
+        (6, mask(23), 1),
     ];
     for (number, place, value) in damages {
         let mut other = job.clone();

@@ -4,7 +4,7 @@
 use super::*;
 use rbatl_tests::agree::{self, Outcome};
 use rbatl_tests::listing::{self, LISTING_BYTES};
-use rbatl_tests::solver::{MOVES_BYTES, RANKS_BYTES};
+use rbatl_tests::model::{MOVES_BYTES, RANKS_BYTES};
 use rbatl_tests::text::TEXT_BYTES;
 use rbatl_tests::text_damage::damage;
 use rbatl_tests::{games, jobs, text};

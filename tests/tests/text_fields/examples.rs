@@ -30,7 +30,7 @@ fn table_of_refusals() {
 #[test]
 fn catch_with_byte_28() {
     let mut block = jobs::load("catch.job");
-    block[28] = 1;
+    block[mask(23)] = 1;
     let lent = agree::pattern(text::TEXT_BYTES);
     let outcome = agree::write(&block, &lent, || "Catch with byte 28 = 1".to_string());
     assert_eq!(outcome.answer, -6);
