@@ -2,7 +2,7 @@
 //! states, three agents with four actions, bounds 15 and 15), as ratios to a
 //! Rust program that does the same sweeps, to plain sweeps and to section 4 of
 //! document 003; what rows cost that the asked one does not need; and how much
-//! stack these and the other calls that solve a row use.
+//! stack every call uses.
 
 mod cases;
 mod stack;
@@ -13,7 +13,7 @@ use cases::{Case, ROW};
 use rbatl_tests::checker::splits;
 use rbatl_tests::checker::structure::Structure;
 use rbatl_tests::ffi;
-use rbatl_tests::layout::{row, KIND, MAX_ROWS, NEXT};
+use rbatl_tests::layout::{row, BLOCK_BYTES, KIND, MAX_ROWS, NEXT};
 use rbatl_tests::listing::LISTING_BYTES;
 use rbatl_tests::model::{At, MOVES_BYTES, RANKS_BYTES, ROOM_BYTES, SETS_BYTES, STATES_BYTES};
 use rbatl_tests::text;
@@ -29,6 +29,7 @@ const EMPTY: At = At {
 
 /// The lent buffers.
 struct Buffers {
+    block: Vec<u8>,
     sets: Vec<u8>,
     room: Vec<u8>,
     ranks: Vec<u8>,
@@ -40,6 +41,7 @@ struct Buffers {
 impl Buffers {
     fn new() -> Buffers {
         Buffers {
+            block: vec![0; BLOCK_BYTES],
             sets: vec![0; SETS_BYTES],
             room: vec![0; ROOM_BYTES],
             ranks: vec![0; RANKS_BYTES],
@@ -80,6 +82,14 @@ impl Buffers {
 
     fn reply(&mut self, job: &[u8]) {
         black_box(ffi::reply(job, EMPTY, 0, &mut self.room));
+    }
+
+    fn read(&mut self, text: &[u8]) {
+        assert_eq!(ffi::read(text, &mut self.block), 0);
+    }
+
+    fn write(&mut self, job: &[u8]) {
+        assert!(ffi::write(job, &mut self.listing) > 0);
     }
 
     fn list(&mut self, text: &[u8]) {
@@ -240,21 +250,45 @@ fn print_times(times: &Times) -> [f64; 2] {
     [sweeps, splits]
 }
 
+/// The most that each call takes over all jobs.
 fn print_stack() {
-    let (mut table, mut label, mut states, mut refusal) = (0, 0, 0, 0);
-    let (mut coalition, mut reply, mut list) = (0, 0, 0);
+    let names = [
+        "check",
+        "read",
+        "read_at",
+        "write",
+        "label",
+        "table",
+        "move",
+        "reply",
+        "states",
+        "states_refusal",
+        "list",
+    ];
+    let mut largest = [0; 11];
     for case in cases::all() {
         let mut buffers = Buffers::new();
         let (job, text) = (&case.job, text::write(&case.job));
-        table = table.max(stack::used(|| buffers.table(job)));
-        label = label.max(stack::used(|| buffers.label(job)));
-        states = states.max(stack::used(|| buffers.states(job)));
-        refusal = refusal.max(stack::used(|| buffers.states_refusal(job)));
-        coalition = coalition.max(stack::used(|| buffers.coalition_move(job)));
-        reply = reply.max(stack::used(|| buffers.reply(job)));
-        list = list.max(stack::used(|| buffers.list(&text)));
+        let used = [
+            stack::used(|| consume(ffi::check(job))),
+            stack::used(|| buffers.read(&text)),
+            stack::used(|| consume(ffi::read_at(&text))),
+            stack::used(|| buffers.write(job)),
+            stack::used(|| buffers.label(job)),
+            stack::used(|| buffers.table(job)),
+            stack::used(|| buffers.coalition_move(job)),
+            stack::used(|| buffers.reply(job)),
+            stack::used(|| buffers.states(job)),
+            stack::used(|| buffers.states_refusal(job)),
+            stack::used(|| buffers.list(&text)),
+        ];
+        largest = std::array::from_fn(|k| largest[k].max(used[k]));
     }
     println!("largest stack in bytes, the caller's frame included:");
-    println!("table {table}, label {label}, states {states}, states_refusal {refusal},");
-    println!("move {coalition}, reply {reply}, list {list}");
+    let each: Vec<String> = names
+        .iter()
+        .zip(largest)
+        .map(|(name, bytes)| format!("{name} {bytes}"))
+        .collect();
+    println!("{}", each.join(", "));
 }

@@ -10,6 +10,7 @@ mod refusals;
 mod stops;
 mod streams;
 
+use rbatl_tests::jobs;
 use rbatl_tests::process::{self, built, Ran};
 use std::path::PathBuf;
 
@@ -67,6 +68,13 @@ fn words(line: &str) -> Vec<&str> {
 /// Runs a command on a job's text.
 fn desk(line: &str, text: &[u8]) -> Ran {
     run(&words(line), text)
+}
+
+/// Catch with one line changed.
+fn changed(from: &str, to: &str) -> Vec<u8> {
+    let catch = String::from_utf8(jobs::text("catch.job")).unwrap();
+    assert!(catch.contains(from), "{from}");
+    catch.replacen(from, to, 1).into_bytes()
 }
 
 /// Whether a command has wrong arguments, for the reason.

@@ -1,6 +1,6 @@
 //! Every refusal that can be reached, and both sides of each border.
 
-use super::{desk, Says};
+use super::{changed, desk, Says};
 use rbatl_tests::layout::*;
 use rbatl_tests::process::Ran;
 use rbatl_tests::{jobs, text};
@@ -27,13 +27,6 @@ fn all_refuse(text: &[u8], number: u8) {
         let ran = desk(line, text);
         assert!(ran.refused(number), "{line}: {ran:?}");
     }
-}
-
-/// Catch with one line changed.
-fn changed(from: &str, to: &str) -> Vec<u8> {
-    let catch = String::from_utf8(jobs::text("catch.job")).unwrap();
-    assert!(catch.contains(from), "{from}");
-    catch.replacen(from, to, 1).into_bytes()
 }
 
 #[test]

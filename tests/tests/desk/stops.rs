@@ -1,7 +1,7 @@
 //! What `check` shows of a text that is refused: the line, and a mark under the
 //! field.
 
-use super::{desk, REFUSED};
+use super::{changed, desk, REFUSED};
 use rbatl_tests::{jobs, text};
 
 /// What stands on standard error after the refusal.
@@ -10,12 +10,6 @@ fn shown(text: &[u8]) -> String {
     assert_eq!((ran.status, ran.out.as_str()), (REFUSED, ""), "{ran:?}");
     let (_, shown) = ran.err.split_once('\n').unwrap();
     shown.to_string()
-}
-
-fn catch_with(from: &str, to: &str) -> Vec<u8> {
-    let catch = String::from_utf8(jobs::text("catch.job")).unwrap();
-    assert!(catch.contains(from), "{from}");
-    catch.replacen(from, to, 1).into_bytes()
 }
 
 #[test]
@@ -39,7 +33,7 @@ fn the_line_and_the_field() {
         ),
     ];
     for (from, to, expected) in cases {
-        assert_eq!(shown(&catch_with(from, to)), expected, "{to:?}");
+        assert_eq!(shown(&changed(from, to)), expected, "{to:?}");
     }
 }
 
@@ -63,7 +57,7 @@ fn long_lines_and_other_bytes() {
     let long = [&b"job,"[..], &[b'1'; 200]].concat();
     let expected = format!("line 1, column 5:\njob,{}\n    ^\n", "1".repeat(20));
     assert_eq!(shown(&long), expected);
-    let rows = catch_with("acts,0,0,2,0,2", "acts,0,0,2,0,\x1b[2J");
+    let rows = changed("acts,0,0,2,0,2", "acts,0,0,2,0,\x1b[2J");
     assert_eq!(
         shown(&rows),
         "line 3, column 14:\nacts,0,0,2,0,?[2J\n             ^\n"
