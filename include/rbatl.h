@@ -31,8 +31,10 @@
  * Threads: the library has no state, so calls may run at once on different
  * buffers. A buffer that all of them only read may be the same.
  *
- * Stack: any call takes at most RBATL_STACK_BYTES, and none allocates. bench/run
- * prints what each call takes that solves a row; the others take less.
+ * Stack: any call takes at most RBATL_STACK_BYTES, and none allocates. As
+ * bench/run measures it, in bytes: check 135, states_refusal 183, write 351, read
+ * and read_at 2999, table 5920, label 6000, move 6064, reply 6096, states 6112,
+ * list 8720.
  *
  * Cost: rbatl_move and rbatl_reply solve the row anew at each call. For the moves
  * of many positions fetch the row's table once; rbatl_job.h reads it by name, as
