@@ -1,7 +1,7 @@
 -- The first refusal of a list whose condition holds: rule by rule, of a list that another follows, and what an answer tells. Assumes nothing.
 use mathlib.Core.List.{List, [], _∷_, _++_}
 use mathlib.Core.Logic.{inl, inr}
-use mathlib.Core.Path.{_≡_, refl}
+use mathlib.Core.Path.{_≡_, refl, sym, _∙_, ap}
 use Prim.Native.Nat.{ℕ}
 use native.Mathlib.Omega.{arith}
 use lib.ListN.{length, replicate}
@@ -34,15 +34,6 @@ refused {rules} {Right} {r} more {Rest} w = record { tried = go rules (w .tried)
     go ((q when P) ∷ rules) (inl h) = inl h
     go ((q when P) ∷ rules) (inr (h, w)) = inr (h, go rules w)
 
--- where a list gives a value, what follows it decides
-pub passed : {rules more : List Rule} {P Q : Answer → Type 0} {n : ℕ} {a : Answer} → First rules P (Value n) → First more Q a → First (rules ++ more) Q a
-passed {rules} {more} {P} {Q} {n} {a} w next = record { tried = go rules (w .tried) }
-  where
-    go : (rules : List Rule) → Tried rules P (Value n) → Tried (rules ++ more) Q a
-    go [] w = next .tried
-    go ((r when P) ∷ rules) (inl h) = no-refusal (h .1)
-    go ((r when P) ∷ rules) (inr (h, w)) = inr (h, go rules w)
-
 -- none of the conditions holds
 abbrev pub Fails : List Rule → Type 0
 Fails [] = Unit {0}
@@ -55,6 +46,18 @@ none-holds {rules} {Rest} {n} w = go rules (w .tried)
     go [] w = tt
     go ((r when P) ∷ rules) (inl h) = no-refusal (h .1)
     go ((r when P) ∷ rules) (inr (h, w)) = (h, go rules w)
+
+-- where a list's conditions all fail, what follows it decides
+pub after : (rules : List Rule) {more : List Rule} {Rest : Answer → Type 0} {a : Answer} → Fails rules → First more Rest a → First (rules ++ more) Rest a
+after rules {more} {Rest} {a} fails next = record { tried = go rules fails }
+  where
+    go : (rules : List Rule) → Fails rules → Tried (rules ++ more) Rest a
+    go [] fails = next .tried
+    go ((r when P) ∷ rules) (h, fails) = inr (h, go rules fails)
+
+-- or where the list gives a value
+pub passed : {rules more : List Rule} {P Q : Answer → Type 0} {n : ℕ} {a : Answer} → First rules P (Value n) → First more Q a → First (rules ++ more) Q a
+passed {rules} w next = after rules (none-holds w) next
 
 pub unmet : (rules : List Rule) → Fails rules → (r : Refusal) → Meets rules r → ⊥
 unmet ((q when P) ∷ rules) (h, fails) r (inl (e, holds)) = h holds
@@ -78,6 +81,17 @@ right {rules} {Right} {n} w = go (rest w)
   where
     go : Gives Right (Value n) → Right n
     go (value h) = h
+
+-- a list gives one answer only, where one value only is right
+pub one-answer : {rules : List Rule} {Right : ℕ → Type 0} {a a′ : Answer} → Answers rules Right a → Answers rules Right a′ → (Fails rules → (m n : ℕ) → Right m → Right n → m ≡ n) → a ≡ a′
+one-answer {rules} {Right} {a} {a′} w w′ = go a a′ rules (w .tried) (w′ .tried)
+  where
+    go : (a a′ : Answer) (rules : List Rule) → Tried rules (Gives Right) a → Tried rules (Gives Right) a′ → (Fails rules → (m n : ℕ) → Right m → Right n → m ≡ n) → a ≡ a′
+    go a a′ [] (value h) (value h′) one = ap Value (one tt _ _ h h′)
+    go a a′ ((r when P) ∷ rules) (inl (_, e)) (inl (_, e′)) one = e ∙ sym e′
+    go a a′ ((r when P) ∷ rules) (inl (h, _)) (inr (not, _)) one = absurd (not h)
+    go a a′ ((r when P) ∷ rules) (inr (not, _)) (inl (h, _)) one = absurd (not h)
+    go a a′ ((r when P) ∷ rules) (inr (not, w)) (inr (_, w′)) one = go a a′ rules w w′ (λ fails. one (not, fails))
 
 -- working room under 1, and under any other answer
 pub room-left : {t : List ℕ} → RoomAfter t t (Refused Length)

@@ -3,7 +3,7 @@ use mathlib.Core.List.{List}
 use mathlib.Core.Path.{_≡_, sym, _∙_, transport}
 use Prim.Native.Nat.{ℕ, _<_}
 use native.Mathlib.Omega.{arith}
-use lib.ListN.{getD}
+use lib.ListN.{getD, length}
 use Rattle.block.specs.Layout as L
 use Rattle.block.specs.Layout.{Block, Strategic}
 use Rattle.block.specs.Inner.Valid.{Valid}
@@ -27,7 +27,15 @@ use Rattle.choice.proofs.ByKind.{words-decided, claims-by}
 use Rattle.choice.proofs.Searching.{joint-number}
 use Rattle.solver.proofs.Labelling.{retold-claims, row-retold, facts-told}
 use Rattle.solver.specs.Inner.Labels.{Prepared}
+use Rattle.solver.specs.Inner.Rows.{RowRanked}
+use Rattle.turns.specs.Sizes.{roomBytes}
+use Rattle.lookup.specs.declared.spots.Ready.{Ready}
+use Rattle.lookup.specs.Inner.Ready.{MadeReady}
 use Rattle.game.specs.Demand.{TableOf, RowMove}
+
+-- what makes a row ready
+pub made-ready : {b : Block} {i : ℕ} {ready : Ready} {ways ranks : List ℕ} {n : ℕ} → Valid b → i < L.rows b → Strategic (L.kind b i) → Prepared b i (ready .row .set) (ready .right) ranks × (RowRanked b i (ready .row .set) (ready .right) (ready .row) ways ranks × (length ranks ≡ n)) → n ≡ roomBytes → MadeReady b i ready ways ranks
+made-ready valid inside strategic (prepared, (ranked, kept)) long = record { valid = valid; inside = inside; strategic = strategic; prepared = prepared; ranked = ranked; long = kept ∙ long }
 
 module _ {b : Block} (valid : Valid b) {i : ℕ} (inside : i < L.rows b) (strategic : Strategic (L.kind b i)) {left right : ℕ} {ranks : List ℕ} (ready : Prepared b i left right ranks) where
   -- the table of these ranks

@@ -11,6 +11,7 @@ use Rattle.block.specs.declared.refusal.Answer.the-variants as answer
 use Rattle.text.specs.Text.{readText, readCall, answerTo, StopsAt, stopRules}
 use Rattle.solver.specs.Calls.{LabelCall, TableCall}
 use Rattle.lookup.specs.Calls.{MoveCall, ReplyCall}
+use Rattle.lookup.specs.Worksheet.{SheetCall}
 use Rattle.lookup.specs.States.{StatesCall, RefusalCall}
 use Rattle.report.specs.Call.{listingBytes, ListingCall}
 use Rattle.writer.specs.Call.{WriteCall}
@@ -55,6 +56,10 @@ MoveAnswer b i s stocks room room′ r = (a : Answer) × MoveCall b i s stocks r
 
 abbrev pub ReplyAnswer : Block → ℕ → ℕ → List ℕ → ℕ → List ℕ → List ℕ → ℤ → Type 0
 ReplyAnswer b i s stocks m room room′ r = (a : Answer) × ReplyCall b i s stocks m room room′ a × (r ≡ answerCode a)
+
+-- what the worksheet call promises of its answer, the words and the room, each before and after it
+abbrev pub SheetAnswer : Block → ℕ → List ℕ → List ℕ → List ℕ → List ℕ → List ℕ → ℤ → Type 0
+SheetAnswer b i list words room words′ room′ r = (a : Answer) × SheetCall b i list words room words′ room′ a × (r ≡ answerCode a)
 
 -- what the lister promises of its answer, the list and the room, each before and after it
 abbrev pub StatesAnswer : Block → ℕ → List ℕ → List ℕ → List ℕ → List ℕ → ℤ → Type 0

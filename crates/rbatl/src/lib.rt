@@ -1,11 +1,11 @@
-// The C library: each call of document 01 under its C name, and nothing else. include/rbatl.h is its header.
+// The C library: each call of documents 01 and 02 under its C name, and nothing else. include/rbatl.h is its header.
 use block::refusal;
 use block::refusal::Answer;
 ghost use mathlib.Core.List.{[], _∷_};
 ghost use mathlib.Core.Path.{_≡_};
 ghost use Rattle.text.specs.Text.{readCall, blockAfter, Exact, Numbered};
 ghost use Rattle.game.specs.Demand.{Demand3};
-ghost use Rattle.rbatl.specs.Answer.{CheckAnswer, readAnswer, StopAnswer, WriteAnswer, LabelAnswer, TableAnswer, Small, answerCode, MoveAnswer, ReplyAnswer, StatesAnswer, RefusalAnswer, ListAnswer};
+ghost use Rattle.rbatl.specs.Answer.{CheckAnswer, readAnswer, StopAnswer, WriteAnswer, LabelAnswer, TableAnswer, Small, answerCode, MoveAnswer, ReplyAnswer, SheetAnswer, StatesAnswer, RefusalAnswer, ListAnswer};
 
 // The number that is handed back: a value, or minus the number of a refusal.
 fn code(a: Answer) -> i32
@@ -108,6 +108,20 @@ pub extern "C" fn rbatl_reply(
         mv as usize,
         room,
     ))
+}
+
+#[no_mangle]
+pub extern "C" fn rbatl_worksheet(
+    block: &[u8],
+    row: u8,
+    list: &[u8],
+    words: &mut [u8],
+    room: &mut [u8],
+) -> i32
+    ensures { λ r. ⌜ SheetAnswer (now (block .entry)) row (now (list .entry)) (now (words .entry)) (now (room .entry)) (now (words .exit)) (now (room .exit)) r ⌝ }
+    ensures { λ _. ⌜ Demand3 (now (block .entry)) row ⌝ }
+{
+    code(lookup::worksheet::worksheet(block, row as usize, list, words, room))
 }
 
 #[no_mangle]

@@ -1,0 +1,3 @@
+-- Definitions that serve proofs and the contracts of inner functions only.
+pub mod Ready
+pub mod Sheets
