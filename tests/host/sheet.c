@@ -97,7 +97,7 @@ void check_sheet(void)
     expect_sheet("Catch", bytes, size, 4, right, 0);
     check_sheet_lengths(bytes);
     for (size_t i = 0; i < sizeof tableless; i++) {
-        expect_sheet("a row without a table", bytes, size, tableless[i], right, -RBATL_E_ROW_CHOICE);
+        expect_sheet("no table", bytes, size, tableless[i], right, -RBATL_E_ROW_CHOICE);
         expect_sheet("no position", bytes, size, tableless[i], empty, -RBATL_E_ROW_CHOICE);
     }
     for (size_t i = 0; i < DAMAGES; i++) {
