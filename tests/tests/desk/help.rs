@@ -4,12 +4,13 @@ use super::{complains, desk, Says};
 use rbatl_tests::jobs;
 
 /// Each command with arguments that Catch has an answer to.
-const ANSWERED: [(&str, &str); 6] = [
+const ANSWERED: [(&str, &str); 7] = [
     ("check", ""),
     ("list", ""),
     ("table", "4"),
     ("move", "4 0 5"),
     ("reply", "3 0 5 1"),
+    ("sheet", "4 0:5 0:4"),
     ("dot", "4"),
 ];
 
@@ -24,7 +25,11 @@ fn the_overview() {
     assert_eq!(said("help"), overview);
     assert!(overview.starts_with("usage: desk COMMAND < job\n\n"));
     let words = ["check", "list", "table [ROW]", "dot [ROW]"];
-    let positions = ["move [ROW] STATE STOCK..", "reply [ROW] STATE STOCK.. MOVE"];
+    let positions = [
+        "move [ROW] STATE STOCK..",
+        "reply [ROW] STATE STOCK.. MOVE",
+        "sheet [ROW] STATE:STOCK[:STOCK] ..",
+    ];
     let others = ["help COMMAND", "--help", "--version"];
     for start in words.into_iter().chain(positions).chain(others) {
         let start = format!("  {start}  ");

@@ -22,6 +22,7 @@ fn all_refuse(text: &[u8], number: u8) {
         "table 4",
         "move 4 0 5",
         "reply 4 0 5 1",
+        "sheet 4 0:5",
         "dot 4",
     ] {
         let ran = desk(line, text);
@@ -121,6 +122,7 @@ fn row_choices() {
             format!("table {row}"),
             format!("move {row} 0 0"),
             format!("reply {row} 0 0 0"),
+            format!("sheet {row} 0:0 9:9"),
         ] {
             assert!(catch(&line).refused(8), "{line}");
         }

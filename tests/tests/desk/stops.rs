@@ -77,7 +77,14 @@ fn too_long() {
 /// The other commands say the refusal alone.
 #[test]
 fn other_commands() {
-    for line in ["list", "table 4", "move 4 0 5", "reply 4 0 5 1", "dot 4"] {
+    let rows = [
+        "table 4",
+        "move 4 0 5",
+        "reply 4 0 5 1",
+        "sheet 4 0:5",
+        "dot 4",
+    ];
+    for line in ["list"].into_iter().chain(rows) {
         let ran = desk(line, b"jib");
         assert_eq!(ran.err.lines().count(), 1, "{line}: {ran:?}");
     }

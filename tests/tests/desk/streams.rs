@@ -6,12 +6,13 @@ use rbatl_tests::process::{shell, Ran};
 use std::fs::{File, OpenOptions};
 use std::process::{Command, Stdio};
 
-const COMMANDS: [&str; 6] = [
+const COMMANDS: [&str; 7] = [
     "check",
     "list",
     "table 4",
     "move 4 0 5",
     "reply 3 0 5 1",
+    "sheet 4 0:5 0:4",
     "dot 4",
 ];
 
