@@ -89,6 +89,8 @@ void check_sheet(void)
 {
     static const uint8_t tableless[] = {0, 1, 2, 6, 31, 32, 255};
     static const struct lengths empty = {0, 0, RBATL_ROOM_BYTES};
+    static const struct lengths long_list = {1, 0, RBATL_ROOM_BYTES};
+    static const struct lengths long_room = {0, 0, RBATL_ROOM_BYTES + 1};
     static uint8_t bytes[RBATL_BLOCK_BYTES + 1];
     const size_t size = RBATL_BLOCK_BYTES;
 
@@ -106,5 +108,7 @@ void check_sheet(void)
             continue;
         expect_sheet(damage.name, bytes, size, 4, right, damage.answer);
         expect_sheet(damage.name, bytes, size, 255, empty, damage.answer);
+        expect_sheet(damage.name, bytes, size, 4, long_list, -RBATL_E_LENGTH);
+        expect_sheet(damage.name, bytes, size, 4, long_room, -RBATL_E_LENGTH);
     }
 }

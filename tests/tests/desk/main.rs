@@ -19,6 +19,17 @@ const DONE: i32 = 0;
 const REFUSED: i32 = 1;
 const FAILED: i32 = 2;
 
+/// Each command with arguments that Catch has an answer to.
+const ANSWERED: [&str; 7] = [
+    "check",
+    "list",
+    "table 4",
+    "move 4 0 5",
+    "reply 3 0 5 1",
+    "sheet 4 0:5 0:4",
+    "dot 4",
+];
+
 /// Reasons that it gives for wrong arguments.
 const COUNT: &str = "wrong count of numbers";
 const NUMBER: &str = "not a number from 0 to 255 without leading zeros";

@@ -1,6 +1,6 @@
 //! Every refusal that can be reached, and both sides of each border.
 
-use super::{changed, desk, Says};
+use super::{changed, desk, Says, ANSWERED};
 use rbatl_tests::layout::*;
 use rbatl_tests::process::Ran;
 use rbatl_tests::{jobs, text};
@@ -16,15 +16,7 @@ fn passes(text: &[u8]) -> bool {
 
 /// Every command refuses the text with the number.
 fn all_refuse(text: &[u8], number: u8) {
-    for line in [
-        "check",
-        "list",
-        "table 4",
-        "move 4 0 5",
-        "reply 4 0 5 1",
-        "sheet 4 0:5",
-        "dot 4",
-    ] {
+    for line in ANSWERED {
         let ran = desk(line, text);
         assert!(ran.refused(number), "{line}: {ran:?}");
     }

@@ -11,7 +11,10 @@ mod sheets;
 
 use rbatl_tests::agree::{self, Outcome};
 use rbatl_tests::answers::{assert_each_came, number};
+use rbatl_tests::damage::damage;
+use rbatl_tests::games;
 use rbatl_tests::model::{At, Model, ROOM_BYTES};
+use rbatl_tests::random::Rng;
 
 /// The room after a call.
 const ZEROS: [u8; ROOM_BYTES] = [0; ROOM_BYTES];
@@ -88,6 +91,13 @@ impl Asked<'_> {
         assert!(good, "{}: the room after {}", self.what, outcome.answer);
         outcome.answer
     }
+}
+
+/// A job with damage, or whole, and what it is.
+fn damaged(rng: &mut Rng, case: u64) -> (Vec<u8>, String) {
+    let mut job = games::contest(rng);
+    let how = damage(rng, &mut job);
+    (job, format!("case {case}, damage: {how}"))
 }
 
 const fn at(row: u8, state: u8, stock: [u8; 2]) -> At {

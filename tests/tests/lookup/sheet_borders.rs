@@ -1,40 +1,10 @@
-//! Each refusal of a worksheet, on both sides of its border, in its order.
+//! The lengths of a worksheet on both sides of their borders, and the refusals that
+//! its words have.
 
 use super::*;
-use rbatl_tests::damage::whole_and_damaged;
-use rbatl_tests::jobs::{self, catch};
-use rbatl_tests::layout::*;
-use rbatl_tests::model::{POSITION_BYTES, SHEET_BYTES};
-
-/// The rows of Catch that are asked for: one with a table, one without, and none.
-const CHOICES: [u8; 3] = [4, 1, 255];
-
-/// Lists with words that match: none, one position, two of which one is none, and
-/// as many as there can be.
-fn lists() -> [Vec<u8>; 4] {
-    let most = [[0, 5, 0], [0, 4, 0], [255, 0, 0], [1, 3, 0]].concat();
-    [
-        Vec::new(),
-        vec![0, 5, 0],
-        vec![255, 255, 255, 0, 0, 0],
-        most.repeat(SHEET_BYTES / most.len()),
-    ]
-}
-
-fn matching(list: &[u8]) -> usize {
-    2 * (list.len() / POSITION_BYTES)
-}
-
-/// Every row and list is refused with the number.
-fn refused_everywhere(asked: &Asked, number: u8) {
-    for list in lists() {
-        for row in CHOICES {
-            let (answer, _) = asked.worksheet(row, &list, matching(&list));
-            let what = format!("{}, row {row}, {} bytes", asked.what, list.len());
-            assert_eq!(answer, -i32::from(number), "{what}");
-        }
-    }
-}
+use rbatl_tests::jobs::catch;
+use rbatl_tests::layout::STATES;
+use rbatl_tests::model::POSITION_BYTES;
 
 /// Lists of every length, beside words of lengths that match and that do not; a
 /// length that is wrong comes before the block's number and before the row.
@@ -45,7 +15,7 @@ fn list_and_word_lengths() {
     damaged[STATES] = 25;
     let asked = [&whole, &damaged].map(|job| Asked::patterned(job, "Catch"));
     for list in (0..=200).map(|length| &bytes[..length]) {
-        let right = matching(list);
+        let right = 2 * (list.len() / POSITION_BYTES);
         let near = right.saturating_sub(3)..=right + 3;
         for words in near.chain([0, 1, list.len(), 128, 256]) {
             let is_sheet = list.len() <= 192 && list.len() % 3 == 0 && 3 * words == 2 * list.len();
@@ -68,56 +38,6 @@ fn counts_of_positions() {
         let (answer, words) = asked.worksheet(4, &list, 2 * count);
         assert_eq!(answer, if count <= 64 { 0 } else { -1 }, "{count}");
         assert!(answer < 0 || words == [1, 0].repeat(count), "{count}");
-    }
-}
-
-#[test]
-fn room_lengths() {
-    for (block, number) in whole_and_damaged() {
-        for length in [0, 1, ROOM_BYTES - 1, ROOM_BYTES + 1, 2 * ROOM_BYTES] {
-            let what = format!("a room of {length}, damage {number}");
-            refused_everywhere(&Asked::new(&block, agree::pattern(length), what), 1);
-        }
-    }
-}
-
-#[test]
-fn block_lengths() {
-    for (block, number) in whole_and_damaged() {
-        for length in [0, 1, row(0, 0), BLOCK_BYTES - 1, BLOCK_BYTES + 1] {
-            let mut block = block.clone();
-            block.resize(length, 0);
-            let what = format!("a block of {length}, damage {number}");
-            refused_everywhere(&Asked::patterned(&block, what), 1);
-        }
-    }
-}
-
-/// The block's number comes before 8, and for an empty list too.
-#[test]
-fn block_numbers() {
-    for (block, number) in whole_and_damaged().into_iter().skip(1) {
-        let what = format!("damage {number}");
-        refused_everywhere(&Asked::patterned(&block, what), number);
-    }
-}
-
-/// Number 8 for every row that is not strategic, whatever the list; never for one
-/// that is.
-#[test]
-fn row_numbers() {
-    for name in jobs::names() {
-        let block = jobs::load(&name);
-        let asked = Asked::patterned(&block, &name);
-        for i in 0..=u8::MAX {
-            let exists = usize::from(i) < Sizes::of(&block).rows;
-            let strategic = exists && is_strategic(block[row(i.into(), KIND)]);
-            for list in lists() {
-                let (answer, _) = asked.worksheet(i, &list, matching(&list));
-                let what = format!("{name}, row {i}, {} bytes", list.len());
-                assert_eq!(answer, if strategic { 0 } else { -8 }, "{what}");
-            }
-        }
     }
 }
 
