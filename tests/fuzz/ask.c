@@ -105,43 +105,39 @@ int32_t ask_text(struct run *run, enum entry entry, const uint8_t *text, size_t 
     return outcome->answer;
 }
 
+/* A buffer as a call takes it. */
+#define LENT(lent) (lent)->bytes, (lent)->length
+
 static int32_t call(const struct request *r, const struct lent *in, const struct lent *list,
                     const struct lent *lent)
 {
     const struct lent *a = &lent[0], *b = &lent[1], *c = &lent[2];
-    const uint8_t *input = in->bytes;
-    size_t length = in->length;
 
     switch (r->entry) {
     case CHECK:
-        return rbatl_check(input, length);
+        return rbatl_check(LENT(in));
     case READ:
-        return rbatl_read(input, length, a->bytes, a->length);
+        return rbatl_read(LENT(in), LENT(a));
     case READ_AT:
-        return rbatl_read_at(input, length);
+        return rbatl_read_at(LENT(in));
     case LIST:
-        return rbatl_list(input, length, a->bytes, a->length, b->bytes, b->length, c->bytes,
-                          c->length);
+        return rbatl_list(LENT(in), LENT(a), LENT(b), LENT(c));
     case WRITE:
-        return rbatl_write(input, length, a->bytes, a->length);
+        return rbatl_write(LENT(in), LENT(a));
     case LABEL:
-        return rbatl_label(input, length, a->bytes, a->length, b->bytes, b->length);
+        return rbatl_label(LENT(in), LENT(a), LENT(b));
     case TABLE:
-        return rbatl_table(input, length, r->row, a->bytes, a->length, b->bytes, b->length);
+        return rbatl_table(LENT(in), r->row, LENT(a), LENT(b));
     case MOVE:
-        return rbatl_move(input, length, r->row, r->state, r->stock0, r->stock1, a->bytes,
-                          a->length);
+        return rbatl_move(LENT(in), r->row, r->state, r->stock0, r->stock1, LENT(a));
     case REPLY:
-        return rbatl_reply(input, length, r->row, r->state, r->stock0, r->stock1, r->move,
-                           a->bytes, a->length);
+        return rbatl_reply(LENT(in), r->row, r->state, r->stock0, r->stock1, r->move, LENT(a));
     case SHEET:
-        return rbatl_worksheet(input, length, r->row, list->bytes, list->length, a->bytes,
-                               a->length, b->bytes, b->length);
+        return rbatl_worksheet(LENT(in), r->row, LENT(list), LENT(a), LENT(b));
     case STATES:
-        return rbatl_states(input, length, r->row, a->bytes, a->length, b->bytes, b->length);
+        return rbatl_states(LENT(in), r->row, LENT(a), LENT(b));
     case REFUSAL:
-        return rbatl_states_refusal(input, length, r->row, a->bytes, a->length, b->bytes,
-                                    b->length);
+        return rbatl_states_refusal(LENT(in), r->row, LENT(a), LENT(b));
     case ENTRIES:
         break;
     }
