@@ -91,6 +91,25 @@ const struct command commands[] = {
                   "  reply 4: agent 1 action 1\n",
     },
     {
+        .name = "sheet",
+        .row = true,
+        .others = 1,
+        .stocks = true,
+        .sheet = true,
+        .run = show_sheet,
+        .words = " [ROW] STATE:STOCK[:STOCK] ..",
+        .summary = "the coalition's move at each position",
+        .does = "Gives the coalition's move at each of up to 64 positions, or says why it has\n"
+                "none there. The row is solved once for all of them.\n",
+        .takes = STRATEGIC_ROW POSITION
+        "A position is STATE:STOCK with one resource and STATE:STOCK:STOCK with two; it\n"
+        "may stand twice. The first word is ROW if it has no colon.\n",
+        .prints = "Output: a line for each position, in the order given, as in\n"
+                  "  state 0, stock 5: move 1: agent 0 action 1, agent 1 idle\n"
+                  "  state 0, stock 4: no move: the coalition does not win here\n"
+                  "and `no position`, with the reason, where the row has no such position.\n",
+    },
+    {
         .name = "dot",
         .row = true,
         .run = draw,

@@ -7,13 +7,15 @@
 /* The exit status of the program. */
 enum status { DONE = 0, REFUSED = 1, FAILED = 2 };
 
-/* The most numbers that a command takes: row, state, two stocks and a move. */
-#define MAX_NUMBERS 5
+/* The most numbers that a command takes: a row, and the positions of a sheet. */
+#define MAX_NUMBERS (1 + RBATL_SHEET_BYTES)
 
-/* The numbers that a command was given. */
+/* The numbers that a command was given, and how many of them each position of a
+ * sheet has. */
 struct numbers {
     uint8_t at[MAX_NUMBERS];
     size_t count;
+    size_t width;
 };
 
 /* The table of a row, as rbatl_table fills it. */
@@ -54,6 +56,7 @@ enum status check(const struct text *text);
 enum status show_table(const uint8_t *block, const struct numbers *numbers);
 enum status show_move(const uint8_t *block, const struct numbers *numbers);
 enum status show_reply(const uint8_t *block, const struct numbers *numbers);
+enum status show_sheet(const uint8_t *block, const struct numbers *numbers);
 enum status draw(const uint8_t *block, const struct numbers *numbers);
 
 #endif

@@ -19,7 +19,7 @@ enum status usage(const char *reason)
 }
 
 /* How wide a name is with its words, and some space. */
-#define COLUMN 32
+#define COLUMN 36
 
 static void print_line(const char *name, const char *words, const char *summary)
 {
@@ -39,7 +39,7 @@ void show_commands(void)
     printf("\n"
            "ROW may be left out where the job has exactly one row of kind next, always or\n"
            "until. STOCK.. is one number for each resource of the job, so that the count of\n"
-           "the numbers tells whether ROW is among them.\n"
+           "the numbers tells whether ROW is among them; a sheet has it without a colon.\n"
            "\n"
            "Exit status: 0 answered; 1 refused, with the number and its words on standard\n"
            "error; 2 wrong arguments, or input or output that failed.\n");

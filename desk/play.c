@@ -27,8 +27,7 @@ enum status show_move(const uint8_t *block, const struct numbers *numbers)
                               room, sizeof room);
     if (move < 0)
         return refuse(move);
-    printf("move %ld: ", (long)move);
-    print_actions((unsigned)move, rbatl_row_team(block, at.row));
+    print_move(block, at.row, (unsigned)move);
     putchar('\n');
     return DONE;
 }

@@ -4,26 +4,16 @@
 
 #include <stdio.h>
 
-static void print_position(const uint8_t *block, unsigned row, size_t position)
-{
-    printf("state %u, stock %u", rbatl_state_of(block, row, position),
-           rbatl_stock_of(block, row, position, 0));
-    if (rbatl_job_resources(block) > 1)
-        printf(", %u", rbatl_stock_of(block, row, position, 1));
-}
-
 static void print_entry(const uint8_t *block, unsigned row, unsigned rank, unsigned move)
 {
     if (rank == RBATL_NEVER)
         printf(": rank never, ");
     else
         printf(": rank %u, ", rank);
-    if (move == RBATL_NO_MOVE) {
-        printf("no move\n");
-        return;
-    }
-    printf("move %u: ", move);
-    print_actions(move, rbatl_row_team(block, row));
+    if (move == RBATL_NO_MOVE)
+        printf("no move");
+    else
+        print_move(block, row, move);
     putchar('\n');
 }
 
@@ -44,7 +34,9 @@ enum status show_table(const uint8_t *block, const struct numbers *numbers)
     print_states(set);
     putchar('\n');
     for (size_t position = 0; position < rbatl_position_count(block, row); position++) {
-        print_position(block, row, position);
+        print_position(block, rbatl_state_of(block, row, position),
+                       rbatl_stock_of(block, row, position, 0),
+                       rbatl_stock_of(block, row, position, 1));
         print_entry(block, row, rbatl_rank_at(table.ranks, position),
                     rbatl_move_at(table.moves, position));
     }

@@ -77,6 +77,19 @@ void print_actions(unsigned joint, unsigned agents)
     }
 }
 
+void print_move(const uint8_t *block, unsigned row, unsigned move)
+{
+    printf("move %u: ", move);
+    print_actions(move, rbatl_row_team(block, row));
+}
+
+void print_position(const uint8_t *block, unsigned state, unsigned stock0, unsigned stock1)
+{
+    printf("state %u, stock %u", state, stock0);
+    if (rbatl_job_resources(block) > 1)
+        printf(", %u", stock1);
+}
+
 void print_states(uint32_t set)
 {
     const char *before = "";

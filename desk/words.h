@@ -11,6 +11,12 @@ void print_row(const uint8_t *block, unsigned row);
  * action 1, agent 1 idle`; `nobody` without agents. */
 void print_actions(unsigned joint, unsigned agents);
 
+/* A coalition's move in words, as in `move 1: agent 0 action 1, agent 1 idle`. */
+void print_move(const uint8_t *block, unsigned row, unsigned move);
+
+/* A state with a stock for each resource, as in `state 0, stock 5`. */
+void print_position(const uint8_t *block, unsigned state, unsigned stock0, unsigned stock1);
+
 /* The states of a set, with spaces between them; `none` for the empty one. */
 void print_states(uint32_t set);
 

@@ -33,12 +33,13 @@
  *
  * Stack: any call takes at most RBATL_STACK_BYTES, and none allocates. As
  * bench/run measures it, in bytes: check 135, states_refusal 183, write 351, read
- * and read_at 2999, table 5920, label 6000, move 6064, reply 6096, states 6112,
- * list 8720.
+ * and read_at 2999, table 5920, label 6000, move 6064, reply 6096, worksheet 6100,
+ * states 6112, list 8720.
  *
  * Cost: rbatl_move and rbatl_reply solve the row anew at each call. For the moves
- * of many positions fetch the row's table once; rbatl_job.h reads it by name, as
- * it does sets and blocks.
+ * of up to 64 positions ask rbatl_worksheet, which solves it once; for those of all
+ * positions fetch the row's table. rbatl_job.h reads both by name, as it does sets
+ * and blocks.
  *
  * Machine: x86-64 with the calling convention of System V, and no other.
  *
@@ -62,10 +63,10 @@ extern "C" {
 #endif
 
 /* The version of this header: major * 10000 + minor * 100 + patch, to compare
- * when a host is compiled, as in `#if RBATL_VERSION_NUMBER < 10000`, and the
+ * when a host is compiled, as in `#if RBATL_VERSION_NUMBER < 10100`, and the
  * same as a string. */
-#define RBATL_VERSION_NUMBER 10000
-#define RBATL_VERSION "1.0.0"
+#define RBATL_VERSION_NUMBER 10100
+#define RBATL_VERSION "1.1.0"
 
 /* Length of a block; the longest text that is read, and the length of the
  * buffer that a text is written to. */
@@ -84,6 +85,16 @@ extern "C" {
 
 /* Length of the list of a row's states. */
 #define RBATL_STATES_BYTES 24
+
+/* The most positions of a worksheet, the bytes of each in its list, and so the
+ * longest list and the most bytes of its words, two for each position. */
+#define RBATL_SHEET_POSITIONS 64
+#define RBATL_POSITION_BYTES 3
+#define RBATL_SHEET_BYTES 192
+#define RBATL_WORDS_BYTES 128
+
+/* What a word of a worksheet has more than the number of a refusal. */
+#define RBATL_WORD_REFUSED 256
 
 /* Length of the buffer of a listing. */
 #define RBATL_LISTING_BYTES 32768
@@ -122,7 +133,8 @@ enum rbatl_kind {
 
 /* Why a call refuses. A refused call answers minus the number. */
 enum rbatl_refusal {
-    /* A buffer of fixed size has another length, or a text is too long. */
+    /* A buffer does not have the length that the call asks for, or a text is too
+     * long. */
     RBATL_E_LENGTH = 1,
     /* The number of agents, resources, states, propositions or rows is out of
      * range. */
@@ -244,6 +256,23 @@ int32_t rbatl_move(const uint8_t *block, size_t block_len, uint8_t row, uint8_t 
  * refusals. */
 int32_t rbatl_reply(const uint8_t *block, size_t block_len, uint8_t row, uint8_t state,
                     uint8_t stock0, uint8_t stock1, uint8_t move, uint8_t *room, size_t room_len);
+
+/* The coalition's moves of a row at the positions of a worksheet, with the row
+ * solved once for all of them: 0, and each word is what rbatl_move answers at its
+ * position, the move, or RBATL_WORD_REFUSED plus the number of the refusal, which
+ * is RBATL_E_POSITION or RBATL_E_WRONG_SIDE. These two stand in words alone and
+ * refuse no worksheet. The list has RBATL_POSITION_BYTES for each position, its
+ * state, stock 0 and stock 1, at most RBATL_SHEET_BYTES, and may be empty; a
+ * position may stand twice. The words have two bytes for each position, lowest
+ * byte first, in the order of the list. The room is RBATL_ROOM_BYTES of working
+ * room. -RBATL_E_LENGTH for a list that is longer or no multiple of
+ * RBATL_POSITION_BYTES, for words of any length but two bytes for each of its
+ * positions, or for a block or a room of any other length, and then nothing
+ * changes; else what rbatl_check answers on the block; else -RBATL_E_ROW_CHOICE,
+ * also where the list is empty. A refused call leaves the words as they were. */
+int32_t rbatl_worksheet(const uint8_t *block, size_t block_len, uint8_t row, const uint8_t *list,
+                        size_t list_len, uint8_t *words, size_t words_len, uint8_t *room,
+                        size_t room_len);
 
 /* Lists the states in which a row, of any kind, is true: their count, and the
  * list of RBATL_STATES_BYTES holds them in rising order and zeros after them.

@@ -1,12 +1,13 @@
-/* rbatl_job.h: what stands in a block, in the sets of its rows and in the table
- * of a row, by name; and the words of a refusal.
+/* rbatl_job.h: what stands in a block, in the sets of its rows, in the table of a
+ * row and in a worksheet, by name; and the words of a refusal.
  *
  * A block has RBATL_BLOCK_BYTES and passes rbatl_check, as every block does that
  * rbatl_read fills. Sets are those of rbatl_label, ranks and moves those of
- * rbatl_table. None of the numbers handed over is tested: an agent, a resource,
- * a state, an action or a row has to be below its largest number (RBATL_MAX_..),
- * a joint action below RBATL_JOINT_ACTIONS, and a position below
- * rbatl_position_count.
+ * rbatl_table, and words those of rbatl_worksheet. None of the numbers handed over
+ * is tested: an agent, a resource, a state, an action or a row has to be below its
+ * largest number (RBATL_MAX_..), a joint action below RBATL_JOINT_ACTIONS, a
+ * position below rbatl_position_count, and a place of a worksheet below the number
+ * of its positions.
  *
  * The offsets of the block stand here once; the comment of rbatl_check has them
  * as numbers.
@@ -227,17 +228,31 @@ static inline unsigned rbatl_stock_of(const uint8_t *block, unsigned row, size_t
     return (unsigned)(resource == 0 ? position / second % first : position % second);
 }
 
+/* A word of two bytes, lowest byte first, of ranks or of a worksheet. */
+static inline unsigned rbatl_word_at(const uint8_t *words, size_t place)
+{
+    const uint8_t *word = words + 2 * place;
+    return word[0] | (unsigned)word[1] << 8;
+}
+
 /* The rank of a position, or RBATL_NEVER. */
 static inline unsigned rbatl_rank_at(const uint8_t *ranks, size_t position)
 {
-    const uint8_t *rank = ranks + 2 * position;
-    return rank[0] | (unsigned)rank[1] << 8;
+    return rbatl_word_at(ranks, position);
 }
 
 /* The move of a position, or RBATL_NO_MOVE. */
 static inline unsigned rbatl_move_at(const uint8_t *moves, size_t position)
 {
     return moves[position];
+}
+
+/* What rbatl_move answers at a place of a worksheet: the move, or minus the number
+ * of the refusal. */
+static inline int32_t rbatl_answer_at(const uint8_t *words, size_t place)
+{
+    int32_t word = (int32_t)rbatl_word_at(words, place);
+    return word < RBATL_WORD_REFUSED ? word : RBATL_WORD_REFUSED - word;
 }
 
 /* The word of a row's set. */
@@ -258,7 +273,7 @@ static inline const char *rbatl_refusal_text(int32_t number)
 {
     switch (number) {
     case RBATL_E_LENGTH:
-        return "the text is longer than 32768 bytes, or a buffer does not have its fixed length";
+        return "the text is longer than 32768 bytes, or a buffer has a wrong length";
     case RBATL_E_SIZES:
         return "the number of agents, resources, states, propositions or rows is out of range";
     case RBATL_E_STATE:

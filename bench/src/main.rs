@@ -1,10 +1,11 @@
 //! How long `rbatl_table` and `rbatl_label` take on jobs of full size (24
 //! states, three agents with four actions, bounds 15 and 15), as ratios to a
 //! Rust program that does the same sweeps, to plain sweeps and to section 4 of
-//! document 003; what rows cost that the asked one does not need; and how much
-//! stack every call uses.
+//! document 003; how long a worksheet takes beside one move; what rows cost that
+//! the asked one does not need; and how much stack every call uses.
 
 mod cases;
+mod sheet;
 mod stack;
 mod sweeps;
 mod timing;
@@ -15,7 +16,8 @@ use rbatl_tests::checker::structure::Structure;
 use rbatl_tests::ffi;
 use rbatl_tests::layout::{row, BLOCK_BYTES, KIND, MAX_ROWS, NEXT};
 use rbatl_tests::listing::LISTING_BYTES;
-use rbatl_tests::model::{At, MOVES_BYTES, RANKS_BYTES, ROOM_BYTES, SETS_BYTES, STATES_BYTES};
+use rbatl_tests::model::{At, MOVES_BYTES, RANKS_BYTES, ROOM_BYTES, SETS_BYTES};
+use rbatl_tests::model::{SHEET_POSITIONS, STATES_BYTES};
 use rbatl_tests::text;
 use std::hint::black_box;
 use sweeps::{Order, Sweeper};
@@ -36,6 +38,7 @@ struct Buffers {
     moves: Vec<u8>,
     states: Vec<u8>,
     listing: Vec<u8>,
+    words: Vec<u8>,
 }
 
 impl Buffers {
@@ -48,6 +51,7 @@ impl Buffers {
             moves: vec![0; MOVES_BYTES],
             states: vec![0; STATES_BYTES],
             listing: vec![0; LISTING_BYTES],
+            words: vec![0; 2 * SHEET_POSITIONS],
         }
     }
 
@@ -75,11 +79,17 @@ impl Buffers {
         assert!(answer >= 0);
     }
 
-    /// The coalition's move at state 0 with no stock, and the reply to idling.
-    fn coalition_move(&mut self, job: &[u8]) {
-        black_box(ffi::coalition_move(job, EMPTY, &mut self.room));
+    fn coalition_move(&mut self, job: &[u8], at: At) {
+        black_box(ffi::coalition_move(job, at, &mut self.room));
     }
 
+    fn worksheet(&mut self, job: &[u8], list: &[u8]) {
+        let (words, room) = (&mut self.words, &mut self.room);
+        let answer = ffi::worksheet(black_box(job), ROW as u8, list, words, room);
+        assert_eq!(answer, 0);
+    }
+
+    /// The reply to idling at state 0 with no stock.
     fn reply(&mut self, job: &[u8]) {
         black_box(ffi::reply(job, EMPTY, 0, &mut self.room));
     }
@@ -195,6 +205,10 @@ fn main() {
     );
     println!("        row it labels the row for every stock as bound, for the label call for one.");
     println!("The rank is the largest that is finite.");
+    println!(
+        "sheet:  a worksheet of 64 positions over all states and stocks; won: how many of them are;"
+    );
+    println!("        /move: its ratio to one single move at one of them, at most 1.3.");
     println!();
     print!("{:30} {:>5}", "case", "rank");
     for call in ["table", "label"] {
@@ -203,21 +217,22 @@ fn main() {
             "/sweeps", "/plain", "/splits"
         );
     }
-    println!();
-    let mut largest = [[0.0f64; 2]; 2];
+    println!(" {:>9} {:>8} {:>4}", "sheet", "/move", "won");
+    let (mut largest, mut largest_sheet) = ([[0.0f64; 2]; 2], 0.0f64);
     for case in cases::all() {
         print!("{:30} {:5}", case.name, longest_rank(&case));
         for (times, largest) in measure(&case).iter().zip(&mut largest) {
             let ratios = print_times(times);
             *largest = std::array::from_fn(|k| largest[k].max(ratios[k]));
         }
-        println!();
+        largest_sheet = largest_sheet.max(print_sheet(&case));
     }
     println!();
     for (k, program) in ["sweeps", "splits"].into_iter().enumerate() {
         let [table, label] = largest.map(|ratios| ratios[k]);
         println!("largest ratio to the {program}: table {table:.2}, label {label:.2}");
     }
+    println!("largest ratio of a sheet to one move: {largest_sheet:.2}");
     print_crowd();
     print_stack();
 }
@@ -250,6 +265,14 @@ fn print_times(times: &Times) -> [f64; 2] {
     [sweeps, splits]
 }
 
+/// Gives the ratio to one move.
+fn print_sheet(case: &Case) -> f64 {
+    let sheet::Times { sheet, single, won } = sheet::measure(case);
+    let ratio = sheet / single;
+    println!(" {:9.3} {ratio:8.2} {won:4}", 1e3 * sheet);
+    ratio
+}
+
 /// The most that each call takes over all jobs.
 fn print_stack() {
     let names = [
@@ -261,11 +284,13 @@ fn print_stack() {
         "table",
         "move",
         "reply",
+        "worksheet",
         "states",
         "states_refusal",
         "list",
     ];
-    let mut largest = [0; 11];
+    let mut largest = [0; 12];
+    let list = sheet::list();
     for case in cases::all() {
         let mut buffers = Buffers::new();
         let (job, text) = (&case.job, text::write(&case.job));
@@ -276,8 +301,9 @@ fn print_stack() {
             stack::used(|| buffers.write(job)),
             stack::used(|| buffers.label(job)),
             stack::used(|| buffers.table(job)),
-            stack::used(|| buffers.coalition_move(job)),
+            stack::used(|| buffers.coalition_move(job, EMPTY)),
             stack::used(|| buffers.reply(job)),
+            stack::used(|| buffers.worksheet(job, &list)),
             stack::used(|| buffers.states(job)),
             stack::used(|| buffers.states_refusal(job)),
             stack::used(|| buffers.list(&text)),

@@ -9,7 +9,7 @@
  * working room; not written at all. */
 enum use { NONE, FILLED, ROOM, KEPT };
 
-/* The buffers of a call beside the input. */
+/* The buffers of a call beside its inputs. */
 struct shape {
     const char *name;
     struct {
@@ -45,6 +45,7 @@ static const struct shape shapes[ENTRIES] = {
                {{ROOM, RBATL_ROOM_BYTES}},
                RBATL_JOINT_ACTIONS - 1,
                OF_MOVE | BIT(RBATL_E_MOVE)},
+    [SHEET] = {"worksheet", {{FILLED, RBATL_WORDS_BYTES}, {ROOM, RBATL_ROOM_BYTES}}, 0, OF_ROW},
     [STATES] = {"states",
                 {{FILLED, RBATL_STATES_BYTES}, {ROOM, RBATL_ROOM_BYTES}},
                 RBATL_MAX_STATES,
@@ -73,44 +74,70 @@ unsigned lent_count(enum entry entry)
     return count;
 }
 
-size_t lent_length(enum entry entry, unsigned which)
+/* The words of a worksheet go by its list. */
+size_t lent_length(const struct request *request, unsigned which)
 {
-    return shapes[entry].lent[which].length;
+    if (request->entry == SHEET && which == 0)
+        return 2 * (request->list_length / RBATL_POSITION_BYTES);
+    return shapes[request->entry].lent[which].length;
 }
 
-static int32_t call(const struct request *r, const struct lent *in, const struct lent *lent)
+struct request request_of(enum entry entry, const uint8_t *block, unsigned row)
+{
+    struct request request = {.entry = entry, .input = block, .input_length = RBATL_BLOCK_BYTES};
+    request.row = (uint8_t)row;
+    return request;
+}
+
+int32_t ask_block(struct run *run, enum entry entry, const uint8_t *block, unsigned row,
+                  struct outcome *outcome)
+{
+    struct request request = request_of(entry, block, row);
+    ask(run, &request, outcome);
+    return outcome->answer;
+}
+
+int32_t ask_text(struct run *run, enum entry entry, const uint8_t *text, size_t length,
+                 struct outcome *outcome)
+{
+    struct request request = {.entry = entry, .input = text, .input_length = length};
+    ask(run, &request, outcome);
+    return outcome->answer;
+}
+
+/* A buffer as a call takes it. */
+#define LENT(lent) (lent)->bytes, (lent)->length
+
+static int32_t call(const struct request *r, const struct lent *in, const struct lent *list,
+                    const struct lent *lent)
 {
     const struct lent *a = &lent[0], *b = &lent[1], *c = &lent[2];
-    const uint8_t *input = in->bytes;
-    size_t length = in->length;
 
     switch (r->entry) {
     case CHECK:
-        return rbatl_check(input, length);
+        return rbatl_check(LENT(in));
     case READ:
-        return rbatl_read(input, length, a->bytes, a->length);
+        return rbatl_read(LENT(in), LENT(a));
     case READ_AT:
-        return rbatl_read_at(input, length);
+        return rbatl_read_at(LENT(in));
     case LIST:
-        return rbatl_list(input, length, a->bytes, a->length, b->bytes, b->length, c->bytes,
-                          c->length);
+        return rbatl_list(LENT(in), LENT(a), LENT(b), LENT(c));
     case WRITE:
-        return rbatl_write(input, length, a->bytes, a->length);
+        return rbatl_write(LENT(in), LENT(a));
     case LABEL:
-        return rbatl_label(input, length, a->bytes, a->length, b->bytes, b->length);
+        return rbatl_label(LENT(in), LENT(a), LENT(b));
     case TABLE:
-        return rbatl_table(input, length, r->row, a->bytes, a->length, b->bytes, b->length);
+        return rbatl_table(LENT(in), r->row, LENT(a), LENT(b));
     case MOVE:
-        return rbatl_move(input, length, r->row, r->state, r->stock0, r->stock1, a->bytes,
-                          a->length);
+        return rbatl_move(LENT(in), r->row, r->state, r->stock0, r->stock1, LENT(a));
     case REPLY:
-        return rbatl_reply(input, length, r->row, r->state, r->stock0, r->stock1, r->move,
-                           a->bytes, a->length);
+        return rbatl_reply(LENT(in), r->row, r->state, r->stock0, r->stock1, r->move, LENT(a));
+    case SHEET:
+        return rbatl_worksheet(LENT(in), r->row, LENT(list), LENT(a), LENT(b));
     case STATES:
-        return rbatl_states(input, length, r->row, a->bytes, a->length, b->bytes, b->length);
+        return rbatl_states(LENT(in), r->row, LENT(a), LENT(b));
     case REFUSAL:
-        return rbatl_states_refusal(input, length, r->row, a->bytes, a->length, b->bytes,
-                                    b->length);
+        return rbatl_states_refusal(LENT(in), r->row, LENT(a), LENT(b));
     case ENTRIES:
         break;
     }
@@ -122,6 +149,8 @@ static bool bad_length(const struct request *r)
 {
     bool bad = takes_text(r->entry) ? r->input_length > RBATL_TEXT_BYTES
                                     : r->input_length != RBATL_BLOCK_BYTES;
+    if (r->entry == SHEET)
+        bad |= r->list_length > RBATL_SHEET_BYTES || r->list_length % RBATL_POSITION_BYTES != 0;
     for (unsigned i = 0; i < lent_count(r->entry); i++)
         bad |= r->skew[i] != 0;
     return bad;
@@ -162,16 +191,18 @@ void ask(struct run *run, const struct request *request, struct outcome *outcome
     struct lent lent[MAX_LENT] = {{0}};
     struct lent input = lend_input(SLOTS - 1, any_place(&run->random), request->input,
                                    request->input_length);
+    struct lent list = lend_input(SLOTS - 2, any_place(&run->random), request->list,
+                                  request->list_length);
 
     for (unsigned i = 0; i < count; i++) {
-        size_t length = (size_t)((long)shape->lent[i].length + request->skew[i]);
+        size_t length = (size_t)((long)lent_length(request, i) + request->skew[i]);
         lent[i] = lend_noise(i, any_place(&run->random), length, &run->random);
     }
-    outcome->answer = call(request, &input, lent);
+    outcome->answer = call(request, &input, &list, lent);
     run->calls[request->entry]++;
     run->refusals[request->entry] += outcome->answer < 0;
     check_answer(run, request, outcome->answer);
-    expect(run, kept(&input), shape->name, "the input has changed");
+    expect(run, kept(&input) && kept(&list), shape->name, "an input has changed");
     for (unsigned i = 0; i < count; i++) {
         enum use use = shape->lent[i].use;
         check_buffer(run, shape->name, outcome->answer, &lent[i], use);
@@ -179,5 +210,5 @@ void ask(struct run *run, const struct request *request, struct outcome *outcome
             memcpy(outcome->bytes[i], lent[i].bytes, lent[i].length);
         expect(run, take_back(&lent[i]), shape->name, "written outside a buffer");
     }
-    expect(run, take_back(&input), shape->name, "written outside the input");
+    expect(run, take_back(&input) && take_back(&list), shape->name, "written outside an input");
 }

@@ -16,21 +16,27 @@ enum entry {
     TABLE,
     MOVE,
     REPLY,
+    SHEET,
     STATES,
     REFUSAL,
     ENTRIES
 };
 
-/* How many buffers beside the input a call is lent at most. */
+/* How many buffers beside its inputs a call is lent at most. */
 #define MAX_LENT 3
 
+/* The longest list of a worksheet, and some bytes too many. */
+#define LIST_ROOM (RBATL_SHEET_BYTES + 64)
+
 /* What a call is asked: the input is a text for READ, READ_AT and LIST, and a
- * block for the rest. */
+ * block for the rest. SHEET takes the list too. */
 struct request {
     enum entry entry;
     const uint8_t *input;
     size_t input_length;
     uint8_t row, state, stock0, stock1, move;
+    uint8_t list[LIST_ROOM];
+    size_t list_length;
     /* The lengths of the other buffers differ by this from the right ones. */
     long skew[MAX_LENT];
 };
@@ -66,9 +72,9 @@ bool takes_text(enum entry entry);
 /* The name of a call, without its prefix. */
 const char *entry_name(enum entry entry);
 
-/* How many buffers beside the input a call is lent, and their right lengths. */
+/* How many buffers beside its inputs a call is lent, and their right lengths. */
 unsigned lent_count(enum entry entry);
-size_t lent_length(enum entry entry, unsigned which);
+size_t lent_length(const struct request *request, unsigned which);
 
 /* Ends the run with a message unless the fact holds. */
 void expect(const struct run *run, bool fact, const char *call, const char *what);
@@ -76,7 +82,10 @@ void expect(const struct run *run, bool fact, const char *call, const char *what
 /* Calls the library, and checks what holds of the call whatever the input is. */
 void ask(struct run *run, const struct request *request, struct outcome *outcome);
 
-/* The same on a block, and on a text; the answer. */
+/* A request on a row of a block. */
+struct request request_of(enum entry entry, const uint8_t *block, unsigned row);
+
+/* Asks on a block, and on a text; the answer. */
 int32_t ask_block(struct run *run, enum entry entry, const uint8_t *block, unsigned row,
                   struct outcome *outcome);
 int32_t ask_text(struct run *run, enum entry entry, const uint8_t *text, size_t length,
@@ -84,6 +93,13 @@ int32_t ask_text(struct run *run, enum entry entry, const uint8_t *text, size_t 
 
 /* Lists the text of a passing block. */
 void try_listing(struct run *run, const uint8_t *block, const uint8_t *text, size_t length);
+
+/* A list of any bytes that has a right length, and one of a wrong length. */
+void random_list(struct random *random, struct request *request);
+void misfit_list(struct random *random, struct request *request);
+
+/* A worksheet of a row, by its table and by single calls. */
+void try_sheet(struct run *run, const struct view *view);
 
 /* Random jobs, and damage to them. */
 void random_job(struct random *random, uint8_t *block);

@@ -10,7 +10,7 @@
 enum place { AT_END, AT_START, ODD, HEAP, PLACES };
 
 /* How many buffers a call is lent at most. */
-#define SLOTS 4
+#define SLOTS 5
 
 struct lent {
     unsigned slot;

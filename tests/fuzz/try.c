@@ -9,29 +9,6 @@
 /* How many bytes too many a buffer has at most. */
 #define MAX_SKEW 4096
 
-static struct request request_of(enum entry entry, const uint8_t *block, unsigned row)
-{
-    struct request request = {.entry = entry, .input = block, .input_length = RBATL_BLOCK_BYTES};
-    request.row = (uint8_t)row;
-    return request;
-}
-
-int32_t ask_block(struct run *run, enum entry entry, const uint8_t *block, unsigned row,
-                  struct outcome *outcome)
-{
-    struct request request = request_of(entry, block, row);
-    ask(run, &request, outcome);
-    return outcome->answer;
-}
-
-int32_t ask_text(struct run *run, enum entry entry, const uint8_t *text, size_t length,
-                 struct outcome *outcome)
-{
-    struct request request = {.entry = entry, .input = text, .input_length = length};
-    ask(run, &request, outcome);
-    return outcome->answer;
-}
-
 /* A passing block is written as a text that is read back as it, also with
  * empty bounds. The length of the text, which is handed on. */
 static size_t try_text(struct run *run, const uint8_t *block, uint8_t *text)
@@ -222,19 +199,21 @@ static void try_table(struct run *run, const uint8_t *block, unsigned row, const
     for (unsigned i = 0; i < 6; i++)
         try_position(run, &view, below(&run->random, positions));
     try_no_position(run, &view, below(&run->random, positions));
+    try_sheet(run, &view);
 }
 
 /* A row without a table, or no row. */
 static void try_no_table(struct run *run, const uint8_t *block, unsigned row)
 {
     static struct outcome outcome;
-    static const enum entry entries[] = {TABLE, MOVE, REPLY};
-    struct request request = request_of(entries[below(&run->random, 3)], block, row);
+    static const enum entry entries[] = {TABLE, MOVE, REPLY, SHEET};
+    struct request request = request_of(entries[below(&run->random, 4)], block, row);
 
     request.state = draw_byte(&run->random);
     request.stock0 = draw_byte(&run->random);
     request.stock1 = draw_byte(&run->random);
     request.move = draw_byte(&run->random);
+    random_list(&run->random, &request);
     ask(run, &request, &outcome);
     expect(run, outcome.answer == -RBATL_E_ROW_CHOICE, entry_name(request.entry),
            "a row without a table");
@@ -285,13 +264,16 @@ static void try_rows(struct run *run, const uint8_t *block)
 static void try_refused(struct run *run, const uint8_t *block, int32_t answer)
 {
     static struct outcome outcome;
-    static const enum entry entries[] = {WRITE, LABEL, TABLE, MOVE, REPLY, STATES, REFUSAL};
+    static const enum entry entries[] = {
+        WRITE, LABEL, TABLE, MOVE, REPLY, SHEET, STATES, REFUSAL,
+    };
 
     for (size_t i = 0; i < sizeof entries / sizeof entries[0]; i++) {
         struct request request = request_of(entries[i], block, draw_byte(&run->random));
         request.row = (uint8_t)(one_in(&run->random, 2) ? request.row : request.row % 8);
         request.state = draw_byte(&run->random);
         request.move = draw_byte(&run->random);
+        random_list(&run->random, &request);
         ask(run, &request, &outcome);
         expect(run, outcome.answer == answer, entry_name(entries[i]),
                "another refusal than the check's");
@@ -301,7 +283,7 @@ static void try_refused(struct run *run, const uint8_t *block, int32_t answer)
 /* A difference of a length: one byte, all bytes, or some. */
 static long random_skew(struct random *random, size_t length)
 {
-    switch (below(random, 4)) {
+    switch (length == 0 ? 1 : below(random, 4)) {
     case 0:
         return -1;
     case 1:
@@ -314,8 +296,8 @@ static long random_skew(struct random *random, size_t length)
     }
 }
 
-/* A request with one wrong length, of a block or of another buffer. A text may
- * have any length up to the limit, which damage tries. */
+/* A request with one wrong length, of a block, a list or another buffer. A text
+ * may have any length up to the limit, which damage tries. */
 static struct request misfit(struct run *run, enum entry entry, const uint8_t *input,
                              size_t length)
 {
@@ -324,8 +306,11 @@ static struct request misfit(struct run *run, enum entry entry, const uint8_t *i
     unsigned which = (unsigned)below(&run->random, buffers + !takes_text(entry));
 
     request.input_length = length;
-    if (which < buffers)
-        request.skew[which] = random_skew(&run->random, lent_length(entry, which));
+    random_list(&run->random, &request);
+    if (entry == SHEET && one_in(&run->random, 2))
+        misfit_list(&run->random, &request);
+    else if (which < buffers)
+        request.skew[which] = random_skew(&run->random, lent_length(&request, which));
     else
         request.input_length += (size_t)random_skew(&run->random, length);
     return request;

@@ -217,6 +217,7 @@ int main(void)
     check_states();
     check_move();
     check_reply();
+    check_sheet();
     check_list();
     printf("%d passed, %d failed\n", passed, failed);
     return failed != 0;

@@ -115,6 +115,7 @@ static void check_words(void)
 {
     static const uint8_t words[] = {1, 2, 3, 4, 5, 6, 7, 0x88};
 
+    same("word at 1", rbatl_word_at(words, 1), 0x0403);
     same("rank at 0", rbatl_rank_at(words, 0), 0x0201);
     same("rank at 3", rbatl_rank_at(words, 3), 0x8807);
     same("move at 7", rbatl_move_at(words, 7), 0x88);
@@ -122,6 +123,16 @@ static void check_words(void)
     count(rbatl_set_of(words, 1) == UINT32_C(0x88070605), "Catch", "another set of row 1");
     count(rbatl_set_has(6, 1) && rbatl_set_has(6, 2), "Catch", "a state of a set is missing");
     count(!rbatl_set_has(6, 0) && !rbatl_set_has(6, 3), "Catch", "a state that a set has not");
+}
+
+/* Moves from the least to the largest, and refusals. */
+static void check_answers(void)
+{
+    static const uint8_t words[] = {0, 0, 63, 0, 255, 0, 1, 1, 9, 1, 10, 1};
+    static const int32_t answers[] = {0, 63, 255, -1, -RBATL_E_POSITION, -RBATL_E_WRONG_SIDE};
+
+    for (size_t place = 0; place < sizeof answers / sizeof answers[0]; place++)
+        count_answer("a worksheet", "answer_at", rbatl_answer_at(words, place), answers[place]);
 }
 
 /* Each refusal has words of its own, and no other number has them. */
@@ -152,5 +163,6 @@ void check_job(void)
     read_catch(block);
     check_bounds(block);
     check_words();
+    check_answers();
     check_refusal_texts();
 }

@@ -1,6 +1,6 @@
 //! The calls that solve rows, from document 01 and by the checker's search on
-//! positions: those that label rows, fill tables and list states, and those that
-//! give a move or a reply at one position.
+//! positions: those that label rows, fill tables and list states, those that give
+//! a move or a reply at one position, and the worksheet.
 
 use crate::checker::search::{self, Table};
 use crate::checker::structure::{contains, Set, Structure};
@@ -14,6 +14,12 @@ pub const ROOM_BYTES: usize = 12_288;
 pub const RANKS_BYTES: usize = 12_288;
 pub const MOVES_BYTES: usize = 6_144;
 pub const STATES_BYTES: usize = MAX_STATES;
+/// A position of a worksheet: state, stock, stock.
+pub const POSITION_BYTES: usize = 1 + MAX_RESOURCES;
+pub const SHEET_POSITIONS: usize = 64;
+pub const SHEET_BYTES: usize = POSITION_BYTES * SHEET_POSITIONS;
+/// What a word of a worksheet has more than a refusal's number.
+pub const WORD_REFUSED: u16 = 256;
 
 /// What a call at one position is asked for: a row, a state and a stock for each
 /// resource.
@@ -164,22 +170,56 @@ impl Model {
     }
 }
 
-/// The calls at one position. The room holds zeros afterwards, unless a length is
+/// The calls at positions. The room holds zeros afterwards, unless a length is
 /// wrong.
 impl Model {
     /// The coalition's move.
     pub fn coalition_move(&self, at: At, room: &mut [u8]) -> i32 {
-        let found = self.find(at, room);
-        let found = found.and_then(|(table, position)| match table.moves[position] {
-            NO_MOVE => Err(refusal::WRONG_SIDE),
-            mv => Ok(mv),
+        let found = self.clear(room).and_then(|()| self.move_at(at));
+        answer(found)
+    }
+
+    /// The worksheet (document 02, R-1). A refusal leaves the words as they were.
+    pub fn worksheet(&self, row: u8, list: &[u8], words: &mut [u8], room: &mut [u8]) -> i32 {
+        let found = self.sheet(row, list, words.len(), room).map(|found| {
+            store(words, found.into_iter().flat_map(u16::to_le_bytes));
+            0
         });
         answer(found)
     }
 
+    /// The words for a buffer of this length, or the number that refuses the whole
+    /// worksheet.
+    fn sheet(&self, row: u8, list: &[u8], length: usize, room: &mut [u8]) -> Result<Vec<u16>, u8> {
+        let positions = list.chunks_exact(POSITION_BYTES);
+        let whole = list.len() <= SHEET_BYTES && positions.remainder().is_empty();
+        if !whole || length != 2 * positions.len() {
+            return Err(refusal::LENGTH);
+        }
+        self.clear(room)?;
+        self.strategic(row)?;
+        let word = |position: &[u8]| {
+            let (state, stock) = (position[0], [position[1], position[2]]);
+            match self.move_at(At { row, state, stock }) {
+                Ok(mv) => mv.into(),
+                Err(number) => WORD_REFUSED + u16::from(number),
+            }
+        };
+        Ok(positions.map(word).collect())
+    }
+
+    /// The coalition's move, or the refusal number.
+    fn move_at(&self, at: At) -> Result<u8, u8> {
+        let (table, position) = self.find(at)?;
+        match table.moves[position] {
+            NO_MOVE => Err(refusal::WRONG_SIDE),
+            mv => Ok(mv),
+        }
+    }
+
     /// The reply to a move.
     pub fn reply(&self, at: At, mv: u8, room: &mut [u8]) -> i32 {
-        let found = self.find(at, room);
+        let found = self.clear(room).and_then(|()| self.find(at));
         let found = found.and_then(|(table, position)| {
             if table.wins(position) {
                 Err(refusal::WRONG_SIDE)
@@ -193,8 +233,7 @@ impl Model {
     }
 
     /// The table and the position that are asked for, or the refusal number.
-    fn find(&self, at: At, room: &mut [u8]) -> Result<(&Table, usize), u8> {
-        self.clear(room)?;
+    fn find(&self, at: At) -> Result<(&Table, usize), u8> {
         let (job, row) = (self.job()?, self.strategic(at.row)?);
         let fits = (0..MAX_RESOURCES).all(|j| at.stock[j] <= row.largest[j]);
         if usize::from(at.state) >= job.structure.states || !fits {

@@ -1,6 +1,7 @@
-//! The calls at one position, which are lent a room alone.
+//! The calls at one position, which are lent a room alone, and the worksheet, in
+//! whose outcome the room follows the words.
 
-use super::{compare, lend, Outcome};
+use super::{compare, lend, lend_two, Outcome};
 use crate::ffi;
 use crate::model::{At, Model};
 
@@ -34,4 +35,21 @@ pub fn reply(
     compare("rbatl_reply", expected, found, || {
         format!("move {mv} at {at:?} of {}", what())
     })
+}
+
+/// What the worksheet of the row gives in the lent words and room.
+pub fn worksheet(
+    block: &[u8],
+    model: &Model,
+    row: u8,
+    list: &[u8],
+    lent: [&[u8]; 2],
+    what: impl Fn() -> String,
+) -> Outcome {
+    let what = || format!("{list:?} of row {row} of {}", what());
+    let expected = lend_two(lent, |words, room| model.worksheet(row, list, words, room));
+    let found = lend_two(lent, |words, room| {
+        ffi::worksheet(block, row, list, words, room)
+    });
+    compare("rbatl_worksheet", expected, found, what)
 }

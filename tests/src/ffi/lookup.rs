@@ -1,4 +1,4 @@
-//! The calls at one position.
+//! The calls at positions: at one, and at those of a worksheet.
 
 use crate::model::At;
 
@@ -21,6 +21,17 @@ extern "C" {
         stock0: u8,
         stock1: u8,
         mv: u8,
+        room: *mut u8,
+        room_len: usize,
+    ) -> i32;
+    fn rbatl_worksheet(
+        block: *const u8,
+        block_len: usize,
+        row: u8,
+        list: *const u8,
+        list_len: usize,
+        words: *mut u8,
+        words_len: usize,
         room: *mut u8,
         room_len: usize,
     ) -> i32;
@@ -57,6 +68,25 @@ pub fn reply(block: &[u8], at: At, mv: u8, room: &mut [u8]) -> i32 {
             at.stock[0],
             at.stock[1],
             mv,
+            room.as_mut_ptr(),
+            room.len(),
+        )
+    }
+}
+
+/// 0, or minus the refusal number.
+pub fn worksheet(block: &[u8], row: u8, list: &[u8], words: &mut [u8], room: &mut [u8]) -> i32 {
+    // SAFETY: each pointer is valid for the length beside it, and the two
+    // buffers, borrowed mutably, overlap nothing.
+    unsafe {
+        rbatl_worksheet(
+            block.as_ptr(),
+            block.len(),
+            row,
+            list.as_ptr(),
+            list.len(),
+            words.as_mut_ptr(),
+            words.len(),
             room.as_mut_ptr(),
             room.len(),
         )

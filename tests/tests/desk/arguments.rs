@@ -1,6 +1,6 @@
 //! Wrong arguments: a reason and a usage line on standard error, status 2.
 
-use super::{complains, desk, run, Says, COUNT, NUMBER, STOCKS};
+use super::{complains, desk, run, Says, COUNT, NUMBER, POSITION, SHEET, STOCKS};
 use rbatl_tests::jobs;
 
 /// The reason is the same whatever the job is.
@@ -58,6 +58,10 @@ fn counts_that_wait_for_the_job() {
         "reply 0 5 1",
         "reply 4 0 5 1",
         "reply 4 0 5 0 1",
+        "sheet 0:5",
+        "sheet 4 0:5",
+        "sheet 0:5:0 1:5:0",
+        "sheet 4 0:5:0 1:5:0",
     ] {
         assert!(desk(line, b"").refused(7), "{line}");
     }
@@ -67,12 +71,15 @@ fn counts_that_wait_for_the_job() {
 #[test]
 fn wrong_counts_of_stocks() {
     let (catch, sensor) = (jobs::text("catch.job"), jobs::text("sensor.job"));
-    for line in ["move 4 0 5 0", "reply 4 0 5 0 1"] {
+    for line in ["move 4 0 5 0", "reply 4 0 5 0 1", "sheet 4 0:5:0"] {
         assert!(complains(line, &catch, STOCKS), "{line}");
     }
-    for line in ["move 0 3", "reply 0 3 1"] {
+    for line in ["move 0 3", "reply 0 3 1", "sheet 3 0:3", "sheet 3:0 3:1"] {
         assert!(complains(line, &sensor, STOCKS), "{line}");
     }
+    // The numbers of a position are not taken for a row and another.
+    assert!(complains("sheet 4:0:5", &catch, STOCKS));
+    assert!(complains("sheet 0:5 0:5 1:3", &sensor, STOCKS));
 }
 
 #[test]
@@ -107,6 +114,10 @@ fn no_numbers() {
             format!("move 4 0 {word}"),
             format!("move {word} 5"),
             format!("reply 3 0 5 {word}"),
+            format!("sheet {word} 0:5"),
+            format!("sheet 4 {word}:5"),
+            format!("sheet 4 0:5 1:{word}"),
+            format!("sheet 0:{word}:5"),
         ] {
             complains_first(&line, NUMBER);
         }
@@ -114,6 +125,49 @@ fn no_numbers() {
     for word in ["", " ", "4 ", " 4", "4\n", "\t4"] {
         let ran = run(&["table", word], &jobs::text("catch.job"));
         assert!(ran.usage(), "{word:?}: {ran:?}");
+    }
+}
+
+/// One, 64 and 65 positions, with a row and without.
+#[test]
+fn counts_of_positions() {
+    let catch = jobs::text("catch.job");
+    for line in ["sheet", "sheet 4", "sheet four"] {
+        complains_first(line, SHEET);
+    }
+    for count in [1, 2, 63, 64] {
+        let printed = desk(&format!("sheet 4{}", " 0:5".repeat(count)), &catch).answer();
+        assert_eq!(printed.lines().count(), count);
+        let left_out = format!("sheet{}", " 0:5".repeat(count));
+        assert!(desk(&left_out, b"").refused(7), "{count}");
+    }
+    for row in ["", " 4"] {
+        for count in [65, 66, 1000] {
+            complains_first(&format!("sheet{row}{}", " 0:5".repeat(count)), SHEET);
+        }
+    }
+}
+
+/// Words that are no positions, wherever they stand, and positions that no one job
+/// has.
+#[test]
+fn no_positions() {
+    for word in ["0", "0:5:0:0", "4:0:5:0:1"] {
+        complains_first(&format!("sheet 4 {word}"), POSITION);
+        complains_first(&format!("sheet 0:5 {word}"), POSITION);
+    }
+    for word in [
+        ":", "0:", ":5", "::", "0::5", "0:5:", ":0:5", "0:5,0", "0;5:1",
+    ] {
+        complains_first(&format!("sheet 4 {word}"), NUMBER);
+        complains_first(&format!("sheet 4 0:5 {word}"), NUMBER);
+    }
+    for line in [
+        "sheet 0:5 0:5:0",
+        "sheet 4 0:5:0 0:5",
+        "sheet 4 0:5 0:5 0:5:0",
+    ] {
+        complains_first(line, STOCKS);
     }
 }
 

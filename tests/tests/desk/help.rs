@@ -1,17 +1,7 @@
 //! What the desk says about itself: status 0, on standard output, without a job.
 
-use super::{complains, desk, Says};
+use super::{complains, desk, words, Says, ANSWERED};
 use rbatl_tests::jobs;
-
-/// Each command with arguments that Catch has an answer to.
-const ANSWERED: [(&str, &str); 6] = [
-    ("check", ""),
-    ("list", ""),
-    ("table", "4"),
-    ("move", "4 0 5"),
-    ("reply", "3 0 5 1"),
-    ("dot", "4"),
-];
 
 fn said(line: &str) -> String {
     desk(line, b"").answer()
@@ -24,7 +14,11 @@ fn the_overview() {
     assert_eq!(said("help"), overview);
     assert!(overview.starts_with("usage: desk COMMAND < job\n\n"));
     let words = ["check", "list", "table [ROW]", "dot [ROW]"];
-    let positions = ["move [ROW] STATE STOCK..", "reply [ROW] STATE STOCK.. MOVE"];
+    let positions = [
+        "move [ROW] STATE STOCK..",
+        "reply [ROW] STATE STOCK.. MOVE",
+        "sheet [ROW] STATE:STOCK[:STOCK] ..",
+    ];
     let others = ["help COMMAND", "--help", "--version"];
     for start in words.into_iter().chain(positions).chain(others) {
         let start = format!("  {start}  ");
@@ -45,14 +39,15 @@ fn the_version() {
     let version = header.split("#define RBATL_VERSION \"").nth(1);
     let version = version.and_then(|rest| rest.split('"').next());
     assert_eq!(said("--version"), format!("desk {}\n", version.unwrap()));
-    assert_eq!(said("--version"), "desk 1.0.0\n");
+    assert_eq!(said("--version"), "desk 1.1.0\n");
 }
 
 /// The call as in the overview, then what it does, takes and prints.
 #[test]
 fn each_command_has_its_help() {
     let overview = said("--help");
-    for (command, arguments) in ANSWERED {
+    for line in ANSWERED {
+        let command = words(line)[0];
         let help = said(&format!("help {command}"));
         let call = help.strip_prefix("usage: desk ").expect("a usage line");
         let (call, rest) = call.split_once(" < job\n\n").expect("an empty line");
@@ -64,18 +59,17 @@ fn each_command_has_its_help() {
         assert!(parts[1].starts_with("Arguments:"), "{help}");
         assert!(parts[2].starts_with("Output: "), "{help}");
         let row = parts[1].contains("\n  ROW ") && parts[1].contains("may be left out");
-        assert_eq!(row, !arguments.is_empty(), "{help}");
+        assert_eq!(row, line != command, "{help}");
     }
 }
 
 /// The lines that a help shows stand in the answer for Catch.
 #[test]
 fn examples_are_true() {
-    for (command, arguments) in ANSWERED {
-        let help = said(&format!("help {command}"));
+    for line in ANSWERED {
+        let help = said(&format!("help {}", words(line)[0]));
         let (_, output) = help.split_once("\nOutput: ").expect("an output");
-        let line = format!("{command} {arguments}");
-        let answer = desk(&line, &jobs::text("catch.job")).answer();
+        let answer = desk(line, &jobs::text("catch.job")).answer();
         let shown = output.lines().filter_map(|line| line.strip_prefix("  "));
         let mut examples = 0;
         // What stands after two spaces explains.

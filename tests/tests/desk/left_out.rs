@@ -42,8 +42,10 @@ fn with_one_resource() {
     same(&job, "dot", "dot 3");
     same(&job, "move 1 3", "move 3 1 3");
     same(&job, "reply 0 5 1", "reply 3 0 5 1");
+    same(&job, "sheet 1:3 0:5", "sheet 3 1:3 0:5");
     assert_eq!(desk("move 1 3", &job).status, super::DONE);
     assert_eq!(desk("reply 0 5 1", &job).status, super::DONE);
+    assert_eq!(desk("sheet 1:3 0:5", &job).status, super::DONE);
     // Refusals too.
     same(&job, "move 3 3", "move 3 3 3");
     same(&job, "move 1 6", "move 3 1 6");
@@ -60,6 +62,7 @@ fn with_two_resources() {
     same(&job, "dot", "dot 3");
     same(&job, "move 0 3 1", "move 3 0 3 1");
     same(&job, "reply 0 0 0 0", "reply 3 0 0 0 0");
+    same(&job, "sheet 0:3:1 0:0:0", "sheet 3 0:3:1 0:0:0");
     assert_eq!(desk("move 0 3 1", &job).status, super::DONE);
     assert_eq!(desk("reply 0 0 0 0", &job).status, super::DONE);
     // Three numbers are a row, a state and a stock with one resource only.
@@ -76,6 +79,7 @@ fn of_the_first_job() {
     same(&job, "table", "table 2");
     same(&job, "move 0 2", "move 2 0 2");
     same(&job, "reply 0 1 0", "reply 2 0 1 0");
+    same(&job, "sheet 0:2", "sheet 2 0:2");
 }
 
 #[test]
@@ -94,14 +98,14 @@ fn of_several_rows_or_none() {
     let none = catch_with(["not,0", "or,0,1", "prop,0"]);
     let two = catch_with(["until,1,5,2,0", "not,3", "next,1,5,2"]);
     for job in [none, two, jobs::text("catch.job")] {
-        for line in ["table", "dot", "move 0 5", "reply 0 5 1"] {
+        for line in ["table", "dot", "move 0 5", "reply 0 5 1", "sheet 0:5 0:4"] {
             assert!(complains(line, &job, NO_ROW), "{line}");
         }
         assert_eq!(desk("dot 0", &job).status, super::DONE);
         assert!(desk("table 0", &job).refused(8));
     }
     let smallest = text::write(&jobs::smallest(1, 2, 1, 1, 1));
-    for line in ["table", "dot", "move 0 0 0", "reply 0 0 0 0"] {
+    for line in ["table", "dot", "move 0 0 0", "reply 0 0 0 0", "sheet 0:0:0"] {
         assert!(complains(line, &smallest, NO_ROW), "{line}");
     }
 }

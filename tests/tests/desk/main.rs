@@ -7,6 +7,7 @@ mod help;
 mod left_out;
 mod random;
 mod refusals;
+mod sheets;
 mod stops;
 mod streams;
 
@@ -18,11 +19,29 @@ const DONE: i32 = 0;
 const REFUSED: i32 = 1;
 const FAILED: i32 = 2;
 
+/// Each command with arguments that Catch has an answer to.
+const ANSWERED: [&str; 7] = [
+    "check",
+    "list",
+    "table 4",
+    "move 4 0 5",
+    "reply 3 0 5 1",
+    "sheet 4 0:5 0:4",
+    "dot 4",
+];
+
 /// Reasons that it gives for wrong arguments.
 const COUNT: &str = "wrong count of numbers";
 const NUMBER: &str = "not a number from 0 to 255 without leading zeros";
+const POSITION: &str = "not a position STATE:STOCK[:STOCK]";
+const SHEET: &str = "a sheet has 1 to 64 positions";
 const STOCKS: &str = "not one stock for each resource of the job";
 const NO_ROW: &str = "no row given, and the job has not exactly one of kind next, always or until";
+
+/// What a sheet says where there is no move.
+const LOST: &str = "no move: the coalition does not win here";
+const OUTSIDE: &str = "no position: the state does not exist, or a stock is above its bound, \
+                       or not 0 where the resource is unlimited or absent";
 
 /// What a run of the desk says.
 trait Says {

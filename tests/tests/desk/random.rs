@@ -1,6 +1,6 @@
-//! Listings, tables, moves and replies of random jobs, beside the checker's.
+//! Listings, tables, moves, replies and sheets of random jobs, beside the checker's.
 
-use super::{desk, Says};
+use super::{desk, Says, LOST, OUTSIDE};
 use rbatl_tests::layout::*;
 use rbatl_tests::listing::{listing, try_damaged_texts, try_job_files, try_random_jobs};
 use rbatl_tests::model::{At, Model, ROOM_BYTES};
@@ -49,14 +49,18 @@ fn actions_of(joint: u8, agents: u8) -> String {
     }
 }
 
+/// The stocks of the job's resources, with something between them.
+fn stocks_of(block: &[u8], at: At, between: &str) -> String {
+    let stocks = at.stock[..Sizes::of(block).resources].iter();
+    stocks.map(u8::to_string).collect::<Vec<_>>().join(between)
+}
+
 /// The lines of a table after its head.
 fn entries(block: &[u8], model: &Model, i: u8) -> Vec<String> {
     let table = &model.row(i).expect("a strategic row").table;
     let coalition = block[row(i.into(), COALITION)];
-    let stocks = Sizes::of(block).resources;
     let line = |at: At| {
         let position = model.row(i).expect("a strategic row").position(at);
-        let stock: Vec<String> = at.stock[..stocks].iter().map(u8::to_string).collect();
         let rank = match table.ranks[position] {
             u16::MAX => "never".to_string(),
             rank => rank.to_string(),
@@ -65,7 +69,7 @@ fn entries(block: &[u8], model: &Model, i: u8) -> Vec<String> {
             u8::MAX => "no move".to_string(),
             number => format!("move {number}: {}", actions_of(number, coalition)),
         };
-        let stock = stock.join(", ");
+        let stock = stocks_of(block, at, ", ");
         format!("state {}, stock {stock}: rank {rank}, {played}", at.state)
     };
     model.positions(i).into_iter().map(line).collect()
@@ -131,9 +135,8 @@ fn agree_at(line: &str, text: &[u8], answer: i32, agents: u8) {
 fn agree_on_both(block: &[u8], model: &Model, at: At, mv: u8) -> [bool; 2] {
     let (text, sizes) = (text::write(block), Sizes::of(block));
     let mut room = vec![0; ROOM_BYTES];
-    let stocks = at.stock[..sizes.resources].iter();
-    let stocks: Vec<String> = stocks.map(u8::to_string).collect();
-    let place = format!("{} {} {}", at.row, at.state, stocks.join(" "));
+    let stocks = stocks_of(block, at, " ");
+    let place = format!("{} {} {stocks}", at.row, at.state);
     let coalition = match usize::from(at.row) < sizes.rows {
         true => block[row(at.row.into(), COALITION)],
         false => 0,
@@ -162,4 +165,45 @@ fn moves_and_replies_of_random_jobs() {
         }
     }
     assert!(answered.iter().all(|&count| count > 50), "{answered:?}");
+}
+
+/// The line of a position in a sheet.
+fn sheet_line(block: &[u8], at: At, answer: i32) -> String {
+    let coalition = block[row(at.row.into(), COALITION)];
+    let words = match answer {
+        -10 => LOST.to_string(),
+        -9 => OUTSIDE.to_string(),
+        _ => format!("move {answer}: {}", actions_of(answer as u8, coalition)),
+    };
+    let stock = stocks_of(block, at, ", ");
+    format!("state {}, stock {stock}: {words}\n", at.state)
+}
+
+/// Positions of a row, and now and then one beside them.
+#[test]
+fn sheets_of_random_jobs() {
+    let (mut room, mut seen) = (vec![0; ROOM_BYTES], [0; 3]);
+    for case in 0..cases(150) {
+        let mut rng = Rng::for_case(SEED + 4, case);
+        let block = games::contest(&mut rng);
+        let model = Model::of(&block);
+        for row in model.rows() {
+            let (mut line, mut due) = (format!("sheet {row}"), String::new());
+            for _ in 0..rng.within(1..=64) {
+                let mut at = rng.pick(&model.positions(row));
+                at.state += u8::from(rng.one_in(12)) * 3;
+                at.stock[0] += u8::from(rng.one_in(12));
+                let answer = model.coalition_move(at, &mut room);
+                seen[usize::try_from(-8 - answer).unwrap_or(0)] += 1;
+                line += &format!(" {}:{}", at.state, stocks_of(&block, at, ":"));
+                due += &sheet_line(&block, at, answer);
+            }
+            assert_eq!(
+                desk(&line, &text::write(&block)).answer(),
+                due,
+                "case {case}"
+            );
+        }
+    }
+    assert!(seen.iter().all(|&count| count > 500), "{seen:?}");
 }

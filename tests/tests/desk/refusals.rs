@@ -1,6 +1,6 @@
 //! Every refusal that can be reached, and both sides of each border.
 
-use super::{changed, desk, Says};
+use super::{changed, desk, Says, ANSWERED};
 use rbatl_tests::layout::*;
 use rbatl_tests::process::Ran;
 use rbatl_tests::{jobs, text};
@@ -16,14 +16,7 @@ fn passes(text: &[u8]) -> bool {
 
 /// Every command refuses the text with the number.
 fn all_refuse(text: &[u8], number: u8) {
-    for line in [
-        "check",
-        "list",
-        "table 4",
-        "move 4 0 5",
-        "reply 4 0 5 1",
-        "dot 4",
-    ] {
+    for line in ANSWERED {
         let ran = desk(line, text);
         assert!(ran.refused(number), "{line}: {ran:?}");
     }
@@ -121,6 +114,7 @@ fn row_choices() {
             format!("table {row}"),
             format!("move {row} 0 0"),
             format!("reply {row} 0 0 0"),
+            format!("sheet {row} 0:0 9:9"),
         ] {
             assert!(catch(&line).refused(8), "{line}");
         }

@@ -1,7 +1,7 @@
 //! What `check` shows of a text that is refused: the line, and a mark under the
 //! field.
 
-use super::{changed, desk, REFUSED};
+use super::{changed, desk, ANSWERED, REFUSED};
 use rbatl_tests::{jobs, text};
 
 /// What stands on standard error after the refusal.
@@ -74,10 +74,10 @@ fn too_long() {
     assert_eq!(shown(&text), "");
 }
 
-/// The other commands say the refusal alone.
+/// The commands after check say the refusal alone.
 #[test]
 fn other_commands() {
-    for line in ["list", "table 4", "move 4 0 5", "reply 4 0 5 1", "dot 4"] {
+    for line in &ANSWERED[1..] {
         let ran = desk(line, b"jib");
         assert_eq!(ran.err.lines().count(), 1, "{line}: {ran:?}");
     }

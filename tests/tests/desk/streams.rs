@@ -1,19 +1,10 @@
 //! Input and output that fail, and input that never ends.
 
-use super::{program, Says, DONE, FAILED};
+use super::{program, Says, ANSWERED, DONE, FAILED};
 use rbatl_tests::jobs;
 use rbatl_tests::process::{shell, Ran};
 use std::fs::{File, OpenOptions};
 use std::process::{Command, Stdio};
-
-const COMMANDS: [&str; 6] = [
-    "check",
-    "list",
-    "table 4",
-    "move 4 0 5",
-    "reply 3 0 5 1",
-    "dot 4",
-];
 
 /// What the desk says about itself, without a job.
 const WITHOUT_A_JOB: [&str; 4] = ["--help", "--version", "help", "help move"];
@@ -30,7 +21,7 @@ fn cannot(ran: &Ran, what: &str) -> bool {
 
 #[test]
 fn output_on_a_full_device() {
-    for line in COMMANDS.into_iter().chain(WITHOUT_A_JOB) {
+    for line in ANSWERED.into_iter().chain(WITHOUT_A_JOB) {
         let full = OpenOptions::new().write(true).open("/dev/full");
         let job = File::open(jobs::folder().join("catch.job")).expect("Catch");
         let output = Command::new(program())
@@ -53,7 +44,7 @@ fn long_output_on_a_full_device() {
 
 #[test]
 fn closed_output() {
-    for line in COMMANDS.into_iter().chain(WITHOUT_A_JOB) {
+    for line in ANSWERED.into_iter().chain(WITHOUT_A_JOB) {
         let ran = redirected(line, "< \"$1/catch.job\" >&-");
         assert!(cannot(&ran, "write"), "{line}: {ran:?}");
     }
@@ -79,7 +70,7 @@ fn closed_error_output() {
 
 #[test]
 fn closed_input() {
-    for line in COMMANDS {
+    for line in ANSWERED {
         let ran = redirected(line, "<&-");
         assert!(cannot(&ran, "read the job"), "{line}: {ran:?}");
         assert_eq!(ran.out, "");
@@ -99,7 +90,7 @@ fn input_that_is_left_alone() {
 
 #[test]
 fn a_directory_as_input() {
-    for line in COMMANDS {
+    for line in ANSWERED {
         let ran = redirected(line, "< /");
         assert!(cannot(&ran, "read the job"), "{line}: {ran:?}");
     }
@@ -107,7 +98,7 @@ fn a_directory_as_input() {
 
 #[test]
 fn endless_input() {
-    for line in COMMANDS {
+    for line in ANSWERED {
         let mut yes = Command::new("yes")
             .stdout(Stdio::piped())
             .spawn()

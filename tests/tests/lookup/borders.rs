@@ -1,10 +1,11 @@
-//! Each refusal of the two calls, on both sides of its border, in its order.
+//! Each refusal of the calls at positions, on both sides of its border, in its
+//! order.
 
 use super::*;
 use rbatl_tests::damage::whole_and_damaged;
 use rbatl_tests::jobs::{self, catch};
 use rbatl_tests::layout::*;
-use rbatl_tests::model::{MOVES_BYTES, SETS_BYTES};
+use rbatl_tests::model::{MOVES_BYTES, POSITION_BYTES, SETS_BYTES, SHEET_BYTES};
 use rbatl_tests::text::TEXT_BYTES;
 
 /// Places in Catch, each with a move: won, not won and not won with a move that
@@ -19,12 +20,34 @@ const PLACES: [(At, u8); 7] = [
     (at(255, 255, [255, 255]), 255),
 ];
 
-/// Both calls refuse with the number at every place.
+/// Lists of a worksheet: empty, of one position, of two of which one is none, and of
+/// as many as there can be.
+fn lists() -> [Vec<u8>; 4] {
+    let most = [[0, 5, 0], [0, 4, 0], [255, 0, 0], [1, 3, 0]].concat();
+    [
+        Vec::new(),
+        vec![0, 5, 0],
+        vec![255, 255, 255, 0, 0, 0],
+        most.repeat(SHEET_BYTES / most.len()),
+    ]
+}
+
+/// Worksheets of the row, each with words that match, get this answer.
+fn expect_sheets(asked: &Asked, row: u8, expected: i32) {
+    for list in lists() {
+        let (answer, _) = asked.worksheet(row, &list, 2 * list.len() / POSITION_BYTES);
+        let what = format!("{}, row {row}, {} bytes", asked.what, list.len());
+        assert_eq!(answer, expected, "{what}");
+    }
+}
+
+/// The calls refuse with the number at every place.
 fn refused_everywhere(asked: &Asked, number: u8) {
     for (at, mv) in PLACES {
         let what = format!("{}, move {mv} at {at:?}", asked.what);
         assert_eq!(asked.coalition_move(at), -i32::from(number), "{what}");
         assert_eq!(asked.reply(at, mv), -i32::from(number), "{what}");
+        expect_sheets(asked, at.row, -i32::from(number));
     }
 }
 
@@ -67,7 +90,7 @@ fn block_numbers() {
 }
 
 /// Number 8 for every row of every kind, at F - 1, F and beyond, also at no
-/// position of the job; never for a strategic row.
+/// position of the job and for an empty worksheet; never for a strategic row.
 #[test]
 fn row_numbers() {
     for name in jobs::names() {
@@ -86,6 +109,7 @@ fn row_numbers() {
             let first = at(i, 0, [0, 0]);
             assert_eq!(asked.coalition_move(first) == -8, !strategic, "row {i}");
             assert_eq!(asked.reply(first, 0) == -8, !strategic, "row {i}");
+            expect_sheets(&asked, i, if strategic { 0 } else { -8 });
         }
     }
 }

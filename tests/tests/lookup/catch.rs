@@ -90,3 +90,36 @@ fn replies_of_nobody() {
         }
     }
 }
+
+/// Positions of rows 3 and 4, one of them twice, and of none: the words, lowest byte
+/// first, are the move, 256 + 9 or 256 + 10.
+#[test]
+fn worksheets() {
+    let job = catch();
+    let asked = Asked::patterned(&job, "Catch");
+    let list = [
+        [0, 5, 0],
+        [0, 4, 0],
+        [1, 3, 0],
+        [2, 0, 0],
+        [3, 0, 0],
+        [1, 6, 0],
+        [1, 3, 1],
+        [0, 5, 0],
+    ];
+    let words = |row| asked.worksheet(row, &list.concat(), 16);
+    let due = [1, 0, 10, 1, 1, 0, 0, 0, 9, 1, 9, 1, 9, 1, 1, 0];
+    assert_eq!(words(4), (0, due.to_vec()));
+    let due = [10, 1, 10, 1, 1, 0, 0, 0, 9, 1, 9, 1, 9, 1, 10, 1];
+    assert_eq!(words(3), (0, due.to_vec()));
+}
+
+/// Agent 1's move in the seventh row is 4.
+#[test]
+fn worksheet_of_the_seventh_row() {
+    let job = jobs::catch_with_always();
+    let asked = Asked::patterned(&job, "Catch with a seventh row");
+    let list = [1, 0, 0, 0, 0, 0, 2, 0, 0, 0, 1, 0];
+    let due = vec![10, 1, 4, 0, 10, 1, 9, 1];
+    assert_eq!(asked.worksheet(6, &list, 8), (0, due));
+}

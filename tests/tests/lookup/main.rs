@@ -1,15 +1,20 @@
-//! `rbatl_move` and `rbatl_reply` beside the checker made from document 003: the
-//! same answers and zeros in the room, and plays that they decide.
+//! `rbatl_move`, `rbatl_reply` and `rbatl_worksheet` beside the checker made from
+//! document 003: the same answers and zeros in the room, and plays that they decide.
 
 mod borders;
 mod catch;
 mod every_play;
 mod plays;
 mod random;
+mod sheet_borders;
+mod sheets;
 
 use rbatl_tests::agree::{self, Outcome};
 use rbatl_tests::answers::{assert_each_came, number};
+use rbatl_tests::damage::damage;
+use rbatl_tests::games;
 use rbatl_tests::model::{At, Model, ROOM_BYTES};
+use rbatl_tests::random::Rng;
 
 /// The room after a call.
 const ZEROS: [u8; ROOM_BYTES] = [0; ROOM_BYTES];
@@ -62,6 +67,20 @@ impl Asked<'_> {
         ))
     }
 
+    /// The worksheet of the row in words that hold a pattern beforehand, as the
+    /// library and the model agree: the answer, and the words afterwards, which a
+    /// refusal leaves.
+    fn worksheet(&self, row: u8, list: &[u8], length: usize) -> (i32, Vec<u8>) {
+        let (what, lent) = (|| self.what.clone(), agree::pattern(length));
+        let buffers = [&lent[..], &self.room];
+        let mut outcome = agree::worksheet(self.block, &self.model, row, list, buffers, what);
+        let room = outcome.buffer.split_off(length);
+        let words = std::mem::replace(&mut outcome.buffer, room);
+        let answer = self.answer(outcome);
+        assert!(answer == 0 || words == lent, "{}: the words", self.what);
+        (answer, words)
+    }
+
     /// The room holds zeros after every answer but -1, which leaves it.
     fn answer(&self, outcome: Outcome) -> i32 {
         let room = outcome.buffer;
@@ -72,6 +91,13 @@ impl Asked<'_> {
         assert!(good, "{}: the room after {}", self.what, outcome.answer);
         outcome.answer
     }
+}
+
+/// A job with damage, or whole, and what it is.
+fn damaged(rng: &mut Rng, case: u64) -> (Vec<u8>, String) {
+    let mut job = games::contest(rng);
+    let how = damage(rng, &mut job);
+    (job, format!("case {case}, damage: {how}"))
 }
 
 const fn at(row: u8, state: u8, stock: [u8; 2]) -> At {

@@ -1,10 +1,10 @@
 //! Random jobs, whole and damaged, small and of full size.
 
 use super::*;
-use rbatl_tests::damage::{damage, BORDERS};
+use rbatl_tests::damage::BORDERS;
+use rbatl_tests::jobs;
 use rbatl_tests::layout::*;
 use rbatl_tests::random::{any_block, cases, Rng};
-use rbatl_tests::{games, jobs};
 
 const SEED: u64 = 0x6C6F_6F6B_7570;
 const CASES: u64 = 2_000;
@@ -171,9 +171,7 @@ fn damaged_jobs() {
     let mut seen = Seen::default();
     for case in 0..cases(CASES) {
         let rng = &mut Rng::for_case(SEED ^ 3, case);
-        let mut job = games::contest(rng);
-        let how = damage(rng, &mut job);
-        let what = format!("case {case}, damage: {how}");
+        let (job, what) = damaged(rng, case);
         let asked = Asked::new(&job, room(case), what);
         ask_anywhere(rng, &asked, 2, &mut seen);
     }
