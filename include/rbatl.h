@@ -33,8 +33,8 @@
  *
  * Stack: any call takes at most RBATL_STACK_BYTES, and none allocates. As
  * bench/run measures it, in bytes: check 135, states_refusal 183, write 351, read
- * and read_at 2999, table 5920, label 6000, move 6064, reply 6096, worksheet 6100,
- * states 6112, list 8720.
+ * and read_at 2999, table 5920, label 6000, move and reply 6096, states 6112,
+ * worksheet 6128, list 8720.
  *
  * Cost: rbatl_move and rbatl_reply solve the row anew at each call. For the moves
  * of up to 64 positions ask rbatl_worksheet, which solves it once; for those of all
