@@ -14,10 +14,9 @@ use Rattle.game.specs.Position.{number, positions}
 use Rattle.game.specs.Model.{arenaOf}
 use Rattle.game.proofs.Blocks.Passing.{states-times}
 use Rattle.game.proofs.Local.Same.{number-below}
-use Rattle.game.proofs.Numbers.Decide.{eq?}
 use Rattle.turns.specs.Buffers.{rankIn}
 use Rattle.turns.specs.Inner.Stores.{Stored}
-use Rattle.turns.proofs.Bytes.{cleared, zero-byte}
+use Rattle.turns.proofs.Bytes.{cleared, zero-byte, stored-more}
 use Rattle.ways.specs.Rows.{Playable}
 use Rattle.ways.specs.declared.rows.Row.{Row}
 use Rattle.choice.specs.Filling.{byteIn, FilledTo, MoveRight, NextRight}
@@ -37,13 +36,9 @@ module _ (l l′ : List ℕ) (zeros : l′ ≡ take 0 l ++ replicate (length l -
 -- one more entry
 filled-next : {entry : List ℕ → ℕ → ℕ} {Right : ℕ → ℕ → Type 0} {n v : ℕ} {l l′ : List ℕ} → FilledTo entry Right n l → Stored entry l l′ n v → Right n v → FilledTo entry Right (n + 1) l′
 filled-next {entry} {Right} {n} {v} {l} {l′} so-far put right = record {
-  below = λ k small. go k small (eq? k n);
+  below = stored-more Right put right (so-far .below);
   rest = λ k past. put .others k (λ e. omega arith) ∙ so-far .rest k (omega arith);
 }
-  where
-    go : (k : ℕ) → k < n + 1 → Dec (k ≡ n) → Right k (entry l′ k)
-    go k small (yes e) = subst (λ (j : ℕ). Right j (entry l′ j)) (sym e) (subst (Right n) (sym (put .stored)) right)
-    go k small (no ne) = subst (Right k) (sym (put .others k ne)) (so-far .below k (omega arith))
 
 -- a byte that is stored
 pub byte-stored : (l : List ℕ) (n v : ℕ) → n < length l → Stored byteIn l (set l n v) n v

@@ -23,6 +23,13 @@ sheetPositions = 64
 abbrev pub sheetBytes : ℕ
 sheetBytes = sheetPositions * positionBytes
 
+-- how many positions a list of n bytes has, and the bytes of its words, two for each position
+abbrev pub sheetCount : ℕ → ℕ
+sheetCount n = n / positionBytes
+
+abbrev pub wordsBytes : ℕ → ℕ
+wordsBytes n = 2 * sheetCount n
+
 -- the state and the stocks of position k
 abbrev pub stateIn : List ℕ → ℕ → ℕ
 stateIn list k = getD list (positionBytes * k) 0
@@ -30,13 +37,13 @@ stateIn list k = getD list (positionBytes * k) 0
 abbrev pub stocksIn : List ℕ → ℕ → List ℕ
 stocksIn list k = take maxResources (drop (suc (positionBytes * k)) list)
 
--- a list that is longer or has no whole number of positions, words of two bytes that do not match its count, a room of another length; then the
--- block and the row
+-- a list that is longer or has no whole number of positions, words that do not match its count, a room of another length; then the block and the
+-- row
 abbrev pub sheetRules : Block → ℕ → ℕ → ℕ → ℕ → List Rule
 sheetRules b i list words room =
     Length when (sheetBytes < list)
     ∷ Length when (list % positionBytes ≡ 0 → ⊥)
-    ∷ Length when (words ≡ 2 * (list / positionBytes) → ⊥)
+    ∷ Length when (words ≡ wordsBytes list → ⊥)
     ∷ Length when (room ≡ roomBytes → ⊥)
     ∷ rowRules b i
 
@@ -54,8 +61,8 @@ pub record Single (b : Block) (i s : ℕ) (stocks room room′ : List ℕ) (w : 
 
 -- the words hold it for each position of the list, and nothing else
 pub record SheetIn (b : Block) (i : ℕ) (list words room room′ : List ℕ) : Type 0 where
-  pub each : (k : ℕ) → k < length list / positionBytes → Single b i (stateIn list k) (stocksIn list k) room room′ (rankIn words k)
-  pub long : length words ≡ 2 * (length list / positionBytes)
+  pub each : (k : ℕ) → k < sheetCount (length list) → Single b i (stateIn list k) (stocksIn list k) room room′ (rankIn words k)
+  pub long : length words ≡ wordsBytes (length list)
 
 -- words and room, before the call and after it
 pub record SheetCall (b : Block) (i : ℕ) (list words room words′ room′ : List ℕ) (a : Answer) : Type 0 where

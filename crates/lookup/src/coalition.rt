@@ -1,13 +1,9 @@
 // The team's move at a position.
 use crate::admit;
 use crate::spots;
-use crate::spots::Ready;
 use block::fill;
-use block::layout;
 use block::refusal::Answer;
 use block::refusal::Refusal;
-use block::widths::wide;
-use choice::moves;
 use turns::sizes;
 use ways::lines;
 ghost use mathlib.Core.List.{[], _∷_};
@@ -21,33 +17,9 @@ ghost use Rattle.game.specs.Position.{position, IsPosition};
 ghost use Rattle.game.specs.Model.{arenaOf};
 ghost use Rattle.game.specs.Demand.{RowMove, Demand3};
 ghost use Rattle.lookup.specs.Calls.{sideRules, MoveCall};
-ghost use Rattle.lookup.specs.Inner.Ready.{MadeReady};
 ghost use Rattle.turns.specs.Sizes.{roomBytes};
 
-// The team's move at a position of a row made ready.
-pub fn ready_move(
-    block: &[u8],
-    i: usize,
-    ready: Ready,
-    ways: &[u8],
-    ranks: &[u8],
-    s: usize,
-    stocks: &[u8],
-) -> Answer
-    requires { ⌜ MadeReady (now block) i ready (now ways) (now ranks) ⌝ }
-    requires { ⌜ (L.resources (now block) ≤ length (now stocks)) × IsPosition (arenaOf (now block) i) (position s (now stocks)) ⌝ }
-    ensures { λ a. ⌜ Answers (sideRules (now (block .entry)) i (position s (now (stocks .entry)))) (RowMove (now (block .entry)) i (position s (now (stocks .entry)))) a ⌝ }
-{
-    let spot = spots::spot_of(block, i, s, stocks);
-    let kind = layout::kind(block, i);
-    let m = moves::move_at(block, ready.row, ways, ranks, spot, kind);
-    if m == sizes::NO_MOVE {
-        return Answer::Refused(Refusal::WrongSide);
-    }
-    Answer::Value(wide(m))
-}
-
-// The same with the row made ready first.
+// The team's move at a position of a strategic row.
 fn coalition_at(block: &[u8], i: usize, s: usize, stocks: &[u8], room: &mut [u8]) -> Answer
     requires { ⌜ Valid (now block) ⌝ }
     requires { ⌜ (i < L.rows (now block)) × L.Strategic (L.kind (now block) i) × (L.resources (now block) ≤ length (now stocks)) × (length (now room) ≡ roomBytes) ⌝ }
@@ -57,7 +29,7 @@ fn coalition_at(block: &[u8], i: usize, s: usize, stocks: &[u8], room: &mut [u8]
 {
     let mut ways = [0u8; lines::WAYS_BYTES];
     let ready = spots::prepare(block, i, &mut ways, room);
-    ready_move(block, i, ready, &ways, room, s, stocks)
+    spots::ready_move(block, i, ready, &ways, room, s, stocks)
 }
 
 // The team's move of row i in state s with these stocks. The room is left filled with zeros, unless a buffer has another length.

@@ -1,6 +1,9 @@
-// A position that a caller names, and its row made ready.
+// A position that a caller names, its row made ready, and the team's move there.
 use block::layout;
+use block::refusal::Answer;
+use block::refusal::Refusal;
 use block::widths::wide;
+use choice::moves;
 use solver::label;
 use solver::rows;
 use turns::positions;
@@ -12,14 +15,18 @@ ghost use Prim.Native.Nat.{_≤_, _<_};
 ghost use lib.ListN.{length};
 ghost use Rattle.block.specs.Inner.Tests.{Decides};
 ghost use Rattle.block.specs.Layout as L;
+ghost use Rattle.block.specs.Refusal.{Answers};
 ghost use Rattle.block.specs.Inner.Valid.{Valid};
 ghost use Rattle.game.specs.Position as P;
 ghost use Rattle.game.specs.Model.{boundsOf, arenaOf};
+ghost use Rattle.game.specs.Demand.{RowMove};
 ghost use Rattle.ways.specs.Lines.{waysBytes};
 ghost use Rattle.ways.specs.Places.{PlacedAt};
 ghost use Rattle.solver.specs.Inner.Labels.{Prepared};
 ghost use Rattle.solver.specs.Inner.Rows.{RowRanked};
 ghost use Rattle.lookup.specs.Positions.{NoPosition};
+ghost use Rattle.lookup.specs.Calls.{sideRules};
+ghost use Rattle.lookup.specs.Inner.Ready.{MadeReady};
 ghost use Rattle.turns.specs.Sizes.{roomBytes};
 
 // A row made ready: as it is listed for its moves, with the set of its left row, and the set of its right row.
@@ -86,4 +93,27 @@ pub fn spot_of(block: &[u8], i: usize, s: usize, stocks: &[u8]) -> Spot
         state: s,
         place: positions::number(block, i, 0, stocks),
     }
+}
+
+// The team's move at a position of a row made ready.
+pub fn ready_move(
+    block: &[u8],
+    i: usize,
+    ready: Ready,
+    ways: &[u8],
+    ranks: &[u8],
+    s: usize,
+    stocks: &[u8],
+) -> Answer
+    requires { ⌜ MadeReady (now block) i ready (now ways) (now ranks) ⌝ }
+    requires { ⌜ (L.resources (now block) ≤ length (now stocks)) × P.IsPosition (arenaOf (now block) i) (P.position s (now stocks)) ⌝ }
+    ensures { λ a. ⌜ Answers (sideRules (now (block .entry)) i (P.position s (now (stocks .entry)))) (RowMove (now (block .entry)) i (P.position s (now (stocks .entry)))) a ⌝ }
+{
+    let spot = spot_of(block, i, s, stocks);
+    let kind = layout::kind(block, i);
+    let m = moves::move_at(block, ready.row, ways, ranks, spot, kind);
+    if m == sizes::NO_MOVE {
+        return Answer::Refused(Refusal::WrongSide);
+    }
+    Answer::Value(wide(m))
 }

@@ -1,5 +1,4 @@
 // The team's moves at the positions of a worksheet: the row is solved once for all of them.
-use crate::coalition;
 use crate::spots;
 use crate::spots::Ready;
 use block::fill;
@@ -13,13 +12,13 @@ use turns::buffers;
 use turns::sizes;
 use ways::lines;
 ghost use mathlib.Core.Path.{_≡_};
-ghost use Prim.Native.Nat.{_*_, _/_, _<_};
+ghost use Prim.Native.Nat.{_<_};
 ghost use lib.ListN.{length};
 ghost use Rattle.block.specs.Layout as L;
 ghost use Rattle.block.specs.Refusal.{Answers, NoValue};
 ghost use Rattle.block.specs.Inner.Valid.{Valid};
 ghost use Rattle.game.specs.Demand.{Demand3};
-ghost use Rattle.lookup.specs.Worksheet.{positionBytes, sheetRules, wordFor, SheetCall};
+ghost use Rattle.lookup.specs.Worksheet.{sheetCount, wordsBytes, sheetRules, wordFor, SheetCall};
 ghost use Rattle.lookup.specs.Inner.Ready.{MadeReady};
 ghost use Rattle.lookup.specs.Inner.Sheets.{AnsweredAt, WordsTo};
 ghost use Rattle.turns.specs.Sizes.{roomBytes};
@@ -27,7 +26,9 @@ ghost use Rattle.turns.specs.Sizes.{roomBytes};
 // A position takes a byte for its state, and one for the stock of each resource.
 const POSITION_BYTES: usize = layout::MAX_RESOURCES + 1;
 
-const SHEET_BYTES: usize = 64 * POSITION_BYTES;
+const SHEET_POSITIONS: usize = 64;
+
+const SHEET_BYTES: usize = SHEET_POSITIONS * POSITION_BYTES;
 
 // A word of 256 and more tells a refusal.
 const REFUSED: usize = 256;
@@ -62,7 +63,7 @@ fn answer_at(
     k: usize,
 ) -> Answer
     requires { ⌜ MadeReady (now block) i ready (now ways) (now ranks) ⌝ }
-    requires { ⌜ k < length (now list) / positionBytes ⌝ }
+    requires { ⌜ k < sheetCount (length (now list)) ⌝ }
     ensures { λ a. ⌜ AnsweredAt (now (block .entry)) i (now (list .entry)) k a ⌝ }
 {
     let at = POSITION_BYTES * k;
@@ -71,7 +72,7 @@ fn answer_at(
     if spots::no_position(block, i, s, stocks) {
         return Answer::Refused(Refusal::Position);
     }
-    coalition::ready_move(block, i, ready, ways, ranks, s, stocks)
+    spots::ready_move(block, i, ready, ways, ranks, s, stocks)
 }
 
 // An answer as a word: the move, or 256 plus the number of the refusal.
@@ -95,8 +96,8 @@ fn fill_words(
     words: &mut [u8],
 )
     requires { ⌜ MadeReady (now block) i ready (now ways) (now ranks) ⌝ }
-    requires { ⌜ length (now words) ≡ 2 * (length (now list) / positionBytes) ⌝ }
-    ensures { λ _. ⌜ WordsTo (now (block .entry)) i (now (list .entry)) (now (words .exit)) (length (now (list .entry)) / positionBytes) ⌝ }
+    requires { ⌜ length (now words) ≡ wordsBytes (length (now list)) ⌝ }
+    ensures { λ _. ⌜ WordsTo (now (block .entry)) i (now (list .entry)) (now (words .exit)) (sheetCount (length (now (list .entry)))) ⌝ }
 {
     for k in 0..list.len() / POSITION_BYTES {
         let answer = answer_at(block, i, ready, ways, ranks, list, k);
@@ -108,8 +109,8 @@ fn fill_words(
 fn fill_sheet(block: &[u8], i: usize, list: &[u8], words: &mut [u8], room: &mut [u8])
     requires { ⌜ Valid (now block) ⌝ }
     requires { ⌜ (i < L.rows (now block)) × L.Strategic (L.kind (now block) i) × (length (now room) ≡ roomBytes) ⌝ }
-    requires { ⌜ length (now words) ≡ 2 * (length (now list) / positionBytes) ⌝ }
-    ensures { λ _. ⌜ WordsTo (now (block .entry)) i (now (list .entry)) (now (words .exit)) (length (now (list .entry)) / positionBytes) × (length (now (room .exit)) ≡ length (now (room .entry))) ⌝ }
+    requires { ⌜ length (now words) ≡ wordsBytes (length (now list)) ⌝ }
+    ensures { λ _. ⌜ WordsTo (now (block .entry)) i (now (list .entry)) (now (words .exit)) (sheetCount (length (now (list .entry)))) × (length (now (room .exit)) ≡ length (now (room .entry))) ⌝ }
 {
     let mut ways = [0u8; lines::WAYS_BYTES];
     let ready = spots::prepare(block, i, &mut ways, room);

@@ -18,6 +18,7 @@ use Rattle.turns.specs.Buffers.{rankIn, wordIn}
 use Rattle.game.specs.Model.{bit, byKind, RowTrue, RowSet, arenaOf, objectiveOf}
 use Rattle.game.specs.Inner.Words.{Says, objectiveBy}
 use Rattle.game.proofs.Numbers.Decide.{eq?, eq-test}
+use Rattle.turns.proofs.Bytes.{one-more}
 use Rattle.game.proofs.Local.Lower.{Retold, same-next, same-always, same-until, retold}
 use Rattle.game.proofs.Blocks.Passing.{valid-proper}
 use Rattle.game.proofs.Blocks.Formulas.{next-objective, always-objective, until-objective}
@@ -116,11 +117,7 @@ module _ (b : Block) (valid : Valid b) (i : ℕ) (inside : i < L.rows b) (left r
 
 -- one more row has its set, where those below it of which Q holds have theirs
 pub set-more : (b : Block) (i : ℕ) {l l′ : List ℕ} (Q : ℕ → Type 0) → ((j : ℕ) → j < i → Q j → RowSet b j (wordIn l j)) → RowLabelled b i l l′ → (j : ℕ) → j < i + 1 → Q j → RowSet b j (wordIn l′ j)
-set-more b i {l} {l′} Q lower one j small q = go (eq? j i)
-  where
-    go : Dec (j ≡ i) → RowSet b j (wordIn l′ j)
-    go (yes e) = subst (λ (k : ℕ). RowSet b k (wordIn l′ k)) (sym e) (one .set)
-    go (no ne) = subst (RowSet b j) (sym (one .others j ne)) (lower j (omega arith) q)
+set-more b i {l} {l′} Q lower one = one-more wordIn (λ j w. Q j → RowSet b j w) l l′ (one .others) (λ _. one .set) lower
 
 pub lower-more : (b : Block) (i : ℕ) (l l′ : List ℕ) → LowerSets b i l → RowLabelled b i l l′ → LowerSets b (i + 1) l′
 lower-more b i l l′ lower one j small = set-more b i (λ _. Unit) (λ k less _. lower k less) one j small tt

@@ -29,6 +29,18 @@ zero-byte n k = go (lt? k n)
 pub zero-word : (n i : ℕ) → wordIn (replicate n 0) i ≡ 0
 zero-word n i = omega (arith, zero-byte n (4 * i), zero-byte n (4 * i + 1), zero-byte n (4 * i + 2), zero-byte n (4 * i + 3))
 
+-- the entries below n are right, and with n's those below n + 1, where the others stay
+pub one-more : (entry : List ℕ → ℕ → ℕ) (Right : ℕ → ℕ → Type 0) (l l′ : List ℕ) {n : ℕ} → ((k : ℕ) → (k ≡ n → ⊥) → entry l′ k ≡ entry l k) → Right n (entry l′ n) → ((k : ℕ) → k < n → Right k (entry l k)) → (k : ℕ) → k < n + 1 → Right k (entry l′ k)
+one-more entry Right l l′ {n} others right so-far k small = go (eq? k n)
+  where
+    go : Dec (k ≡ n) → Right k (entry l′ k)
+    go (yes e) = subst (λ (j : ℕ). Right j (entry l′ j)) (sym e) right
+    go (no ne) = subst (Right k) (sym (others k ne)) (so-far k (omega arith))
+
+-- one that is stored
+pub stored-more : {entry : List ℕ → ℕ → ℕ} (Right : ℕ → ℕ → Type 0) {l l′ : List ℕ} {n v : ℕ} → Stored entry l l′ n v → Right n v → ((k : ℕ) → k < n → Right k (entry l k)) → (k : ℕ) → k < n + 1 → Right k (entry l′ k)
+stored-more {entry} Right {l} {l′} {n} {v} put right = one-more entry Right l l′ (put .others) (subst (Right n) (sym (put .stored)) right)
+
 module _ (l : List ℕ) (p v : ℕ) where
   abbrev pub withRank : List ℕ
   withRank = set (set l (2 * p) (v % 256)) (2 * p + 1) (v / 256 % 256)

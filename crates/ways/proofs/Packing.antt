@@ -5,7 +5,6 @@ use Prim.Native.Nat.{ℕ, zero, suc, _+_, _*_, _-_, _/_, _%_, _≤_, _<_}
 use native.Mathlib.Nat.{mul-add-div-right, mul-add-mod-self-right, mod-eq-of-lt, mod-lt, div-eq-of-lt}
 use native.Mathlib.Omega.{arith}
 use Rattle.turns.specs.Buffers.{rankIn}
-use Rattle.turns.specs.Inner.Stores.{Stored}
 use Rattle.ways.specs.Lines.{packedIn}
 use Rattle.block.specs.Layout as L
 use Rattle.block.specs.Layout.{Block}
@@ -111,14 +110,6 @@ packing-next b valid i x j rest packed c is some few so-far = record {
 
 pub packing-done : (b : Block) (i x rest packed : ℕ) → PackingTo b i x 0 rest packed → PackedAt (arenaOf b i) x packed
 packing-done b i x rest packed done p fits place = done .stocks p fits place .1
-
--- one more place
-pub packs-more : (G : Arena) (l l′ : List ℕ) (x v : ℕ) → Stored rankIn l l′ x v → ((y : ℕ) → y < x → PackedAt G y (packedIn l y)) → PackedAt G x v → (y : ℕ) → y < x + 1 → PackedAt G y (packedIn l′ y)
-packs-more G l l′ x v put so-far one y small = go (eq? y x)
-  where
-    go : Dec (y ≡ x) → PackedAt G y (packedIn l′ y)
-    go (yes e) = subst (λ (z : ℕ). PackedAt G z (packedIn l′ z)) (sym e) (subst (PackedAt G x) (sym (put .stored)) one)
-    go (no ne) = subst (PackedAt G y) (sym (put .others y ne)) (so-far y (omega arith))
 
 -- stocks are below 16
 stocks-small : (b : Block) → Valid b → (i : ℕ) → i < L.rows b → L.Strategic (L.kind b i) → (q : Position) → IsPosition (arenaOf b i) q → (r : ℕ) → r < L.resources b → q .stock r < 16

@@ -13,6 +13,7 @@ use rbatl_tests::agree::{self, Outcome};
 use rbatl_tests::answers::{assert_each_came, number};
 use rbatl_tests::damage::damage;
 use rbatl_tests::games;
+use rbatl_tests::jobs;
 use rbatl_tests::model::{At, Model, ROOM_BYTES};
 use rbatl_tests::random::Rng;
 
@@ -93,8 +94,45 @@ impl Asked<'_> {
     }
 }
 
-/// A job with damage, or whole, and what it is.
-fn damaged(rng: &mut Rng, case: u64) -> (Vec<u8>, String) {
+/// A job and what it is.
+type Named = (Vec<u8>, String);
+
+/// Asks about so many jobs, each with numbers of its own case.
+fn ask_each(
+    seed: u64,
+    count: u64,
+    make: impl Fn(&mut Rng, u64) -> Named,
+    mut ask: impl FnMut(&mut Rng, &Asked),
+) {
+    for case in 0..count {
+        let rng = &mut Rng::for_case(seed, case);
+        let (job, what) = make(rng, case);
+        ask(rng, &Asked::new(&job, room(case), what));
+    }
+}
+
+/// What the room holds beforehand must not matter.
+fn room(case: u64) -> Vec<u8> {
+    match case % 3 {
+        0 => agree::pattern(ROOM_BYTES),
+        1 => vec![0; ROOM_BYTES],
+        _ => vec![255; ROOM_BYTES],
+    }
+}
+
+/// A job as it is made.
+fn whole(make: impl Fn(&mut Rng) -> Vec<u8>) -> impl Fn(&mut Rng, u64) -> Named {
+    move |rng, case| (make(rng), format!("case {case}"))
+}
+
+/// One of the job files.
+fn job_file(_: &mut Rng, case: u64) -> Named {
+    let name = jobs::names().swap_remove(case as usize);
+    (jobs::load(&name), name)
+}
+
+/// A job with damage, or whole.
+fn damaged(rng: &mut Rng, case: u64) -> Named {
     let mut job = games::contest(rng);
     let how = damage(rng, &mut job);
     (job, format!("case {case}, damage: {how}"))

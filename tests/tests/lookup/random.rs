@@ -2,7 +2,6 @@
 
 use super::*;
 use rbatl_tests::damage::BORDERS;
-use rbatl_tests::jobs;
 use rbatl_tests::layout::*;
 use rbatl_tests::random::{any_block, cases, Rng};
 
@@ -10,15 +9,6 @@ const SEED: u64 = 0x6C6F_6F6B_7570;
 const CASES: u64 = 2_000;
 const FULL_CASES: u64 = 20;
 const CROWDED_CASES: u64 = 200;
-
-/// What the room holds beforehand must not matter.
-fn room(case: u64) -> Vec<u8> {
-    match case % 3 {
-        0 => agree::pattern(ROOM_BYTES),
-        1 => vec![0; ROOM_BYTES],
-        _ => vec![255; ROOM_BYTES],
-    }
-}
 
 /// Answers of the two calls, by number.
 #[derive(Default)]
@@ -40,6 +30,14 @@ impl Seen {
         let answer = asked.reply(at, mv);
         self.replies[number(answer)] += 1;
         self.active += u64::from(answer > 0);
+    }
+
+    /// The move, and replies to affordable moves and to another number.
+    fn move_and_replies(&mut self, rng: &mut Rng, asked: &Asked, at: At) {
+        self.coalition_move(asked, at);
+        for mv in numbers(rng, &asked.model, at) {
+            self.reply(asked, at, mv);
+        }
     }
 }
 
@@ -63,19 +61,13 @@ fn numbers(rng: &mut Rng, model: &Model, at: At) -> Vec<u8> {
 #[test]
 fn every_position() {
     let mut seen = Seen::default();
-    for case in 0..cases(CASES) {
-        let rng = &mut Rng::for_case(SEED, case);
-        let job = games::contest(rng);
-        let asked = Asked::new(&job, room(case), format!("case {case}"));
+    ask_each(SEED, cases(CASES), whole(games::contest), |rng, asked| {
         for row in asked.model.rows() {
             for at in asked.model.positions(row) {
-                seen.coalition_move(&asked, at);
-                for mv in numbers(rng, &asked.model, at) {
-                    seen.reply(&asked, at, mv);
-                }
+                seen.move_and_replies(rng, asked, at);
             }
         }
-    }
+    });
     println!("{} replies are not 0", seen.active);
     assert_each_came(&seen.moves, &[0, 10], 5 * cases(CASES));
     assert_each_came(&seen.replies, &[0, 10, 11], 5 * cases(CASES));
@@ -86,18 +78,16 @@ fn every_position() {
 #[test]
 fn every_number() {
     let mut seen = Seen::default();
-    for case in 0..cases(CASES) / 20 {
-        let rng = &mut Rng::for_case(SEED ^ 1, case);
-        let job = games::contest(rng);
-        let asked = Asked::new(&job, room(case), format!("case {case}"));
+    let jobs = cases(CASES) / 20;
+    ask_each(SEED ^ 1, jobs, whole(games::contest), |rng, asked| {
         for row in asked.model.rows() {
             let positions = asked.model.positions(row);
             let at = rng.pick(&positions);
-            if seen.coalition_move(&asked, at) == -10 {
-                (0..=u8::MAX).for_each(|mv| seen.reply(&asked, at, mv));
+            if seen.coalition_move(asked, at) == -10 {
+                (0..=u8::MAX).for_each(|mv| seen.reply(asked, at, mv));
             }
         }
-    }
+    });
     assert_each_came(&seen.replies, &[0, 11], cases(CASES) / 20);
     assert_eq!(seen.replies[1..11], [0; 10], "only 11 is left to refuse");
 }
@@ -150,16 +140,13 @@ fn ask_anywhere(rng: &mut Rng, asked: &Asked, times: usize, seen: &mut Seen) {
 #[test]
 fn whole_jobs() {
     let mut seen = Seen::default();
-    for case in 0..cases(CASES) {
-        let rng = &mut Rng::for_case(SEED ^ 2, case);
-        let job = if case % 20 == 0 {
-            any_block(rng)
-        } else {
-            games::small(rng)
-        };
-        let asked = Asked::new(&job, room(case), format!("case {case}"));
-        ask_anywhere(rng, &asked, 4, &mut seen);
-    }
+    let make = |rng: &mut Rng, case: u64| match case % 20 {
+        0 => whole(any_block)(rng, case),
+        _ => whole(games::small)(rng, case),
+    };
+    ask_each(SEED ^ 2, cases(CASES), make, |rng, asked| {
+        ask_anywhere(rng, asked, 4, &mut seen)
+    });
     assert_each_came(&seen.moves, &[0, 8, 9, 10], cases(CASES) / 4);
     assert_each_came(&seen.replies, &[0, 8, 9, 10, 11], cases(CASES) / 4);
     assert_eq!(seen.moves[1..8], [0; 7], "a whole job is not refused");
@@ -169,12 +156,9 @@ fn whole_jobs() {
 #[test]
 fn damaged_jobs() {
     let mut seen = Seen::default();
-    for case in 0..cases(CASES) {
-        let rng = &mut Rng::for_case(SEED ^ 3, case);
-        let (job, what) = damaged(rng, case);
-        let asked = Asked::new(&job, room(case), what);
-        ask_anywhere(rng, &asked, 2, &mut seen);
-    }
+    ask_each(SEED ^ 3, cases(CASES), damaged, |rng, asked| {
+        ask_anywhere(rng, asked, 2, &mut seen)
+    });
     let answers = [0, 1, 2, 3, 4, 5, 6, 8, 9, 10];
     assert_each_came(&seen.moves, &answers, cases(CASES) / 50);
     assert_each_came(&seen.replies, &answers, cases(CASES) / 50);
@@ -185,12 +169,10 @@ fn damaged_jobs() {
 #[test]
 fn job_files() {
     let mut seen = Seen::default();
-    for (case, name) in (0..).zip(jobs::names()) {
-        let job = jobs::load(&name);
-        let asked = Asked::new(&job, room(case), name);
-        let rng = &mut Rng::for_case(SEED ^ 5, case);
-        ask_anywhere(rng, &asked, 30, &mut seen);
-    }
+    let files = jobs::names().len() as u64;
+    ask_each(SEED ^ 5, files, job_file, |rng, asked| {
+        ask_anywhere(rng, asked, 30, &mut seen)
+    });
     assert_each_came(&seen.moves, &[0, 8, 9, 10], 5);
     assert_each_came(&seen.replies, &[0, 8, 9, 10], 5);
 }
@@ -199,12 +181,10 @@ fn job_files() {
 #[test]
 fn full_jobs() {
     let mut seen = Seen::default();
-    for case in 0..FULL_CASES.max(cases(CASES) / 100) {
-        let rng = &mut Rng::for_case(SEED ^ 4, case);
-        let job = games::full(rng);
-        let asked = Asked::new(&job, room(case), format!("case {case}"));
-        ask_anywhere(rng, &asked, 8, &mut seen);
-    }
+    let jobs = FULL_CASES.max(cases(CASES) / 100);
+    ask_each(SEED ^ 4, jobs, whole(games::full), |rng, asked| {
+        ask_anywhere(rng, asked, 8, &mut seen)
+    });
     assert_each_came(&seen.moves, &[0, 9, 10], FULL_CASES / 2);
     assert_each_came(&seen.replies, &[0, 10, 11], FULL_CASES / 2);
 }
@@ -213,18 +193,13 @@ fn full_jobs() {
 #[test]
 fn crowded_jobs() {
     let mut seen = Seen::default();
-    for case in 0..CROWDED_CASES.max(cases(CASES) / 10) {
-        let rng = &mut Rng::for_case(SEED ^ 6, case);
-        let job = games::crowd(rng);
-        let asked = Asked::new(&job, room(case), format!("case {case}"));
-        for row in games::choosy_rows(&job) {
+    let jobs = CROWDED_CASES.max(cases(CASES) / 10);
+    ask_each(SEED ^ 6, jobs, whole(games::crowd), |rng, asked| {
+        for row in games::choosy_rows(asked.block) {
             let at = rng.pick(&asked.model.positions(row));
-            seen.coalition_move(&asked, at);
-            for mv in numbers(rng, &asked.model, at) {
-                seen.reply(&asked, at, mv);
-            }
+            seen.move_and_replies(rng, asked, at);
         }
-    }
+    });
     assert_each_came(&seen.moves, &[0, 10], CROWDED_CASES);
     assert_each_came(&seen.replies, &[0, 10, 11], CROWDED_CASES);
 }

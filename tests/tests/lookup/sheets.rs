@@ -3,10 +3,10 @@
 
 use super::*;
 use rbatl_tests::damage::BORDERS;
+use rbatl_tests::ffi;
 use rbatl_tests::layout::*;
 use rbatl_tests::model::{POSITION_BYTES, SHEET_POSITIONS, WORD_REFUSED};
 use rbatl_tests::random::{any_block, cases};
-use rbatl_tests::{ffi, jobs};
 
 const SEED: u64 = 0x73_6865_6574;
 const CASES: u64 = 600;
@@ -114,16 +114,14 @@ fn try_any(rng: &mut Rng, asked: &Asked, seen: &mut Seen) {
 #[test]
 fn whole_jobs() {
     let mut seen = Seen::default();
-    for case in 0..cases(CASES) {
-        let rng = &mut Rng::for_case(SEED, case);
-        let job = match case % 20 {
-            0 => any_block(rng),
-            1..=10 => games::contest(rng),
-            _ => games::small(rng),
-        };
-        let asked = Asked::patterned(&job, format!("case {case}"));
-        try_any(rng, &asked, &mut seen);
-    }
+    let make = |rng: &mut Rng, case: u64| match case % 20 {
+        0 => whole(any_block)(rng, case),
+        1..=10 => whole(games::contest)(rng, case),
+        _ => whole(games::small)(rng, case),
+    };
+    ask_each(SEED, cases(CASES), make, |rng, asked| {
+        try_any(rng, asked, &mut seen)
+    });
     assert_each_came(&seen.answers, &[0, 8], cases(CASES) / 50);
     seen.assert_each_word_came(cases(CASES) / 4);
 }
@@ -132,27 +130,24 @@ fn whole_jobs() {
 #[test]
 fn every_count() {
     let mut seen = Seen::default();
-    for count in 0..=SHEET_POSITIONS {
-        let rng = &mut Rng::for_case(SEED ^ 1, count as u64);
-        let job = games::contest(rng);
-        let asked = Asked::patterned(&job, format!("{count} positions"));
+    let mut counts = 0..=SHEET_POSITIONS;
+    let jobs = SHEET_POSITIONS as u64 + 1;
+    ask_each(SEED ^ 1, jobs, whole(games::contest), |rng, asked| {
+        let count = counts.next().expect("one for each job");
         for row in asked.model.rows() {
-            let list: Vec<_> = (0..count).map(|_| any_position(rng, &asked, row)).collect();
-            seen.sheet(&asked, row, &list);
+            let list: Vec<_> = (0..count).map(|_| any_position(rng, asked, row)).collect();
+            seen.sheet(asked, row, &list);
         }
-    }
+    });
     seen.assert_each_word_came(50);
 }
 
 #[test]
 fn damaged_jobs() {
     let mut seen = Seen::default();
-    for case in 0..cases(CASES) {
-        let rng = &mut Rng::for_case(SEED ^ 2, case);
-        let (job, what) = damaged(rng, case);
-        let asked = Asked::patterned(&job, what);
-        try_any(rng, &asked, &mut seen);
-    }
+    ask_each(SEED ^ 2, cases(CASES), damaged, |rng, asked| {
+        try_any(rng, asked, &mut seen)
+    });
     assert_each_came(&seen.answers, &[0, 1, 2, 3, 4, 5, 6, 8], cases(CASES) / 100);
     assert_eq!(seen.answers[7], 0, "no call on a block answers 7");
     assert_eq!(seen.answers[9..], [0; 3], "9 and 10 stand in words");
@@ -161,12 +156,10 @@ fn damaged_jobs() {
 #[test]
 fn job_files() {
     let mut seen = Seen::default();
-    for (case, name) in (0..).zip(jobs::names()) {
-        let job = jobs::load(&name);
-        let asked = Asked::patterned(&job, name);
-        let rng = &mut Rng::for_case(SEED ^ 3, case);
-        (0..5).for_each(|_| try_any(rng, &asked, &mut seen));
-    }
+    let files = jobs::names().len() as u64;
+    ask_each(SEED ^ 3, files, job_file, |rng, asked| {
+        (0..5).for_each(|_| try_any(rng, asked, &mut seen))
+    });
     assert_each_came(&seen.answers, &[0], 10);
 }
 
@@ -174,14 +167,12 @@ fn job_files() {
 #[test]
 fn full_jobs() {
     let mut seen = Seen::default();
-    for case in 0..FULL_CASES.max(cases(CASES) / 100) {
-        let rng = &mut Rng::for_case(SEED ^ 4, case);
-        let job = games::full(rng);
-        let asked = Asked::patterned(&job, format!("case {case}"));
+    let jobs = FULL_CASES.max(cases(CASES) / 100);
+    ask_each(SEED ^ 4, jobs, whole(games::full), |rng, asked| {
         for row in asked.model.rows() {
-            let list = any_list(rng, &asked, row);
-            seen.sheet(&asked, row, &list);
+            let list = any_list(rng, asked, row);
+            seen.sheet(asked, row, &list);
         }
-    }
+    });
     seen.assert_each_word_came(FULL_CASES / 2);
 }

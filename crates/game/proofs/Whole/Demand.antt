@@ -52,6 +52,10 @@ module _ (G : Arena) (proper : Proper (G .structure)) (t : Objective) (X : Table
       go (yes met) = omega (arith, decided y inside .move-is .met wins met)
       go (no unmet) = move-small (G .structure) proper (G .coalition) (y .state) (moveAt G X y) (decided y inside .move-is .best wins unmet .0 .0 .0)
 
+  -- the coalition's move is the one that the table shows
+  table-move : (y : Position) → IsPosition G y → (m : ℕ) → CoalitionMove G t y m → m ≡ moveAt G X y
+  table-move y inside m asked = asked .move ∙ sym (moves-agree G proper t X (asked .table) decided (asked .is-table) y inside)
+
   -- plays by the row's moves are plays by the table, and back
   moves-table : (P : Play G) → ByMoves G t P → ByTable G X P
   moves-table P moves n = go (decided (P .at n) inside .one-side)
@@ -63,7 +67,7 @@ module _ (G : Arena) (proper : Proper (G .structure)) (t : Objective) (X : Table
       go (inl here) =
           let asked = moves n .0 here in
           sym (shown-small (P .move n) (asked .small))
-          ∙ ap shown (asked .move ∙ sym (moves-agree G proper t X (asked .table) decided (asked .is-table) (P .at n) inside))
+          ∙ ap shown (table-move (P .at n) inside (P .move n) asked)
       go (inr others) = let lost = loses (P .at n) inside others in moves n .1 lost ∙ sym (idles (P .at n) inside lost)
 
   table-moves : (P : Play G) → ByTable G X P → ByMoves G t P
@@ -146,3 +150,7 @@ module _ (G : Arena) (proper : Proper (G .structure)) (t : Objective) (X : Table
             → (CoalitionWins G t p × (OpponentsWin G t p → ⊥) × MovesWin G t p (rankAt G X p)) ⊎ (OpponentsWin G t p × (CoalitionWins G t p → ⊥) × RepliesWin G t p (rankAt G X p))
         go (inl wins) = inl (wins, at .not-both wins, moves-win wins)
         go (inr others) = inr (others, loses p fits others, replies-win others)
+
+-- a position has one move of the coalition
+pub one-move : (G : Arena) → Proper (G .structure) → (t : Objective) (y : Position) → IsPosition G y → (m n : ℕ) → CoalitionMove G t y m → CoalitionMove G t y n → m ≡ n
+one-move G proper t y inside m n found other = found .move ∙ sym (table-move G proper t (found .table) (found .is-table) y inside n other)

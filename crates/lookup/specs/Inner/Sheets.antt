@@ -21,6 +21,10 @@ placeRules b i s stocks = refusal.Position when NoPosition b i s stocks ∷ side
 pub record AnsweredAt (b : Block) (i : ℕ) (list : List ℕ) (k : ℕ) (a : Answer) : Type 0 where
   pub answer : Answers (placeRules b i (stateIn list k) (stocksIn list k)) (RowMove b i (position (stateIn list k) (stocksIn list k))) a
 
--- the first n words stand for such answers
+-- w is the word for it
+abbrev pub ToldAt : Block → ℕ → List ℕ → ℕ → ℕ → Type 0
+ToldAt b i list k w = (a : Answer) × AnsweredAt b i list k a × (w ≡ wordFor a)
+
+-- the first n words are these
 abbrev pub WordsTo : Block → ℕ → List ℕ → List ℕ → ℕ → Type 0
-WordsTo b i list words n = (k : ℕ) → k < n → (a : Answer) × AnsweredAt b i list k a × (rankIn words k ≡ wordFor a)
+WordsTo b i list words n = (k : ℕ) → k < n → ToldAt b i list k (rankIn words k)

@@ -3,8 +3,9 @@ use mathlib.Core.Path.{_≡_, refl, _∙_}
 use Prim.Native.Nat.{_-_, _/_, _≤_}
 use native.Mathlib.Omega.{arith}
 use lib.ListN.{length}
-use Rattle.lookup.specs.Inner.Sheets.{WordsTo}
-use Rattle.lookup.proofs.Sheets.{word-small, words-next}
+use Rattle.turns.proofs.Bytes.{stored-more}
+use Rattle.lookup.specs.Inner.Sheets.{ToldAt, WordsTo}
+use Rattle.lookup.proofs.Sheets.{word-small}
 use Rattle.lookup.proofs.worksheet.fill_words.Statement.{statement}
 use Rattle.lookup.proofs.worksheet.fill_words.Tie as tie
 
@@ -36,8 +37,9 @@ loop-less c = omega (arith, c .before .before .before .before .before .before .l
 
 loop-again : tie.Need-loop-again Inv-loop μ-loop
 loop-again c =
+    let args = c .before .before .before .before .before .before .before .before .before .before .before .before .before .args in
     let put = c .before .before .set-rank .ensures in
-    (omega (arith, c .before .before .before .before .before .before .loop-test .taken), words-next (c .before .before .before .before .before .answer-at .ensures) (c .before .before .before .before .before .before .before .loop .inv .1) put (c .before .before .before .word .ensures), put .kept ∙ c .before .before .before .before .before .before .before .loop .inv .2)
+    (omega (arith, c .before .before .before .before .before .before .loop-test .taken), stored-more (ToldAt (args .block .now) (args .i) (args .list .now)) put (c .before .before .before .before .before .answer-at .result, (c .before .before .before .before .before .answer-at .ensures), (c .before .before .before .word .ensures)) (c .before .before .before .before .before .before .before .loop .inv .1), put .kept ∙ c .before .before .before .before .before .before .before .loop .inv .2)
 
 same-length : tie.Need-same-length Inv-loop μ-loop
 same-length c = c .before .loop .inv .2

@@ -10,9 +10,8 @@ use Rattle.block.specs.Layout as L
 use Rattle.game.specs.Position.{positions, full}
 use Rattle.game.specs.Inner.Stocks.{stockPlaces}
 use Rattle.turns.specs.Buffers.{rankIn}
-use Rattle.turns.specs.Inner.Stores.{Stored}
+use Rattle.turns.proofs.Bytes.{stored-more}
 use Rattle.game.specs.Model.{arenaOf}
-use Rattle.game.proofs.Numbers.Decide.{eq?}
 use Rattle.game.proofs.Bridge.Truth.{full-fits}
 use Rattle.game.proofs.Blocks.Passing.{states-times}
 use Rattle.sweeps.specs.Solving.{FirstRank}
@@ -77,14 +76,6 @@ add-s c = record { fits = omega (arith, c .before .before .before .before .befor
 loop-less : tie.Need-loop-less Inv-loop μ-loop
 loop-less c = omega (arith, c .before .before .before .before .before .before .loop-test .taken)
 
--- one more rank is stored
-more : (goal c positions n v : ℕ) (l l′ : List ℕ) → ((k : ℕ) → k < n → FirstRank goal c positions k (rankIn l k)) → FirstRank goal c positions n v → Stored rankIn l l′ n v → (k : ℕ) → k < n + 1 → FirstRank goal c positions k (rankIn l′ k)
-more goal c positions n v l l′ so-far first stored k small = go (eq? k n)
-  where
-    go : Dec (k ≡ n) → FirstRank goal c positions k (rankIn l′ k)
-    go (yes e) = subst (λ (j : ℕ). FirstRank goal c positions j (rankIn l′ j)) (sym e) (subst (FirstRank goal c positions n) (sym (stored .stored)) first)
-    go (no ne) = subst (FirstRank goal c positions k) (sym (stored .others k ne)) (so-far k (omega arith))
-
 -- the next position, in the next state or in the same
 over : (c n s x : ℕ) → Placed c n s x → x + 1 ≡ c → Placed c (n + 1) (s + 1) 0
 over c n s x (low, is, small) e = (omega arith, omega (arith, suc-mul s c, ap (λ (k : ℕ). k * c) (add-one s)), omega arith)
@@ -92,32 +83,20 @@ over c n s x (low, is, small) e = (omega arith, omega (arith, suc-mul s c, ap (�
 along : (c n s x : ℕ) → Placed c n s x → (x + 1 ≡ c → ⊥) → Placed c (n + 1) s (x + 1)
 along c n s x (low, is, small) ne = (omega arith, omega arith, omega arith)
 
+-- one more rank is stored, whichever position comes next
+again : (c : tie.After-slice-known2 Inv-loop μ-loop) (s x : ℕ) → Placed (c .before .before .before .before .before .before .before .before .before .before .args .row .places) (c .before .before .before .before .before .before .loop .n + 1) s x → (c .before .before .before .before .before .before .loop .n + 1 ≤ 6144) × (length (c .before .before .set-rank .last .0) ≡ length (c .before .before .before .before .before .before .before .before .before .before .args .ranks .now)) × Placed (c .before .before .before .before .before .before .before .before .before .before .args .row .places) (c .before .before .before .before .before .before .loop .n + 1) s x × ((k : ℕ) → k < c .before .before .before .before .before .before .loop .n + 1 → FirstRank (c .before .before .before .before .before .before .before .before .before .before .args .goal) (c .before .before .before .before .before .before .before .before .before .before .args .row .places) (c .before .before .before .before .before .before .before .count .result) k (rankIn (c .before .before .set-rank .last .0) k))
+again c s x next =
+    let put = c .before .before .set-rank .ensures in
+    (omega (arith, c .before .before .before .before .before .loop-test .taken), put .kept ∙ c .before .before .before .before .before .before .loop .inv .1, next, stored-more (FirstRank (c .before .before .before .before .before .before .before .before .before .before .args .goal) (c .before .before .before .before .before .before .before .before .before .before .args .row .places) (c .before .before .before .before .before .before .before .count .result)) put (c .before .before .before .first-rank .ensures .0) (c .before .before .before .before .before .before .loop .inv .3))
+
 loop-again : tie.Need-loop-again Inv-loop μ-loop
-loop-again c =
-    let args = c .before .before .before .before .before .before .before .before .before .before .before .args in
-    let at = c .before .before .before .before .before .before .before .loop in
-    let put = c .before .before .before .set-rank in
-    let first = c .before .before .before .before .first-rank in (
-      omega (arith, c .before .before .before .before .before .before .loop-test .taken),
-      put .ensures .kept ∙ at .inv .1,
-      over (args .row .places) (at .n) (at .s) (at .x) (at .inv .2) (c .if1 .taken),
-      more (args .goal) (args .row .places) (c .before .before .before .before .before .before .before .before .count .result) (at .n) (first .result) (at .ranks) (put .last .0) (at .inv .3) (first .ensures .0) (put .ensures),
-    )
+loop-again c = let at = c .before .before .before .before .before .before .before .loop in again (c .before) (at .s + 1) 0 (over (c .before .before .before .before .before .before .before .before .before .before .before .args .row .places) (at .n) (at .s) (at .x) (at .inv .2) (c .if1 .taken))
 
 loop-less-2 : tie.Need-loop-less-2 Inv-loop μ-loop
 loop-less-2 c = omega (arith, c .before .before .before .before .before .before .loop-test .taken)
 
 loop-again-2 : tie.Need-loop-again-2 Inv-loop μ-loop
-loop-again-2 c =
-    let args = c .before .before .before .before .before .before .before .before .before .before .before .args in
-    let at = c .before .before .before .before .before .before .before .loop in
-    let put = c .before .before .before .set-rank in
-    let first = c .before .before .before .before .first-rank in (
-      omega (arith, c .before .before .before .before .before .before .loop-test .taken),
-      put .ensures .kept ∙ at .inv .1,
-      along (args .row .places) (at .n) (at .s) (at .x) (at .inv .2) (c .if1 .left),
-      more (args .goal) (args .row .places) (c .before .before .before .before .before .before .before .before .count .result) (at .n) (first .result) (at .ranks) (put .last .0) (at .inv .3) (first .ensures .0) (put .ensures),
-    )
+loop-again-2 c = let at = c .before .before .before .before .before .before .before .loop in again (c .before) (at .s) (at .x + 1) (along (c .before .before .before .before .before .before .before .before .before .before .before .args .row .places) (at .n) (at .s) (at .x) (at .inv .2) (c .if1 .left))
 
 same-length : tie.Need-same-length Inv-loop μ-loop
 same-length c = c .before .loop .inv .1

@@ -6,11 +6,11 @@ use lib.ListN.{length}
 use Rattle.game.specs.Position.{number}
 use Rattle.game.specs.Inner.Stocks.{stocksOf}
 use Rattle.game.specs.Model.{arenaOf}
+use Rattle.turns.proofs.Bytes.{stored-more}
 use Rattle.ways.specs.Lines.{packedIn}
 use Rattle.ways.specs.Packed.{PackedAt}
 use Rattle.ways.proofs.Leading.{few}
 use Rattle.ways.proofs.Placing.{stocks-below}
-use Rattle.ways.proofs.Packing.{packs-more}
 use Rattle.ways.proofs.packs.fill_packs.Statement.{statement}
 use Rattle.ways.proofs.packs.fill_packs.Tie as tie
 
@@ -39,7 +39,7 @@ loop-again : tie.Need-loop-again Inv-loop μ-loop
 loop-again c =
     let at = c .before .before .before .before .before .before .loop in
     let put = c .before .before .set-packed .ensures in
-    (omega (arith, c .before .before .before .before .before .loop-test .taken), packs-more (arenaOf (c .before .before .before .before .before .before .before .before .before .args .block .now) (c .before .before .before .before .before .before .before .before .before .args .row .index)) (at .ways) (c .before .before .set-packed .last .0) (at .x) (c .before .before .before .pack-at .result) put (at .inv .1) (c .before .before .before .pack-at .ensures .0), put .kept ∙ at .inv .2)
+    (omega (arith, c .before .before .before .before .before .loop-test .taken), stored-more (PackedAt (arenaOf (c .before .before .before .before .before .before .before .before .before .args .block .now) (c .before .before .before .before .before .before .before .before .before .args .row .index))) put (c .before .before .before .pack-at .ensures .0) (at .inv .1), put .kept ∙ at .inv .2)
 
 same-length : tie.Need-same-length Inv-loop μ-loop
 same-length c = c .before .loop .inv .2

@@ -14,8 +14,8 @@ use Rattle.choice.specs.Tables.{MoveFor}
 use Rattle.choice.proofs.Moving.{places-of}
 use Rattle.ways.proofs.Placing.{stocks-below, placed-number}
 use Rattle.lookup.proofs.Answering.{coalition-none, coalition-found}
-use Rattle.lookup.proofs.coalition.ready_move.Statement.{statement}
-use Rattle.lookup.proofs.coalition.ready_move.Tie as tie
+use Rattle.lookup.proofs.spots.ready_move.Statement.{statement}
+use Rattle.lookup.proofs.spots.ready_move.Tie as tie
 
 spot-of-requires : tie.Need-spot-of-requires
 spot-of-requires c κs = let pre = c .before .before .before .before .pre in (pre .0 .valid, ((pre .0 .inside, pre .0 .strategic, pre .1 .0), pre .1 .1))
