@@ -63,10 +63,10 @@ extern "C" {
 #endif
 
 /* The version of this header: major * 10000 + minor * 100 + patch, to compare
- * when a host is compiled, as in `#if RBATL_VERSION_NUMBER < 10100`, and the
+ * when a host is compiled, as in `#if RBATL_VERSION_NUMBER < 20000`, and the
  * same as a string. */
-#define RBATL_VERSION_NUMBER 10100
-#define RBATL_VERSION "1.1.0"
+#define RBATL_VERSION_NUMBER 20000
+#define RBATL_VERSION "2.0.0"
 
 /* Length of a block; the longest text that is read, and the length of the
  * buffer that a text is written to. */
@@ -185,9 +185,10 @@ int32_t rbatl_check(const uint8_t *block, size_t block_len);
  * RBATL_TEXT_BYTES; else minus the first refusal that the fields meet from
  * left to right and line by line, each tried for its form (RBATL_E_FORM), the
  * comma or line end after it included, and then for its value (RBATL_E_SIZES,
- * RBATL_E_STATE, RBATL_E_NEXT, RBATL_E_ROW). A bound is a number, `inf`, or
- * empty, which is unlimited. The text needs no byte 0 at its end, and has none.
- * A refused call leaves the block as it was. */
+ * RBATL_E_STATE, RBATL_E_NEXT, RBATL_E_ROW). A bound is a number, `inf`, which
+ * is unlimited, or empty, which is 0 (unlimited before version 2.0.0). The text
+ * needs no byte 0 at its end, and has none. A refused call leaves the block as it
+ * was. */
 int32_t rbatl_read(const uint8_t *text, size_t text_len, uint8_t *block, size_t block_len);
 
 /* Where reading stops: the offset of the field that a text is refused for, or of
@@ -198,7 +199,8 @@ int32_t rbatl_read_at(const uint8_t *text, size_t text_len);
 /* Writes the text of a block into a buffer of RBATL_TEXT_BYTES: the length of
  * the text, and zeros stand after it; -RBATL_E_LENGTH for a block or a buffer
  * of any other length; else what rbatl_check answers on the block. An unlimited
- * bound is written inf. A refused call leaves the buffer as it was. */
+ * bound is written `inf`, and any other as a number. A refused call leaves the
+ * buffer as it was. */
 int32_t rbatl_write(const uint8_t *block, size_t block_len, uint8_t *text, size_t text_len);
 
 /* Labels the rows of a block: 0, and word i of the sets has bit s exactly where

@@ -105,9 +105,11 @@ void try_sheet(struct run *run, const struct view *view);
 void random_job(struct random *random, uint8_t *block);
 void damage_block(struct random *random, uint8_t *block);
 size_t damage_text(struct random *random, uint8_t *text, size_t length);
-size_t empty_bounds(struct random *random, uint8_t *text, size_t length);
 
-/* The text with `inf` in each empty field; its length. */
+/* Leaves some bounds 0 of a job's text empty; its length. */
+size_t empty_bounds(struct random *random, unsigned resources, uint8_t *text, size_t length);
+
+/* The text with 0 in each empty field; its length. */
 size_t fill_bounds(const uint8_t *text, size_t length, uint8_t *filled);
 
 /* What a table must show, from document 01. */

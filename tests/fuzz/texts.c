@@ -105,12 +105,33 @@ size_t damage_text(struct random *random, uint8_t *text, size_t length)
     }
 }
 
-size_t empty_bounds(struct random *random, uint8_t *text, size_t length)
+static bool is_strategic(const uint8_t *line)
+{
+    return memcmp(line, "next,", 5) == 0 || memcmp(line, "always,", 7) == 0 ||
+           memcmp(line, "until,", 6) == 0;
+}
+
+/* The place after the next such byte, which the text has. */
+static size_t past(const uint8_t *text, size_t at, uint8_t byte)
+{
+    while (text[at] != byte)
+        at++;
+    return at + 1;
+}
+
+size_t empty_bounds(struct random *random, unsigned resources, uint8_t *text, size_t length)
 {
     bool all = one_in(random, 4);
-    for (size_t at = 0; at + 5 <= length; at++)
-        if (memcmp(text + at, ",inf,", 5) == 0 && (all || one_in(random, 2)))
-            length = splice(text, length, at, 5, ",,");
+    for (size_t at = 0; at < length; at = past(text, at, '\n')) {
+        if (!is_strategic(text + at))
+            continue;
+        size_t bound = past(text, past(text, at, ','), ',');
+        for (unsigned resource = 0; resource < resources; resource++) {
+            if (memcmp(text + bound, "0,", 2) == 0 && (all || one_in(random, 2)))
+                length = splice(text, length, bound, 1, "");
+            bound = past(text, bound, ',');
+        }
+    }
     return length;
 }
 
@@ -119,10 +140,8 @@ size_t fill_bounds(const uint8_t *text, size_t length, uint8_t *filled)
     size_t end = 0;
     for (size_t at = 0; at < length; at++) {
         filled[end++] = text[at];
-        if (at + 1 < length && text[at] == ',' && text[at + 1] == ',') {
-            memcpy(filled + end, "inf", 3);
-            end += 3;
-        }
+        if (at + 1 < length && text[at] == ',' && text[at + 1] == ',')
+            filled[end++] = '0';
     }
     return end;
 }

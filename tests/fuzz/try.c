@@ -23,7 +23,8 @@ static size_t try_text(struct run *run, const uint8_t *block, uint8_t *text)
     expect(run, ask_text(run, READ, text, (size_t)length, &outcome) == 0, "read",
            "a written text");
     expect(run, memcmp(outcome.bytes[0], block, RBATL_BLOCK_BYTES) == 0, "read", "another block");
-    size_t emptied = empty_bounds(&run->random, text, (size_t)length);
+    size_t emptied =
+        empty_bounds(&run->random, rbatl_job_resources(block), text, (size_t)length);
     expect(run, ask_text(run, READ, text, emptied, &outcome) == 0, "read",
            "a text with empty bounds");
     expect(run, memcmp(outcome.bytes[0], block, RBATL_BLOCK_BYTES) == 0, "read",
@@ -50,7 +51,7 @@ static void try_stop(struct run *run, const uint8_t *text, size_t length, bool a
 static void try_damaged_text(struct run *run, uint8_t *text, size_t length)
 {
     static struct outcome read, listed, written;
-    static uint8_t filled[4 * TEXT_ROOM];
+    static uint8_t filled[2 * TEXT_ROOM];
 
     length = damage_text(&run->random, text, length);
     int32_t refused = ask_text(run, READ, text, length, &read);

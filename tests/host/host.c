@@ -38,6 +38,7 @@ const struct refused_text refused_texts[] = {
     {FRONT "until,3,255,2,0\n", -RBATL_E_ROW},
     {FRONT "until,3,256,2,0\n", -RBATL_E_FORM},
     {FRONT "until,,4,2,0\n", -RBATL_E_FORM},
+    {FRONT "until,3, ,2,0\n", -RBATL_E_FORM},
 };
 const size_t refused_count = sizeof refused_texts / sizeof refused_texts[0];
 
@@ -147,8 +148,9 @@ static void check_read(void)
     expect_read("a long block", catch_text, length, sizeof job + 1, -RBATL_E_LENGTH, NULL);
     expect_read("no block", catch_text, length, 0, -RBATL_E_LENGTH, NULL);
     expect_read("the byte after Catch", catch_text, length + 1, sizeof job, -RBATL_E_FORM, NULL);
-    job[rbatl_place_of_field(5, RBATL_FIELD_BOUND)] = RBATL_UNLIMITED;
+    job[rbatl_place_of_field(5, RBATL_FIELD_BOUND)] = 0;
     expect_read("an empty bound", empty, sizeof empty - 1, sizeof job, 0, job);
+    job[rbatl_place_of_field(5, RBATL_FIELD_BOUND)] = RBATL_UNLIMITED;
     expect_read("inf", inf, sizeof inf - 1, sizeof job, 0, job);
     memcpy(longest, catch_text, sizeof catch_text);
     expect_read("32,768 bytes", longest, sizeof longest - 1, sizeof job, -RBATL_E_FORM, NULL);

@@ -147,10 +147,13 @@ impl<'a> Reader<'a> {
         refuse_if(usize::from(number) != expected, refusal::FORM)
     }
 
-    /// A number, `inf` or nothing, and its comma.
+    /// A number, `inf` for unlimited, or nothing for 0, and its comma.
     fn bound(&mut self) -> Outcome<u8> {
-        if self.literal(b"inf,").is_ok() || self.literal(b",").is_ok() {
+        if self.literal(b"inf,").is_ok() {
             return Ok(UNLIMITED);
+        }
+        if self.literal(b",").is_ok() {
+            return Ok(0);
         }
         let bound = self.number(COMMA)?;
         refuse_if(bound > MAX_BOUND, refusal::ROW)?;

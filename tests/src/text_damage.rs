@@ -68,25 +68,39 @@ pub fn damage(rng: &mut Rng, text: &mut Vec<u8>) -> String {
     }
 }
 
-/// Leaves out `inf` from some of the bounds, or from all of them, and says from
-/// how many.
+/// The fields of a job's text, each with whether it is a bound: those between the
+/// team of a strategic row and its operands.
+fn fields(text: &[u8]) -> impl Iterator<Item = (&[u8], bool)> {
+    lines(text).into_iter().flat_map(|line| {
+        let fields: Vec<&[u8]> = line.split_inclusive(|&byte| byte == b',').collect();
+        let bounds = match fields[0] {
+            b"next," | b"always," => 2..fields.len() - 1,
+            b"until," => 2..fields.len() - 2,
+            _ => 0..0,
+        };
+        let fields = fields.into_iter().enumerate();
+        fields.map(move |(place, field)| (field, bounds.contains(&place)))
+    })
+}
+
+/// Leaves some of the bounds 0 empty, or all of them, and says how many.
 pub fn empty_bounds(rng: &mut Rng, text: &[u8]) -> (Vec<u8>, usize) {
     let all = rng.one_in(4);
     let (mut emptied, mut count) = (Vec::new(), 0);
-    for field in text.split_inclusive(|&byte| byte == b',' || byte == b'\n') {
-        let empty = field == b"inf," && (all || rng.one_in(2));
-        emptied.extend(&field[if empty { 3 } else { 0 }..]);
+    for (field, bound) in fields(text) {
+        let empty = bound && field == b"0," && (all || rng.one_in(2));
+        emptied.extend(&field[usize::from(empty)..]);
         count += usize::from(empty);
     }
     (emptied, count)
 }
 
-/// The text with `inf` in each empty field.
+/// The text with 0 in each empty field.
 pub fn filled_bounds(text: &[u8]) -> Vec<u8> {
     let mut filled = Vec::new();
     for field in text.split_inclusive(|&byte| byte == b',' || byte == b'\n') {
         if field == b"," {
-            filled.extend(b"inf");
+            filled.push(b'0');
         }
         filled.extend(field);
     }

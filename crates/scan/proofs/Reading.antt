@@ -3,11 +3,10 @@
 use mathlib.Core.Bool.{Bool, true, false, cond}
 use mathlib.Core.List.{List, [], _∷_, _++_}
 use mathlib.Core.Path.{_≡_, refl, sym, ap, _∙_}
-use Prim.Native.Nat.{ℕ, suc, _≤_, _<_}
-use native.Mathlib.Omega.{arith}
+use Prim.Native.Nat.{ℕ, _≤_, _<_}
 use lib.Dec.{leb, ltb}
 use borrow.Author.Tests.{le-leb, lt-leb, lt-ltb, le-ltb}
-use Rattle.block.specs.Layout.{Block, maxUnits, unlimited, propKind, notKind, orKind, nextKind, alwaysKind, untilKind, kinds}
+use Rattle.block.specs.Layout.{Block, propKind, notKind, orKind, nextKind, alwaysKind, untilKind, kinds}
 use Rattle.block.specs.declared.layout.Place.{Place}
 use Rattle.block.specs.declared.refusal.Refusal.the-variants.{Form}
 use Rattle.text.specs.Numeral.{ascii, comma, numbers, decimal, Starts, Found, found, missing, after, search}
@@ -73,22 +72,6 @@ bound-search t =
 pub kind-search : (t : List ℕ) → search kindWord kinds t ≡ after untilKind (ascii "until,") t (after alwaysKind (ascii "always,") t (after nextKind (ascii "next,") t (after orKind (ascii "or,") t (after notKind (ascii "not,") t (after propKind (ascii "prop,") t missing)))))
 unfolding search kindWord
 kind-search t = refl
-
--- numbers to 15, and unlimited
-pub bound-small : {o : ℕ} → o ≤ maxUnits → bound .allowed o ≡ true
-bound-small {o} h = simp (lt-ltb o (suc maxUnits) (omega arith))
-
-pub bound-none : {o : ℕ} → infBound ≤ o → bound .allowed o ≡ true
-bound-none {o} h = simp (le-ltb o (suc maxUnits) (omega arith), le-leb infBound o h)
-
-pub byte-number : {o : ℕ} → o < numbers → bound .byte o ≡ o
-byte-number h = simp (lt-ltb _ _ h)
-
-pub byte-none : {o : ℕ} → infBound ≤ o → bound .byte o ≡ unlimited
-byte-none h = simp (le-ltb _ _ h)
-
-pub bound-large : {o : ℕ} → maxUnits < o → o < infBound → bound .allowed o ≡ false
-bound-large {o} l h = simp (le-ltb o (suc maxUnits) (omega arith), lt-leb _ _ h)
 
 -- past a value, reading goes on from the step past it
 pub past-inside : (t : List ℕ) (v : Value) → InsideWith t v → Inside t (pastValue v)

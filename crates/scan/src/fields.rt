@@ -21,7 +21,7 @@ ghost use Rattle.scan.specs.Inner.Step.{resume, resumeWith, Inside, Insi
 ghost use Rattle.text.specs.Numeral.{numbers, search};
 ghost use Rattle.text.specs.Inner.Fields.{Ends};
 
-// The spellings of an unlimited bound, past those of the numbers.
+// The spellings of a bound past those of the numbers: inf, and nothing.
 const INF_BOUND: usize = NUMBERS;
 
 const EMPTY_BOUND: usize = INF_BOUND + 1;
@@ -87,17 +87,36 @@ pub fn bound(text: &[u8], at: usize, job: &mut [u8], x: Place) -> Value
 {
     match bound_at(text, at) {
         Numeral::Found(o, next) => {
-            if INF_BOUND <= o {
-                put(job, x, layout::UNLIMITED);
-                return Value::At(layout::UNLIMITED, next);
-            }
-            if layout::MAX_UNITS < o {
+            if !bound_allowed(o) {
                 return Value::Refused(Refusal::Row, at);
             }
-            put(job, x, o);
-            Value::At(o, next)
+            let v = bound_byte(o);
+            put(job, x, v);
+            Value::At(v, next)
         }
         Numeral::Missing => Value::Refused(Refusal::Form, at),
+    }
+}
+
+// Whether a spelling of a bound may stand there.
+fn bound_allowed(o: usize) -> bool
+    ensures { λ r. ⌜ r ≡ J.bound .allowed o ⌝ }
+{
+    if o <= layout::MAX_UNITS {
+        return true;
+    }
+    INF_BOUND <= o
+}
+
+// The byte that a spelling of a bound stands for.
+fn bound_byte(o: usize) -> usize
+    requires { ⌜ o < J.boundSpellings ⌝ }
+    ensures { λ r. ⌜ (r ≡ J.bound .byte o) × (r < numbers) ⌝ }
+{
+    match o {
+        INF_BOUND => layout::UNLIMITED,
+        EMPTY_BOUND => 0,
+        _ => o,
     }
 }
 

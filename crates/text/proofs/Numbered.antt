@@ -12,7 +12,7 @@ use native.Mathlib.Nat.{div-lt-iff-lt-mul, one-mul}
 use native.Mathlib.Omega.{arith}
 use lib.Dec.{T, ltb, leb, eqb, lit<}
 use lib.Pow.{pow-pos}
-use borrow.Author.Tests.{ltb-false, leb-false, lt-ltb}
+use borrow.Author.Tests.{ltb-false, leb-false}
 use Rattle.block.specs.Decide.{Some, BitFrom}
 use Rattle.block.specs.Layout.{Block, maxAgents, maxResources, maxStates, maxPropositions, maxRows, maxActions, maxUnits, maxJoint, boundByte, unlimited, at, agents, resources, states, propositions, rows, mask, cost, kind, left, team, bound, propKind}
 use Rattle.block.specs.Inner.Places.{InLayout}
@@ -29,7 +29,7 @@ use Rattle.text.specs.Job.{both, either, infBound, bound as boundSpellin
 use Rattle.text.specs.Broken.{BrokenAt, agents-at, resources-at, states-at, propositions-at, rows-at, mask-at, count-at, cost-at, next-at, prop-at, left-at, right-at, team-empty-at, team-absent-at, bound-at, UnlimitedNumber, written}
 use Rattle.text.specs.Text.{blank, readText, NumberedAt, Numbered}
 use Rattle.text.proofs.Decimals.{lt-or-ge}
-use Rattle.text.proofs.Spellings.{bound-small}
+use Rattle.text.proofs.Spellings.{bound-small, bound-itself}
 use Rattle.text.proofs.Stops.{Barred, along-every, halted, misread}
 use Rattle.text.proofs.DistinctPlaces.{job-proper}
 use Rattle.text.specs.Inner.Fields.{sizesOf}
@@ -112,7 +112,7 @@ module _ (b : Block) (t : List ℕ) where
       let (small, large) = not-either (ltb (x .option) (suc maxUnits)) (leb infBound (x .option)) (x .not-allowed) in
       let from : suc maxUnits ≤ x .option = ltb-false (x .option) (suc maxUnits) small in
       let below : x .option < numbers = leb-false infBound (x .option) large in
-      let byte : x .option ≡ bound b i j = sym (simp (lt-ltb (x .option) numbers below)) ∙ x .meant in
+      let byte : x .option ≡ bound b i j = sym (bound-itself below) ∙ x .meant in
       let k = strategic-case (kind b i) s in
       ⊎-elim
       (λ h. inl (bound-at hi k hj (omega arith, λ e. omega arith)))

@@ -5,12 +5,12 @@
 use mathlib.Core.Bool.{Bool, true, false, cond}
 use mathlib.Core.List.{List, [], _∷_, _++_}
 use mathlib.Core.Logic.{_⊎_, inl, inr, ⊎-elim}
-use mathlib.Core.Path.{_≡_, refl, sym, _∙_}
+use mathlib.Core.Path.{_≡_, refl, sym, ap, _∙_}
 use Prim.Native.Nat.{ℕ, zero, suc, _≤_, _<_}
 use native.Mathlib.Omega.{arith}
 use lib.Dec.{T, ltb, leb, eqb, leb→le, le→leb, ltb→lt, lt→ltb, lit<}
 use lib.ListN.{getD}
-use borrow.Author.Tests.{lt-ltb, le-ltb, ne-eqb}
+use borrow.Author.Tests.{lt-ltb, ne-eqb}
 use Rattle.block.specs.declared.refusal.Refusal.{Refusal}
 use Rattle.block.specs.declared.refusal.Refusal.the-variants.{Form}
 use Rattle.text.specs.Numeral.{ascii, comma, decimal, Starts}
@@ -117,14 +117,22 @@ bound-only t o o′ l l′ s s′ = same (bound-shape o t l s) (bound-shape o′
     same (none e c) (inf e′ c′) = absurd (omega arith)
     same (none e c) (none e′ c′) = omega arith
 
+-- a number stands for itself
+pub bound-itself : {o : ℕ} → o < 256 → bound .byte o ≡ o
+bound-itself h = simp (lt-ltb _ 256 h)
+
+-- inf stands for 255, and nothing for 0
 pub bound-range : {v : ℕ} → Fits bound v → (v < 16) ⊎ (v ≡ 255)
-bound-range {v} f = ⊎-elim
-    (λ h. inl (let l = ltb→lt (f .0) 16 h in let e : cond (ltb (f .0) 256) (f .0) 255 ≡ f .0 = simp (lt-ltb (f .0) 256 (omega arith)) in omega (arith, sym (f .3) ∙ e)))
-    (λ h. inr (let l = leb→le 256 (f .0) h in let e : cond (ltb (f .0) 256) (f .0) 255 ≡ 255 = simp (le-ltb (f .0) 256 l) in sym (f .3) ∙ e))
-    (either-case (ltb (f .0) 16) (leb 256 (f .0)) (f .2))
+bound-range {v} (o, l, allowed, e) = ⊎-elim
+    (λ h. let small = ltb→lt o 16 h in let itself : v ≡ o = sym e ∙ bound-itself (omega arith) in inl (omega arith))
+    (λ h. let large = leb→le 256 o h in ⊎-elim
+    (λ g. let inf : o ≡ 256 = omega arith in inr (sym e ∙ ap (bound .byte) inf))
+    (λ g. let nothing : o ≡ 257 = omega arith in let zeroed : v ≡ 0 = sym e ∙ ap (bound .byte) nothing in inl (omega arith))
+    (lt-or-ge o 257))
+    (either-case (ltb o 16) (leb 256 o) allowed)
 
 pub bound-fits : {v : ℕ} → (v < 16) ⊎ (v ≡ 255) → Fits bound v
-bound-fits {v} (inl h) = (v, omega arith, either-true (ltb v 16) (leb 256 v) (inl (lt→ltb v 16 h)), simp (lt-ltb v 256 (omega arith)))
+bound-fits {v} (inl h) = (v, omega arith, either-true (ltb v 16) (leb 256 v) (inl (lt→ltb v 16 h)), bound-itself (omega arith))
 bound-fits {v} (inr e) = (256, lit< tt, tt, sym e)
 
 pub bound-clear : Clear bound

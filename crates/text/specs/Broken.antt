@@ -34,7 +34,7 @@ pub data BrokenAt (b : Block) : Place → Refusal → Type 0 where
   bound-at : {i j : ℕ} → i < rows b → Strategic (kind b i) → j < resources b → BadBound b i j → BrokenAt b (Field i (boundByte + j)) refusal.Row
 
 -- the one value that is refused in a text and whose byte is none of these: a bound that the text t begins with as the number 255,
--- the byte of an unlimited bound, which only inf or an empty field may spell
+-- the byte of an unlimited bound, which only inf may spell
 pub data UnlimitedNumber (b : Block) (t : List ℕ) : Place → Refusal → Type 0 where
   written : {i j : ℕ} → i < rows b → Strategic (kind b i) → j < resources b → bound b i j ≡ unlimited → Starts (field unlimited comma) t →
       UnlimitedNumber b t (Field i (boundByte + j)) refusal.Row

@@ -29,7 +29,7 @@ number sep low limit r = record {
   chosen = λ v. v;
 }
 
--- the spellings of a bound: the numbers, and then inf and nothing, for an unlimited one
+-- the spellings of a bound: the numbers, then inf, then nothing
 abbrev pub infBound : ℕ
 infBound = numbers
 
@@ -39,15 +39,19 @@ emptyBound = suc infBound
 abbrev pub boundSpellings : ℕ
 boundSpellings = suc emptyBound
 
-unfoldable pub boundField : ℕ → List ℕ
-boundField o = cond (ltb o numbers) (decimal o) (cond (eqb o infBound) (ascii "inf") [])
+-- one of three, as a spelling is a number, inf or nothing
+abbrev pub boundCase : {A : Type 0} → A → A → A → ℕ → A
+boundCase number inf nothing o = cond (ltb o numbers) number (cond (eqb o infBound) inf nothing)
 
--- a bound: a number from 0 to 15, or unlimited
+unfoldable pub boundField : ℕ → List ℕ
+boundField o = boundCase (decimal o) (ascii "inf") [] o
+
+-- a bound: a number from 0 to 15, inf for unlimited, or nothing for 0
 abbrev pub bound : Spelling
 bound = record {
   options = boundSpellings;
   spell = λ o. boundField o ++ comma ∷ [];
-  byte = λ o. cond (ltb o numbers) o unlimited;
+  byte = λ o. boundCase o unlimited 0 o;
   allowed = λ o. either (ltb o (suc maxUnits)) (leb infBound o);
   refusal = refusal.Row;
   chosen = λ v. cond (eqb v unlimited) infBound v;

@@ -1,7 +1,7 @@
 //! What each command prints for Catch, with the starred values of document 01,
 //! and for the sensor network.
 
-use super::{desk, Says};
+use super::{changed, desk, Says};
 use rbatl_tests::{jobs, text};
 
 fn catch(line: &str) -> String {
@@ -81,6 +81,16 @@ fn table_of_an_unlimited_resource() {
         "row 4: coalition 0, 1 within inf, 0: row 2 until row 0"
     );
     assert_eq!(lines[2], "state 0, stock 0, 0: rank never, no move");
+}
+
+/// A bound that is left empty is 0, and the table says so.
+#[test]
+fn table_of_an_empty_bound() {
+    let job = changed("until,3,5,2,0", "until,3,,2,0");
+    let table = desk("table 4", &job).answer();
+    let head = "row 4: coalition 0, 1 within 0: row 2 until row 0\nstates: 2\n";
+    assert!(table.starts_with(head), "{table}");
+    assert_eq!(table.lines().count(), 2 + 3);
 }
 
 #[test]

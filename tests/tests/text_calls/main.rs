@@ -2,6 +2,7 @@
 //! the writer and the listing made from document 01: the same answers and the same
 //! lent buffers afterwards, on many texts and blocks.
 
+mod empty;
 mod every;
 mod lengths;
 mod listings;

@@ -31,9 +31,9 @@ fn a_written_job_is_read_as_the_same_job() {
     }
 }
 
-/// An empty bound comes back as `inf`, and every other byte as it was.
+/// An empty bound comes back as 0, and every other byte as it was.
 #[test]
-fn a_text_is_written_back_with_inf_for_empty_bounds() {
+fn a_text_is_written_back_with_0_for_empty_bounds() {
     for case in 0..cases(CASES) / 12 {
         let what = format!("case {case}");
         let mut rng = Rng::for_case(SEED ^ 4, case);

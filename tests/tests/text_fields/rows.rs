@@ -122,11 +122,22 @@ fn bound_as_a_number() {
 fn bound_unlimited() {
     for (field, place) in bounds() {
         field.read("inf", place, UNLIMITED, "inf");
-        field.read("", place, UNLIMITED, "inf");
         for spelling in [
             "INF", "Inf", "inF", "i", "in", "nf", "infi", "infinity", "inf ", " inf", "-inf",
-            "+inf", "inf0", "0inf", "inf\r", "inf\n", "inf;", "inff", "\n", " ", "-", "oo",
-            "\u{221e}", "\"\"",
+            "+inf", "inf0", "0inf", "inf\r", "inf\n", "inf;", "inff", "oo", "\u{221e}",
+        ] {
+            field.refused(spelling, 7);
+        }
+    }
+}
+
+/// A field without any byte is a bound of 0; one of one space is no bound.
+#[test]
+fn bound_left_empty() {
+    for (field, place) in bounds() {
+        field.read("", place, 0, "0");
+        for spelling in [
+            " ", "  ", "\t", "\r", "\n", "\0", "-", "+", "\"\"", "''", "_",
         ] {
             field.refused(spelling, 7);
         }

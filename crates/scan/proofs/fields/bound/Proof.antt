@@ -1,8 +1,9 @@
 -- `bound` reads a bound and stores its byte. Assumes nothing.
-use lib.Dec.{lit<}
+use mathlib.Core.Path.{sym, _∙_}
 use lib.ListN.{drop}
 use Rattle.text.specs.Job.{bound}
-use Rattle.scan.proofs.Reading.{value-next, value-refused, value-missing, bound-small, bound-none, bound-large, byte-number, byte-none}
+use Rattle.scan.proofs.Reading.{value-next, value-refused, value-missing}
+use borrow.Author.Tests.{not-true, not-false}
 use borrow.Author.Needs.{needs}
 use Rattle.scan.proofs.fields.bound.Statement.{statement}
 use Rattle.scan.proofs.fields.bound.Tie as tie
@@ -13,56 +14,41 @@ bound-at-requires c κs = search needs
 enum-known-o : tie.Need-enum-known-o
 enum-known-o c = search needs
 
-put-requires : tie.Need-put-requires
-put-requires c κs = search needs
-
-same-length : tie.Need-same-length
-same-length c = search needs
+bound-allowed-requires : tie.Need-bound-allowed-requires
+bound-allowed-requires c κs = search needs
 
 returns : tie.Need-returns
 returns c =
-    let told = c .before .before .before .before .before .before .o .given .1 in
-    let call = c .before .before .before .before .before .before .before .before .bound-at .ensures in
-    let g = c .before .before .before .before .before .before .before .before .before .before .before .args in
-    let t = drop (g .at) (g .text .now) in
-    let there = rw told at (call .0) in
-    (λ k. value-next bound (g .x) k (g .job .now) t _ _ _ _ there (bound-none (c .before .before .before .before .if1 .taken)) (byte-none (c .before .before .before .before .if1 .taken)) (c .before .before .put .ensures), (lit< tt, (rw told at (call .1)) .1))
-
-returns-2 : tie.Need-returns-2
-returns-2 c =
-    let told = c .before .before .before .o .given .1 in
-    let call = c .before .before .before .before .before .bound-at .ensures in
+    let there = rw (c .before .before .before .o .given .1) at (c .before .before .before .before .before .bound-at .ensures .0) in
     let g = c .before .before .before .before .before .before .before .before .args in
-    let t = drop (g .at) (g .text .now) in
-    let there = rw told at (call .0) in
-    (λ k. value-refused bound (g .x) k (g .job .now) t _ _ there (bound-large (c .if2 .taken) (c .before .if1 .left)), c .before .before .before .before .before .before .before .before .pre .0)
+    (λ k. value-refused bound (g .x) k (g .job .now) (drop (g .at) (g .text .now)) _ _ there (sym (c .before .bound-allowed .ensures) ∙ not-true _ (c .if1 .taken)), c .before .before .before .before .before .before .before .before .pre .0)
 
-put-requires-2 : tie.Need-put-requires-2
-put-requires-2 c κs = search needs
+bound-byte-requires : tie.Need-bound-byte-requires
+bound-byte-requires c κs = (rw (c .before .before .before .o .given .1) at (c .before .before .before .before .before .bound-at .ensures .1)) .0
+
+put-requires : tie.Need-put-requires
+put-requires c κs = search needs
 
 enum-told : tie.Need-enum-told
 enum-told c = search needs
 
-same-length-2 : tie.Need-same-length-2
-same-length-2 c = search needs
+same-length : tie.Need-same-length
+same-length c = search needs
+
+returns-2 : tie.Need-returns-2
+returns-2 c =
+    let told = c .before .before .before .before .before .before .before .before .o .given .1 in
+    let call = c .before .before .before .before .before .before .before .before .before .before .bound-at .ensures in
+    let byte = c .before .before .before .before .bound-byte .ensures in
+    let g = c .before .before .before .before .before .before .before .before .before .before .before .before .before .args in
+    let there = rw told at (call .0) in
+    (λ k. value-next bound (g .x) k (g .job .now) (drop (g .at) (g .text .now)) _ _ _ _ there (sym (c .before .before .before .before .before .before .bound-allowed .ensures) ∙ not-false _ (c .before .before .before .before .before .if1 .left)) (sym (byte .0)) (c .before .before .put .ensures), (byte .1, (rw told at (call .1)) .1))
 
 returns-3 : tie.Need-returns-3
 returns-3 c =
-    let told = c .before .before .before .before .before .before .before .o .given .1 in
-    let call = c .before .before .before .before .before .before .before .before .before .bound-at .ensures in
-    let g = c .before .before .before .before .before .before .before .before .before .before .before .before .args in
-    let t = drop (g .at) (g .text .now) in
-    let there = rw told at (call .0) in
-    (λ k. value-next bound (g .x) k (g .job .now) t _ _ _ _ there (bound-small (c .before .before .before .before .if2 .left)) (byte-number (c .before .before .before .before .before .if1 .left)) (c .before .before .put2 .ensures), (c .before .before .before .before .before .if1 .left, (rw told at (call .1)) .1))
-
-returns-4 : tie.Need-returns-4
-returns-4 c =
-    let told = c .enum-told .given .1 in
-    let call = c .before .before .bound-at .ensures in
+    let there = rw (c .enum-told .given .1) at (c .before .before .bound-at .ensures .0) in
     let g = c .before .before .before .before .before .args in
-    let t = drop (g .at) (g .text .now) in
-    let there = rw told at (call .0) in
-    (λ k. value-missing bound (g .x) k (g .job .now) t there, c .before .before .before .before .before .pre .0)
+    (λ k. value-missing bound (g .x) k (g .job .now) (drop (g .at) (g .text .now)) there, c .before .before .before .before .before .pre .0)
 
 pub bound-spec : {M : Type 1} → statement M
 bound-spec =
@@ -70,12 +56,11 @@ bound-spec =
     (tie.spec
     bound-at-requires
     enum-known-o
-    put-requires
-    same-length
+    bound-allowed-requires
     returns
-    returns-2
-    put-requires-2
+    bound-byte-requires
+    put-requires
     enum-told
-    same-length-2
-    returns-3
-    returns-4)
+    same-length
+    returns-2
+    returns-3)
