@@ -147,7 +147,8 @@ impl<'a> Reader<'a> {
         refuse_if(usize::from(number) != expected, refusal::FORM)
     }
 
-    /// A number, `inf` for unlimited, or nothing for 0, and its comma.
+    /// A number, `inf` for unlimited, or nothing for 0 (document 02, R-2), and its
+    /// comma.
     fn bound(&mut self) -> Outcome<u8> {
         if self.literal(b"inf,").is_ok() {
             return Ok(UNLIMITED);

@@ -46,7 +46,7 @@ boundCase number inf nothing o = cond (ltb o numbers) number (cond (eqb o infBou
 unfoldable pub boundField : ℕ → List ℕ
 boundField o = boundCase (decimal o) (ascii "inf") [] o
 
--- a bound: a number from 0 to 15, inf for unlimited, or nothing for 0
+-- a bound: a number from 0 to 15, inf for unlimited, or nothing for 0 (document 02, R-2)
 abbrev pub bound : Spelling
 bound = record {
   options = boundSpellings;
