@@ -95,12 +95,12 @@ pub fn empty_bounds(rng: &mut Rng, text: &[u8]) -> (Vec<u8>, usize) {
     (emptied, count)
 }
 
-/// The text with 0 in each empty field.
-pub fn filled_bounds(text: &[u8]) -> Vec<u8> {
+/// The text with this spelling in each empty field.
+pub fn filled_bounds(text: &[u8], spelling: &[u8]) -> Vec<u8> {
     let mut filled = Vec::new();
     for field in text.split_inclusive(|&byte| byte == b',' || byte == b'\n') {
         if field == b"," {
-            filled.push(b'0');
+            filled.extend(spelling);
         }
         filled.extend(field);
     }

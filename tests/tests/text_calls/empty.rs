@@ -1,11 +1,11 @@
 //! A text whose rows leave bounds empty: an empty bound is 0, and `inf` alone is
 //! unlimited.
 
+use super::listings::{Lent, LENGTHS};
 use super::*;
 use rbatl_tests::agree::{self, Outcome};
-use rbatl_tests::listing::LISTING_BYTES;
-use rbatl_tests::model::{MOVES_BYTES, RANKS_BYTES};
 use rbatl_tests::text::TEXT_BYTES;
+use rbatl_tests::text_damage::filled_bounds;
 
 /// In state 0 action 1 takes 2 of resource 0, action 2 takes 1 of resource 1, and
 /// both lead to state 1. Rows 3 and 7 are false in state 0 by their empty bounds,
@@ -71,8 +71,8 @@ plan,9,0,65535,0
 
 /// The text with another spelling in each empty field.
 fn filled(spelling: &str) -> String {
-    let other = format!(",{spelling},");
-    EMPTY.replace(",,", &other).replace(",,", &other)
+    let text = filled_bounds(EMPTY.as_bytes(), spelling.as_bytes());
+    String::from_utf8(text).expect("plain text")
 }
 
 fn block_of(text: &str) -> Vec<u8> {
@@ -83,9 +83,7 @@ fn block_of(text: &str) -> Vec<u8> {
 }
 
 fn listing_of(text: &str) -> String {
-    let lent = [LISTING_BYTES, RANKS_BYTES, MOVES_BYTES].map(agree::pattern);
-    let lent = [&lent[0][..], &lent[1], &lent[2]];
-    let Outcome { answer, buffer } = agree::list(text.as_bytes(), lent, || text.to_string());
+    let Outcome { answer, buffer } = Lent::patterned(LENGTHS).list(text.as_bytes(), text);
     let length = usize::try_from(answer).expect("the text is listed");
     String::from_utf8(buffer[..length].to_vec()).expect("plain text")
 }

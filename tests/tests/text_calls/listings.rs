@@ -9,13 +9,13 @@ use rbatl_tests::text::TEXT_BYTES;
 use rbatl_tests::text_damage::damage;
 use rbatl_tests::{games, jobs, text};
 
-const LENGTHS: [usize; 3] = [LISTING_BYTES, RANKS_BYTES, MOVES_BYTES];
+pub(super) const LENGTHS: [usize; 3] = [LISTING_BYTES, RANKS_BYTES, MOVES_BYTES];
 
 /// Listing, ranks and moves before a call.
-struct Lent([Vec<u8>; 3]);
+pub(super) struct Lent([Vec<u8>; 3]);
 
 impl Lent {
-    fn patterned(lengths: [usize; 3]) -> Lent {
+    pub(super) fn patterned(lengths: [usize; 3]) -> Lent {
         Lent(lengths.map(agree::pattern))
     }
 
@@ -24,7 +24,7 @@ impl Lent {
     }
 
     /// The listing of the text, as the library and the model agree.
-    fn list(&self, text: &[u8], what: &str) -> Outcome {
+    pub(super) fn list(&self, text: &[u8], what: &str) -> Outcome {
         let [out, ranks, moves] = &self.0;
         let outcome = agree::list(text, [out, ranks, moves], || what.to_string());
         let (found, rooms) = outcome.buffer.split_at(out.len());

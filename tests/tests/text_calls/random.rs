@@ -54,7 +54,7 @@ fn assert_written_back(job: &[u8], text: &[u8], what: &str) {
     assert_eq!(ffi::check(job), 0, "{what}");
     let mut written = vec![b'#'; TEXT_BYTES];
     let length = ffi::write(job, &mut written);
-    let expected = filled_bounds(text);
+    let expected = filled_bounds(text, b"0");
     assert_eq!(usize::try_from(length), Ok(expected.len()), "{what}");
     assert!(written[..expected.len()] == expected, "{what}");
 }
