@@ -15,7 +15,7 @@ use Rattle.text.specs.Job.{both, infBound, emptyBound, boundSpellings, bound, b
 use Rattle.scan.specs.Inner.Step.{resume, resumeWith, pastValue, valueOr, Ranged, Inside, InsideWith}
 use Rattle.scan.specs.declared.step.Value.{Value}
 use Rattle.scan.specs.declared.step.Value.the-variants as value-at
-use Rattle.text.proofs.Spellings.{bound-small}
+use Rattle.text.proofs.Spellings.{bound-spelled}
 use Rattle.text.proofs.Search.{after-found, after-other, search-step, search-same}
 
 module _ (n : ℕ) (t : List ℕ) (f : Format) (b : Block) where
@@ -65,10 +65,7 @@ unfolding boundField
 bound-search t =
     search-step (bound .spell) emptyBound t
     ∙ ap (after emptyBound (ascii ",") t)
-    (search-step (bound .spell) infBound t ∙ ap (after infBound (ascii "inf,") t) (search-same (bound .spell) (λ n. decimal n ++ comma ∷ []) t numbers number))
-  where
-    number : (m : ℕ) → m < numbers → bound .spell m ≡ decimal m ++ comma ∷ []
-    number m h = ap (λ (w : List ℕ). w ++ comma ∷ []) (bound-small m h)
+    (search-step (bound .spell) infBound t ∙ ap (after infBound (ascii "inf,") t) (search-same (bound .spell) (λ n. decimal n ++ comma ∷ []) t numbers bound-spelled))
 
 pub kind-search : (t : List ℕ) → search kindWord kinds t ≡ after untilKind (ascii "until,") t (after alwaysKind (ascii "always,") t (after nextKind (ascii "next,") t (after orKind (ascii "or,") t (after notKind (ascii "not,") t (after propKind (ascii "prop,") t missing)))))
 unfolding search kindWord

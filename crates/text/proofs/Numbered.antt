@@ -29,7 +29,7 @@ use Rattle.text.specs.Job.{both, either, infBound, bound as boundSpellin
 use Rattle.text.specs.Broken.{BrokenAt, agents-at, resources-at, states-at, propositions-at, rows-at, mask-at, count-at, cost-at, next-at, prop-at, left-at, right-at, team-empty-at, team-absent-at, bound-at, UnlimitedNumber, written}
 use Rattle.text.specs.Text.{blank, readText, NumberedAt, Numbered}
 use Rattle.text.proofs.Decimals.{lt-or-ge}
-use Rattle.text.proofs.Spellings.{bound-small, bound-itself}
+use Rattle.text.proofs.Spellings.{bound-spelled, bound-itself}
 use Rattle.text.proofs.Stops.{Barred, along-every, halted, misread}
 use Rattle.text.proofs.DistinctPlaces.{job-proper}
 use Rattle.text.specs.Inner.Fields.{sizesOf}
@@ -116,7 +116,7 @@ module _ (b : Block) (t : List ℕ) where
       let k = strategic-case (kind b i) s in
       ⊎-elim
       (λ h. inl (bound-at hi k hj (omega arith, λ e. omega arith)))
-      (λ h. let full : x .option ≡ unlimited = omega arith in inr (written hi k hj (sym byte ∙ full) (rw (full, bound-small unlimited (lit< tt)) at (x .begins))))
+      (λ h. let full : x .option ≡ unlimited = omega arith in inr (written hi k hj (sym byte ∙ full) (rw (full, bound-spelled unlimited (lit< tt)) at (x .begins))))
       (lt-or-ge (x .option) unlimited)
 
   left-told : (i : ℕ) → i < rows b → Told (leftSpelling (sizesOf b) i (kind b i)) (Field i 1)

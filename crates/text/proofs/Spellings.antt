@@ -59,7 +59,6 @@ module _ (low limit : ℕ) where
     meant = λ v f. let g = number-range f in let n = number-fits (g .0) (g .1) (g .2) in (n .1, n .2, n .3);
   }
 
--- a bound: the spelling that a text begins with shows in its first byte
 pub either-true : (a b : Bool) → T a ⊎ T b → T (either a b)
 either-true true b p = tt
 either-true false b (inl p) = absurd p
@@ -69,9 +68,17 @@ pub either-case : (a b : Bool) → T (either a b) → T a ⊎ T b
 either-case true b p = inl p
 either-case false b p = inr p
 
-pub bound-small : (o : ℕ) → o < 256 → boundField o ≡ decimal o
+-- a bound is spelled as a number, inf or nothing
+bound-cases : {P : Type 0} (o : ℕ) → o < 258 → (o < 256 → P) → (o ≡ 256 → P) → (o ≡ 257 → P) → P
+bound-cases o h number inf nothing = ⊎-elim number (λ l. ⊎-elim (λ k. inf (omega arith)) (λ k. nothing (omega arith)) (lt-or-ge o 257)) (lt-or-ge o 256)
+
+-- a number is spelled as in every field, and stands for itself
+pub bound-spelled : (o : ℕ) → o < 256 → bound .spell o ≡ decimal o ++ comma ∷ []
 unfolding boundField
-bound-small o h = simp (lt-ltb o 256 h)
+bound-spelled o h = simp (lt-ltb o 256 h)
+
+pub bound-itself : {o : ℕ} → o < 256 → bound .byte o ≡ o
+bound-itself h = simp (lt-ltb _ 256 h)
 
 bound-inf : boundField 256 ≡ ascii "inf"
 unfolding boundField
@@ -81,13 +88,14 @@ bound-none : boundField 257 ≡ []
 unfolding boundField
 bound-none = refl
 
+-- the spelling that a text begins with shows in its first byte
 data BoundShape (o : ℕ) (t : List ℕ) : Type 0 where
   small : o < 256 → Starts (decimal o ++ comma ∷ []) t → 48 ≤ getD t 0 0 → getD t 0 0 < 58 → BoundShape o t
   inf : o ≡ 256 → getD t 0 0 ≡ 105 → BoundShape o t
   none : o ≡ 257 → getD t 0 0 ≡ 44 → BoundShape o t
 
 bound-shape : (o : ℕ) (t : List ℕ) → o < 258 → Starts (boundField o ++ comma ∷ []) t → BoundShape o t
-bound-shape o t h s = ⊎-elim below (λ l. ⊎-elim (λ k. at-inf (omega arith)) (λ k. at-none (omega arith)) (lt-or-ge o 257)) (lt-or-ge o 256)
+bound-shape o t h s = bound-cases o h below at-inf at-none
   where
     first : o < 256 → Shape comma o t → (48 ≤ getD t 0 0) × (getD t 0 0 < 58)
     first l (one k x y) = omega arith
@@ -95,7 +103,7 @@ bound-shape o t h s = ⊎-elim below (λ l. ⊎-elim (λ k. at-inf (omega arith)
     first l (three k x y z w) = omega arith
 
     below : o < 256 → BoundShape o t
-    below l = let d : Starts (decimal o ++ comma ∷ []) t = rw (bound-small o l) at s in let f = first l (shape comma o t (omega arith) d) in small l d (f .0) (f .1)
+    below l = let d : Starts (decimal o ++ comma ∷ []) t = rw (bound-spelled o l) at s in let f = first l (shape comma o t (omega arith) d) in small l d (f .0) (f .1)
 
     at-inf : o ≡ 256 → BoundShape o t
     at-inf e = let d : t ≡ (ascii "inf" ++ comma ∷ []) ++ s .0 = rw (e, bound-inf) at (s .1) in inf e (rw d)
@@ -117,19 +125,15 @@ bound-only t o o′ l l′ s s′ = same (bound-shape o t l s) (bound-shape o′
     same (none e c) (inf e′ c′) = absurd (omega arith)
     same (none e c) (none e′ c′) = omega arith
 
--- a number stands for itself
-pub bound-itself : {o : ℕ} → o < 256 → bound .byte o ≡ o
-bound-itself h = simp (lt-ltb _ 256 h)
-
 -- inf stands for 255, and nothing for 0
 pub bound-range : {v : ℕ} → Fits bound v → (v < 16) ⊎ (v ≡ 255)
-bound-range {v} (o, l, allowed, e) = ⊎-elim
-    (λ h. let small = ltb→lt o 16 h in let itself : v ≡ o = sym e ∙ bound-itself (omega arith) in inl (omega arith))
-    (λ h. let large = leb→le 256 o h in ⊎-elim
-    (λ g. let inf : o ≡ 256 = omega arith in inr (sym e ∙ ap (bound .byte) inf))
-    (λ g. let nothing : o ≡ 257 = omega arith in let zeroed : v ≡ 0 = sym e ∙ ap (bound .byte) nothing in inl (omega arith))
-    (lt-or-ge o 257))
-    (either-case (ltb o 16) (leb 256 o) allowed)
+bound-range {v} (o, l, allowed, e) = bound-cases o l number (λ q. inr (sym e ∙ ap (bound .byte) q)) nothing
+  where
+    number : o < 256 → (v < 16) ⊎ (v ≡ 255)
+    number h = let same : v ≡ o = sym e ∙ bound-itself h in ⊎-elim (λ k. inl (omega (arith, ltb→lt o 16 k))) (λ k. absurd (omega (arith, leb→le 256 o k))) (either-case (ltb o 16) (leb 256 o) allowed)
+
+    nothing : o ≡ 257 → (v < 16) ⊎ (v ≡ 255)
+    nothing q = let zeroed : v ≡ 0 = sym e ∙ ap (bound .byte) q in inl (omega arith)
 
 pub bound-fits : {v : ℕ} → (v < 16) ⊎ (v ≡ 255) → Fits bound v
 bound-fits {v} (inl h) = (v, omega arith, either-true (ltb v 16) (leb 256 v) (inl (lt→ltb v 16 h)), bound-itself (omega arith))

@@ -7,14 +7,15 @@ use native.Mathlib.Nat.{sub-zero}
 use native.Mathlib.Numerals.{add-one}
 use native.Mathlib.Omega.{arith}
 use lib.ListN.{take, set}
-use borrow.Author.Tests.{lt-ltb, ne-eqb}
+use borrow.Author.Tests.{ne-eqb}
 use Rattle.block.specs.Layout as L
 use Rattle.block.specs.Layout.{Block, unlimited}
 use Rattle.text.specs.declared.sizes.Sizes.{Sizes}
 use Rattle.text.specs.Numeral.{comma, decimal}
 use Rattle.text.specs.Format.{Format, write}
-use Rattle.text.specs.Job.{bound, boundField, actsLine, agentLines, noCounts}
+use Rattle.text.specs.Job.{bound, actsLine, agentLines, noCounts}
 use Rattle.writer.specs.Inner.Writing.{Past, PastWith, countsTo}
+use Rattle.text.proofs.Spellings.{bound-spelled}
 use Rattle.text.proofs.Loops.{Loop, left-more, turn, finish}
 
 -- the writer's loop has written j turns
@@ -38,8 +39,7 @@ module _ {loop body : ℕ → ℕ → Format → Format} {count j : ℕ} {b : Bl
 
 -- a bound that is not unlimited is written as a number
 pub bound-number : (v : ℕ) → v < 256 → (v ≡ unlimited → ⊥) → bound .spell (bound .chosen v) ≡ decimal v ++ comma ∷ []
-unfolding boundField
-bound-number v h n = simp (ne-eqb v 255 n, lt-ltb v 256 h)
+bound-number v h n = rw (ne-eqb v 255 n) (bound-spelled v h)
 
 -- the acts lines of a agents have been written; what follows all of them depends on their counts
 pub record Acted (z : Sizes) (s agents : ℕ) (b : Block) (t : List ℕ) (at : ℕ) (u : List ℕ) (next a : ℕ) : Type 0 where
