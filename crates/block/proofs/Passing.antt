@@ -11,7 +11,7 @@ use Rattle.block.specs.Decide.{Some, Outside, BitFrom}
 use Rattle.block.specs.Inner.Tests.{Decides, holds, fails}
 use Rattle.block.specs.Refusal.{Meets}
 use Rattle.block.specs.Layout.{Block, blockBytes, maxJoint, agents, resources, states, rows, cost}
-use Rattle.block.specs.Check.{BadSizes, agents-range, resources-range, states-range, propositions-range, rows-range, BadState, BadNext, BadRow, BadPlace, kind-unknown, operands, coalition, prop-range, left-range, right-range, team-empty, team-absent, bound-range, blockRules, Verdict}
+use Rattle.block.specs.Check.{BadSizes, agents-range, resources-range, states-range, propositions-range, rows-range, kinds-range, BadState, BadNext, BadRow, BadPlace, kind-unknown, operands, coalition, prop-range, left-range, right-range, team-empty, team-absent, bound-range, blockRules, Verdict}
 use Rattle.block.specs.Inner.Valid.{Range, Sized, Counted, RowFits, Valid}
 use Rattle.block.specs.declared.refusal.Refusal.{Refusal}
 use Rattle.block.specs.declared.refusal.Refusal.the-variants.{Length, Sizes, State, Next, Row, Unused}
@@ -28,7 +28,8 @@ stable a b h = decided (D.equal a b)
     decided (holds p) = p
     decided (fails q) = absurd (h q)
 
-inside : (low high n : ℕ) → (Outside low high n → ⊥) → Range low high n
+-- a number that is not outside a range is in it
+pub inside : (low high n : ℕ) → (Outside low high n → ⊥) → Range low high n
 inside low high n h =
     let l : n < low → ⊥ = λ x. h (inl x) in
     let g : high < n → ⊥ = λ x. h (inr x) in
@@ -41,6 +42,9 @@ below-bit p m h =
     let small : m / 2 ^ p < 1 = omega arith in
     rw one-mul at (div-lt-iff-lt-mul (pow-pos p) .0 small)
 
+at-most : {a b : ℕ} → (b < a → ⊥) → a ≤ b
+at-most h = omega arith
+
 pub sized : {b : Block} → length b ≡ blockBytes → (BadSizes b → ⊥) → Sized b
 sized e h = record {
   bytes = e;
@@ -49,13 +53,11 @@ sized e h = record {
   states-fit = inside _ _ _ (λ x. h (states-range x));
   propositions-fit = inside _ _ _ (λ x. h (propositions-range x));
   rows-fit = inside _ _ _ (λ x. h (rows-range x));
+  kinds-fit = λ j hj. at-most (λ x. h (kinds-range (j, hj, x)));
 }
 
 pub counted : (b : Block) → (Some (states b) (BadState b) → ⊥) → Counted b
 counted b h s a hs ha = inside _ _ _ (λ x. h (s, hs, inr (a, ha, inl x)))
-
-at-most : {a b : ℕ} → (b < a → ⊥) → a ≤ b
-at-most h = omega arith
 
 below : {a b : ℕ} → (b ≤ a → ⊥) → a < b
 below h = omega arith

@@ -7,11 +7,11 @@ use Prim.Native.Nat.{ℕ, _+_, _-_, _*_, _/_, _%_, _≤_, _<_}
 use native.Mathlib.Omega.{arith}
 use lib.Dec.{ltb}
 use borrow.Author.Tests.{lt-ltb, le-ltb}
-use Rattle.block.specs.Layout.{Block, maxAgents, maxJoint, rowBytes, actionCosts, agentCosts, stateCosts, maskBase, countBase, costBase, nextBase, rowBase, placeOf, InUse}
+use Rattle.block.specs.Layout.{Block, maxAgents, maxJoint, rowBytes, actionCosts, agentCosts, stateCosts, maskBase, countBase, costBase, nextBase, rowBase, resourceKindBase, placeOf, InUse}
 use Rattle.block.specs.Inner.Places.{InLayout}
 use Rattle.block.specs.Inner.Valid.{Sized, Counted}
 use Rattle.block.specs.declared.layout.Place.{Place}
-use Rattle.block.specs.declared.layout.Place.the-variants.{Header, Mask, Count, Cost, Next, Field}
+use Rattle.block.specs.declared.layout.Place.the-variants.{Header, Mask, Count, Cost, Next, Field, ResourceKind}
 
 abbrev pick : Bool → Place → Place → Place
 pick true x y = x
@@ -25,7 +25,8 @@ placeWith p =
     (pick (ltb p costBase) (Count ((p - countBase) / maxAgents) ((p - countBase) % maxAgents))
     (pick (ltb p nextBase) (Cost ((p - costBase) / stateCosts) ((p - costBase) % stateCosts / agentCosts) ((p - costBase) % agentCosts / actionCosts) ((p - costBase) % actionCosts))
     (pick (ltb p rowBase) (Next ((p - nextBase) / maxJoint) ((p - nextBase) % maxJoint))
-    (Field ((p - rowBase) / rowBytes) ((p - rowBase) % rowBytes))))))
+    (pick (ltb p resourceKindBase) (Field ((p - rowBase) / rowBytes) ((p - rowBase) % rowBytes))
+    (ResourceKind (p - resourceKindBase)))))))
 
 header : (p : ℕ) → p < maskBase → placeWith p ≡ Header p
 header p h = simp (lt-ltb p maskBase h)
@@ -42,8 +43,11 @@ cost-at p l h = simp (le-ltb p maskBase (omega arith), le-ltb p countBase (omega
 next-at : (p : ℕ) → nextBase ≤ p → p < rowBase → placeWith p ≡ Next ((p - nextBase) / maxJoint) ((p - nextBase) % maxJoint)
 next-at p l h = simp (le-ltb p maskBase (omega arith), le-ltb p countBase (omega arith), le-ltb p costBase (omega arith), le-ltb p nextBase l, lt-ltb p rowBase h)
 
-field-at : (p : ℕ) → rowBase ≤ p → placeWith p ≡ Field ((p - rowBase) / rowBytes) ((p - rowBase) % rowBytes)
-field-at p l = simp (le-ltb p maskBase (omega arith), le-ltb p countBase (omega arith), le-ltb p costBase (omega arith), le-ltb p nextBase (omega arith), le-ltb p rowBase l)
+field-at : (p : ℕ) → rowBase ≤ p → p < resourceKindBase → placeWith p ≡ Field ((p - rowBase) / rowBytes) ((p - rowBase) % rowBytes)
+field-at p l h = simp (le-ltb p maskBase (omega arith), le-ltb p countBase (omega arith), le-ltb p costBase (omega arith), le-ltb p nextBase (omega arith), le-ltb p rowBase l, lt-ltb p resourceKindBase h)
+
+kind-at : (p : ℕ) → resourceKindBase ≤ p → placeWith p ≡ ResourceKind (p - resourceKindBase)
+kind-at p l = simp (le-ltb p maskBase (omega arith), le-ltb p countBase (omega arith), le-ltb p costBase (omega arith), le-ltb p nextBase (omega arith), le-ltb p rowBase (omega arith), le-ltb p resourceKindBase l)
 
 back : (x : Place) → InLayout x → placeWith (placeOf x) ≡ x
 back (Header f) h = header f h
@@ -69,7 +73,8 @@ back (Field i f) h =
     let p = placeOf (Field i f) in
     let e₁ : (p - rowBase) / rowBytes ≡ i = omega arith in
     let e₂ : (p - rowBase) % rowBytes ≡ f = omega arith in
-    field-at p (omega arith) ∙ (cc)
+    field-at p (omega arith) (omega arith) ∙ (cc)
+back (ResourceKind j) h = kind-at (placeOf (ResourceKind j)) (omega arith) ∙ ap ResourceKind (omega arith)
 
 pub one-place : (x y : Place) → InLayout x → InLayout y → placeOf x ≡ placeOf y → x ≡ y
 one-place x y hx hy e = sym (back x hx) ∙ ap placeWith e ∙ back y hy
@@ -80,4 +85,5 @@ used-in-layout z k (Mask s) h = omega arith
 used-in-layout z k (Count s a) h = omega arith
 used-in-layout z k (Cost s a n j) h = let m = k s a (h .0) (h .1) in omega arith
 used-in-layout z k (Next s joint) h = (omega arith, h .1 .0)
+used-in-layout z k (ResourceKind j) h = omega arith
 used-in-layout z k (Field i f) h = (omega arith, ⊎-elim (λ x. omega arith) (λ y. ⊎-elim (λ x. omega (arith, x .0)) (λ x. omega (arith, x .1)) y) (h .1))

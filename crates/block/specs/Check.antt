@@ -6,19 +6,20 @@ use mathlib.Core.Path.{_≡_}
 use Prim.Native.Nat.{ℕ, _≤_, _<_}
 use lib.ListN.{length}
 use Rattle.block.specs.Decide.{Some, Outside, BitFrom}
-use Rattle.block.specs.Layout.{Block, blockBytes, maxAgents, maxResources, maxStates, maxPropositions, maxRows, maxActions, maxUnits, maxJoint, byteAt, agents, resources, states, propositions, rows, mask, count, cost, next, kind, left, right, team, bound, unlimited, propKind, untilKind, Strategic, Binary, Available, Used}
+use Rattle.block.specs.Layout.{Block, blockBytes, maxAgents, maxResources, maxStates, maxPropositions, maxRows, maxActions, maxUnits, maxJoint, byteAt, agents, resources, states, propositions, rows, mask, count, cost, next, kind, left, right, team, bound, resourceKind, unlimited, maxKind, propKind, untilKind, Strategic, Binary, Available, Used}
 use Rattle.block.specs.Refusal.{Rule, _when_, Answers, NoValue}
 use Rattle.block.specs.declared.refusal.Refusal.the-variants.{Length, Sizes, State, Next, Row, Unused}
 use Rattle.block.specs.declared.refusal.Answer.{Answer}
 use Rattle.block.specs.declared.refusal.Answer.the-variants.{Value}
 
--- 2: N, R, M, P or F out of range
+-- 2: N, R, M, P or F out of range, or the kind of a resource neither sum nor max
 pub data BadSizes (b : Block) : Type 0 where
   agents-range : Outside 1 maxAgents (agents b) → BadSizes b
   resources-range : Outside 1 maxResources (resources b) → BadSizes b
   states-range : Outside 1 maxStates (states b) → BadSizes b
   propositions-range : Outside 1 maxPropositions (propositions b) → BadSizes b
   rows-range : Outside 1 maxRows (rows b) → BadSizes b
+  kinds-range : Some (resources b) (λ j. maxKind < resourceKind b j) → BadSizes b
 
 -- a cost above 15 units, or idle with a cost
 abbrev pub BadCost : Block → ℕ → ℕ → ℕ → ℕ → Type 0

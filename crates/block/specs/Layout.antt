@@ -5,7 +5,7 @@ use mathlib.Core.Path.{_≡_}
 use Prim.Native.Nat.{ℕ, _+_, _*_, _/_, _%_, _^_, _≤_, _<_}
 use lib.ListN.{getD}
 use Rattle.block.specs.declared.layout.Place.{Place}
-use Rattle.block.specs.declared.layout.Place.the-variants.{Header, Mask, Count, Cost, Next, Field}
+use Rattle.block.specs.declared.layout.Place.the-variants.{Header, Mask, Count, Cost, Next, Field, ResourceKind}
 
 abbrev pub Block : Type 0
 Block = List ℕ
@@ -85,7 +85,7 @@ agentCosts = maxActions * actionCosts
 abbrev pub stateCosts : ℕ
 stateCosts = maxAgents * agentCosts
 
--- where the masks, counts, costs, next states and rows begin
+-- where the masks, counts, costs, next states, rows and kinds of the resources begin
 abbrev pub maskBase : ℕ
 maskBase = headerBytes
 
@@ -101,8 +101,11 @@ nextBase = costBase + maxStates * stateCosts
 abbrev pub rowBase : ℕ
 rowBase = nextBase + maxStates * maxJoint
 
+abbrev pub resourceKindBase : ℕ
+resourceKindBase = rowBase + maxRows * rowBytes
+
 abbrev pub blockBytes : ℕ
-blockBytes = rowBase + maxRows * rowBytes
+blockBytes = resourceKindBase + maxResources
 
 abbrev pub placeOf : Place → ℕ
 placeOf (Header f) = f
@@ -111,6 +114,7 @@ placeOf (Count s a) = countBase + maxAgents * s + a
 placeOf (Cost s a k j) = costBase + stateCosts * s + agentCosts * a + actionCosts * k + j
 placeOf (Next s joint) = nextBase + maxJoint * s + joint
 placeOf (Field i f) = rowBase + rowBytes * i + f
+placeOf (ResourceKind j) = resourceKindBase + j
 
 abbrev pub byteAt : Block → ℕ → ℕ
 byteAt b p = getD b p 0
@@ -166,9 +170,20 @@ team b i = at b (Field i teamByte)
 abbrev pub bound : Block → ℕ → ℕ → ℕ
 bound b i j = at b (Field i (boundByte + j))
 
+-- the kind of resource j (document 02, R-3)
+abbrev pub resourceKind : Block → ℕ → ℕ
+resourceKind b j = at b (ResourceKind j)
+
 -- the byte of an unlimited bound
 abbrev pub unlimited : ℕ
 unlimited = 255
+
+-- the kinds of a resource: how the costs of a team's agents combine in a move
+abbrev pub sumKind : ℕ
+sumKind = 0
+
+abbrev pub maxKind : ℕ
+maxKind = 1
 
 -- the kinds of a row
 abbrev pub propKind : ℕ
@@ -224,6 +239,7 @@ InUse b (Count s a) = (s < states b) × (a < agents b)
 InUse b (Cost s a k j) = (s < states b) × (a < agents b) × (k < count b s a) × (j < resources b)
 InUse b (Next s joint) = (s < states b) × Available b s joint
 InUse b (Field i f) = (i < rows b) × UsesField b (kind b i) f
+InUse b (ResourceKind j) = j < resources b
 
 -- the job uses place p
 abbrev pub Used : Block → ℕ → Type 0

@@ -59,7 +59,7 @@ const AGENT_COSTS: usize = MAX_ACTIONS * ACTION_COSTS;
 
 const STATE_COSTS: usize = MAX_AGENTS * AGENT_COSTS;
 
-// Where the masks, counts, costs, next states and rows begin.
+// Where the masks, counts, costs, next states, rows and kinds of the resources begin.
 const MASK_BASE: usize = HEADER_BYTES;
 
 const COUNT_BASE: usize = MASK_BASE + MAX_STATES;
@@ -70,7 +70,14 @@ const NEXT_BASE: usize = COST_BASE + MAX_STATES * STATE_COSTS;
 
 const ROW_BASE: usize = NEXT_BASE + MAX_STATES * JOINT_ACTIONS;
 
-pub const BLOCK_BYTES: usize = ROW_BASE + MAX_ROWS * ROW_BYTES;
+const RESOURCE_KIND_BASE: usize = ROW_BASE + MAX_ROWS * ROW_BYTES;
+
+pub const BLOCK_BYTES: usize = RESOURCE_KIND_BASE + MAX_RESOURCES;
+
+// The kinds of resources.
+pub const SUM_KIND: usize = 0;
+
+pub const MAX_KIND: usize = 1;
 
 // The kinds of rows.
 pub const PROP_KIND: usize = 0;
@@ -92,7 +99,7 @@ pub const UNLIMITED: usize = 255;
 
 // A place of the layout: a header byte, the mask of a state, the count of a state and agent, the
 // cost of a state, agent, action and resource, the next state of a state and joint action, a
-// field of a row.
+// field of a row, the kind of a resource.
 pub enum Place {
     Header(usize),
     Mask(usize),
@@ -100,6 +107,7 @@ pub enum Place {
     Cost(usize, usize, usize, usize),
     Next(usize, usize),
     Field(usize, usize),
+    ResourceKind(usize),
 }
 
 // The place with number p.
@@ -130,8 +138,11 @@ pub fn place_at(p: usize) -> Place
         let q = p - NEXT_BASE;
         return Place::Next(q / JOINT_ACTIONS, q % JOINT_ACTIONS);
     }
-    let q = p - ROW_BASE;
-    Place::Field(q / ROW_BYTES, q % ROW_BYTES)
+    if p < RESOURCE_KIND_BASE {
+        let q = p - ROW_BASE;
+        return Place::Field(q / ROW_BYTES, q % ROW_BYTES);
+    }
+    Place::ResourceKind(p - RESOURCE_KIND_BASE)
 }
 
 // The numbers of the places, kind by kind.
@@ -170,6 +181,13 @@ fn field_place(i: usize, f: usize) -> usize
     ROW_BASE + ROW_BYTES * i + f
 }
 
+fn resource_kind_place(j: usize) -> usize
+    requires { ⌜ j < maxResources ⌝ }
+    ensures { λ r. ⌜ (r ≡ placeOf (Place.ResourceKind j)) × (r < blockBytes) ⌝ }
+{
+    RESOURCE_KIND_BASE + j
+}
+
 // The number of a place.
 pub fn offset(x: Place) -> usize
     requires { ⌜ InLayout x ⌝ }
@@ -182,6 +200,7 @@ pub fn offset(x: Place) -> usize
         Place::Cost(s, a, k, j) => cost_place(s, a, k, j),
         Place::Next(s, joint) => next_place(s, joint),
         Place::Field(i, f) => field_place(i, f),
+        Place::ResourceKind(j) => resource_kind_place(j),
     }
 }
 
@@ -320,4 +339,13 @@ pub fn bound(block: &[u8], i: usize, j: usize) -> usize
     ensures { λ r. ⌜ r ≡ L.bound (now (block .entry)) i j ⌝ }
 {
     field(block, i, BOUND_BYTE + j)
+}
+
+// The kind of resource j.
+pub fn resource_kind(block: &[u8], j: usize) -> usize
+    requires { ⌜ length (now block) ≡ blockBytes ⌝ }
+    requires { ⌜ j < maxResources ⌝ }
+    ensures { λ r. ⌜ r ≡ L.resourceKind (now (block .entry)) j ⌝ }
+{
+    byte_at(block, resource_kind_place(j))
 }

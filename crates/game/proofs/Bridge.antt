@@ -1,5 +1,6 @@
 -- Between document 003 and positions: moves, plays and computations, strategies, truth.
 pub mod Proper
+pub mod Costs
 pub mod Moves
 pub mod Plays
 pub mod Strategies

@@ -1,7 +1,7 @@
 -- The structure and the formulas that a block holds (document 01, "The job").
 use mathlib.Core.Bool.{Bool, cond}
 use mathlib.Core.Logic.{_↔_}
-use Prim.Native.Nat.{ℕ, zero, suc, _/_, _%_, _^_, _<_}
+use Prim.Native.Nat.{ℕ, zero, suc, _+_, _/_, _%_, _^_, _<_}
 use lib.Dec.{eqb, ltb}
 use Rattle.block.specs.Decide.{Bit}
 use Rattle.block.specs.Layout as L
@@ -16,6 +16,10 @@ use Rattle.game.specs.Play.{Objective, CoalitionWins}
 abbrev pub bit : ℕ → ℕ → Bool
 bit m i = eqb (m / 2 ^ i % 2) 1
 
+-- how costs combine in a resource of kind k: they add up, or the largest stands for all (document 02, R-3)
+abbrev pub combineOf : ℕ → ℕ → ℕ → ℕ
+combineOf k x y = cond (eqb k L.sumKind) (x + y) (cond (ltb x y) y x)
+
 abbrev pub structureOf : Block → Structure
 structureOf b = record {
   agents = L.agents b;
@@ -24,6 +28,7 @@ structureOf b = record {
   holds = λ p s. bit (L.mask b s) p;
   actions = L.count b;
   cost = L.cost b;
+  combine = λ r. combineOf (L.resourceKind b r);
   next = λ s σ. L.next b s (joint (L.agents b) σ);
 }
 

@@ -46,6 +46,8 @@ pub record Structure : Type 0 where
   pub actions : ℕ → ℕ → ℕ
   -- in a state, what an agent's action takes of a resource
   pub cost : ℕ → ℕ → ℕ → ℕ → ℕ
+  -- in a resource, what the costs of two agents of a coalition come to in one move; document 003 adds them
+  pub combine : ℕ → ℕ → ℕ → ℕ
   -- the next state, when each agent does its action
   pub next : ℕ → Joint → ℕ
 
@@ -82,13 +84,21 @@ module _ (S : Structure) where
     abbrev pub Outcome : ℕ → Joint → ℕ → Type 0
     Outcome q σ q′ = (m : Joint) × Available q m × Agree m σ × (S .next q m ≡ q′)
 
-    -- the cost of a move: the sum over A's agents, here over those among the first n
+    -- the cost of a move: the costs of A's agents combined, here of those among the first n
     abbrev pub costUpTo : ℕ → ℕ → Joint → ℕ → ℕ
     costUpTo zero q σ r = 0
-    costUpTo (suc n) q σ r = costUpTo n q σ r + cond (A n) (S .cost q n (σ n) r) 0
+    costUpTo (suc n) q σ r = cond (A n) (S .combine r (costUpTo n q σ r) (S .cost q n (σ n) r)) (costUpTo n q σ r)
 
     abbrev pub moveCost : ℕ → Joint → ℕ → ℕ
     moveCost q σ r = costUpTo (S .agents) q σ r
+
+    -- definition 2's own cost, the sum over A's agents: moveCost where the structure adds (proofs/Bridge/Costs, `sum-cost`)
+    abbrev pub sumUpTo : ℕ → ℕ → Joint → ℕ → ℕ
+    sumUpTo zero q σ r = 0
+    sumUpTo (suc n) q σ r = sumUpTo n q σ r + cond (A n) (S .cost q n (σ n) r) 0
+
+    abbrev pub sumCost : ℕ → Joint → ℕ → ℕ
+    sumCost q σ r = sumUpTo (S .agents) q σ r
 
     -- definition 3: a move of A for each sequence that ends in q
     abbrev pub IsStrategy : Strategy → Type 0

@@ -9,7 +9,7 @@ ghost use Rattle.block.specs.Inner.Valid.{Valid};
 ghost use Rattle.game.specs.Rbatl.{moveCost};
 ghost use Rattle.game.specs.Position.{MoveOf};
 ghost use Rattle.game.specs.Inner.Parts.{partOf};
-ghost use Rattle.game.specs.Model.{bit, structureOf};
+ghost use Rattle.game.specs.Model.{bit, combineOf, structureOf};
 ghost use Rattle.turns.specs.Inner.Rules.{ReplyTo, SideMove};
 
 // The mask of all agents.
@@ -32,25 +32,40 @@ fn part(team: usize, joint: usize) -> usize
     r
 }
 
-// What the move m of a team takes of resource j in state s: the sum over the team's agents.
+// What the costs of two agents come to in a resource of this kind: their sum, or the larger.
+fn combined(kind: usize, x: usize, y: usize) -> usize
+    requires { ⌜ (x ≤ maxAgents * maxUnits) × (y ≤ maxUnits) ⌝ }
+    ensures { λ r. ⌜ r ≡ combineOf kind x y ⌝ }
+{
+    if kind == layout::SUM_KIND {
+        return x + y;
+    }
+    if x < y {
+        return y;
+    }
+    x
+}
+
+// What the move m of a team takes of resource j in state s: the costs of the team's agents, combined.
 pub fn cost(block: &[u8], s: usize, team: usize, m: usize, j: usize) -> usize
     requires { ⌜ Valid (now block) ⌝ }
     requires { ⌜ (s < states (now block)) × (j < resources (now block)) ⌝ }
     requires { ⌜ MoveOf (structureOf (now block)) (bit team) s m ⌝ }
     ensures { λ r. ⌜ (r ≡ moveCost (structureOf (now (block .entry))) (bit team) s (digit m) j) × (r ≤ maxAgents * maxUnits) ⌝ }
 {
+    let kind = layout::resource_kind(block, j);
     let n = layout::agents(block);
-    let mut sum = 0;
+    let mut total = 0;
     let mut rest = team;
     let mut k = m;
     for a in 0..n {
         if rest % 2 == 1 {
-            sum += layout::cost(block, s, a, k % 4, j);
+            total = combined(kind, total, layout::cost(block, s, a, k % 4, j));
         }
         rest = rest / 2;
         k = k / 4;
     }
-    sum
+    total
 }
 
 // How many joint actions have a number: four to the number of agents.

@@ -86,6 +86,7 @@ fn in_use(block: &[u8], x: Place) -> bool
         Place::Cost(s, a, k, j) => cost_in_use(block, s, a, k, j),
         Place::Next(s, joint) => next_in_use(block, s, joint),
         Place::Field(i, f) => field_in_use(block, i, f),
+        Place::ResourceKind(j) => j < layout::resources(block),
     }
 }
 

@@ -2,7 +2,7 @@
 use Prim.Native.Nat.{_<_}
 use Rattle.block.specs.Layout.{headerBytes, maxAgents, maxResources, maxStates, maxRows, maxActions, maxJoint, rowBytes}
 use Rattle.block.specs.declared.layout.Place.{Place}
-use Rattle.block.specs.declared.layout.Place.the-variants.{Header, Mask, Count, Cost, Next, Field}
+use Rattle.block.specs.declared.layout.Place.the-variants.{Header, Mask, Count, Cost, Next, Field, ResourceKind}
 
 -- the places of the layout: each number below blockBytes is one of these, and of one only
 abbrev pub InLayout : Place → Type 0
@@ -12,3 +12,4 @@ InLayout (Count s a) = (s < maxStates) × (a < maxAgents)
 InLayout (Cost s a k j) = (s < maxStates) × (a < maxAgents) × (k < maxActions) × (j < maxResources)
 InLayout (Next s joint) = (s < maxStates) × (joint < maxJoint)
 InLayout (Field i f) = (i < maxRows) × (f < rowBytes)
+InLayout (ResourceKind j) = j < maxResources

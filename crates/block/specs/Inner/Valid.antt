@@ -2,12 +2,12 @@
 use mathlib.Core.Path.{_≡_}
 use Prim.Native.Nat.{ℕ, _≤_, _<_, _^_}
 use lib.ListN.{length}
-use Rattle.block.specs.Layout.{Block, blockBytes, maxAgents, maxResources, maxStates, maxPropositions, maxRows, maxActions, maxUnits, byteAt, agents, resources, states, propositions, rows, mask, count, cost, next, kind, left, right, team, bound, unlimited, propKind, untilKind, Strategic, Binary, Available, Used}
+use Rattle.block.specs.Layout.{Block, blockBytes, maxAgents, maxResources, maxStates, maxPropositions, maxRows, maxActions, maxUnits, byteAt, agents, resources, states, propositions, rows, mask, count, cost, next, kind, left, right, team, bound, resourceKind, unlimited, maxKind, propKind, untilKind, Strategic, Binary, Available, Used}
 
 abbrev pub Range : ℕ → ℕ → ℕ → Type 0
 Range low high n = (low ≤ n) × (n ≤ high)
 
--- the length and the sizes are right: every place of the layout can be read
+-- the length, the sizes and the kinds of the resources are right: every place of the layout can be read
 pub record Sized (b : Block) : Type 0 where
   pub bytes : length b ≡ blockBytes
   pub agents-fit : Range 1 maxAgents (agents b)
@@ -15,6 +15,7 @@ pub record Sized (b : Block) : Type 0 where
   pub states-fit : Range 1 maxStates (states b)
   pub propositions-fit : Range 1 maxPropositions (propositions b)
   pub rows-fit : Range 1 maxRows (rows b)
+  pub kinds-fit : (j : ℕ) → j < resources b → resourceKind b j ≤ maxKind
 
 -- each agent has one to four actions in each state
 abbrev pub Counted : Block → Type 0

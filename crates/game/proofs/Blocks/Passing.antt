@@ -15,6 +15,7 @@ use Rattle.game.specs.Model.{structureOf, boundsOf, arenaOf}
 use Rattle.game.proofs.Numbers.Decide.{eq?}
 use Rattle.game.proofs.Numbers.Joint.{joint-cong, joint-below, digit-joint}
 use Rattle.game.proofs.Bridge.Proper.{Proper}
+use Rattle.game.proofs.Bridge.Costs.{combine-none}
 use Rattle.game.proofs.Blocks.Reading.{bound-unlimited, bound-limited, bound-small}
 
 digit-beyond : (n m a : ℕ) → m < 4 ^ n → n ≤ a → digit m a ≡ 0
@@ -43,6 +44,7 @@ module _ (b : Block) (valid : Valid b) where
     few-agents = valid .sized .agents-fit .1;
     acts = λ q a l h. (valid .counted q a l h .0, valid .counted q a l h .1);
     idle-free = λ q a r l h lr. valid .idle-free q a r l h lr;
+    nothing-combined = λ r. combine-none (L.resourceKind b r);
     next-fits = λ q m l available. valid .next-fits q (joint (L.agents b) m) l (joint-available q m l available);
     next-agrees = λ q m m′ same. ap (L.next b q) (joint-cong (L.agents b) m m′ same);
   }

@@ -2,7 +2,7 @@
 use mathlib.Core.Bool.{Bool, cond}
 use mathlib.Core.Path.{_≡_, sym, _∙_, ap, subst}
 use Prim.Native.Nat.{ℕ, _+_, _-_, _/_, _%_, _^_, _≤_, _<_}
-use native.Mathlib.Nat.{add-zero, div-div-eq-div-mul, pow-suc, pow-le-pow-right}
+use native.Mathlib.Nat.{div-div-eq-div-mul, pow-suc, pow-le-pow-right}
 use native.Mathlib.Numerals.{add-one}
 use native.Mathlib.Omega.{arith}
 use borrow.Author.Tests.{eq-eqb, ne-eqb, lt-ltb}
@@ -12,7 +12,7 @@ use Rattle.block.specs.Inner.Valid.{Valid, RowFits}
 use Rattle.game.specs.Rbatl.{Bound, limit, unlimited, costUpTo}
 use Rattle.game.specs.Position.{Position, remaining, MoveOf, Move, Reply, outcome}
 use Rattle.game.specs.Inner.Stocks.{taken}
-use Rattle.game.specs.Model.{bit, structureOf, boundOf, coalitionOf, boundsOf, arenaOf}
+use Rattle.game.specs.Model.{bit, combineOf, structureOf, boundOf, coalitionOf, boundsOf, arenaOf}
 use Rattle.game.proofs.Numbers.Decide.{lt?}
 use Rattle.game.proofs.Numbers.Joint.{joint-below, joint-digit}
 use Rattle.game.proofs.Bridge.Proper.{Proper}
@@ -29,18 +29,22 @@ module _ (b : Block) (proper : Proper (structureOf b)) (i : ℕ) (p : Position) 
   pub outcome-state : outcome (arenaOf b i) p m r .state ≡ L.next b (p .state) (m + r)
   outcome-state = ap (L.next b (p .state)) (joint-digit (L.agents b) (m + r) sum-below)
 
--- one agent's part of a move's cost
+-- one agent's part of a move's cost, where it is in the team or not
+abbrev by-part : Block → ℕ → ℕ → ℕ → ℕ → ℕ → Bool → ℕ
+by-part b team m s j a t =
+    let before = costUpTo (structureOf b) (bit team) a s (digit m) j in
+    cond t (combineOf (L.resourceKind b j) before (L.cost b s a (digit m a) j)) before
+
 module _ (b : Block) (valid : Valid b) (team m s j a : ℕ) (state : s < L.states b) (resource : j < L.resources b) (agent : a < L.agents b) where
-  pub cost-member : team / 2 ^ a % 2 ≡ 1 → costUpTo (structureOf b) (bit team) (a + 1) s (digit m) j ≡ costUpTo (structureOf b) (bit team) a s (digit m) j + L.cost b s a (m / 4 ^ a % 4) j
+  pub cost-member : team / 2 ^ a % 2 ≡ 1 → costUpTo (structureOf b) (bit team) (a + 1) s (digit m) j ≡ combineOf (L.resourceKind b j) (costUpTo (structureOf b) (bit team) a s (digit m) j) (L.cost b s a (m / 4 ^ a % 4) j)
   cost-member e =
       ap (λ (n : ℕ). costUpTo (structureOf b) (bit team) n s (digit m) j) (add-one a)
-      ∙ ap (λ (t : Bool). costUpTo (structureOf b) (bit team) a s (digit m) j + cond t (L.cost b s a (digit m a) j) 0) (eq-eqb (team / 2 ^ a % 2) 1 e)
+      ∙ ap (by-part b team m s j a) (eq-eqb (team / 2 ^ a % 2) 1 e)
 
   pub cost-other : (team / 2 ^ a % 2 ≡ 1 → ⊥) → costUpTo (structureOf b) (bit team) (a + 1) s (digit m) j ≡ costUpTo (structureOf b) (bit team) a s (digit m) j
   cost-other ne =
       ap (λ (n : ℕ). costUpTo (structureOf b) (bit team) n s (digit m) j) (add-one a)
-      ∙ ap (λ (t : Bool). costUpTo (structureOf b) (bit team) a s (digit m) j + cond t (L.cost b s a (digit m a) j) 0) (ne-eqb (team / 2 ^ a % 2) 1 ne)
-      ∙ add-zero _
+      ∙ ap (by-part b team m s j a) (ne-eqb (team / 2 ^ a % 2) 1 ne)
 
   pub cost-small : MoveOf (structureOf b) (bit team) s m → team / 2 ^ a % 2 ≡ 1 → L.cost b s a (m / 4 ^ a % 4) j ≤ 15
   cost-small move e = valid .cost-fits s a (digit m a) j state agent (subst (λ (t : Bool). cond t (digit m a < L.count b s a) (digit m a ≡ 0)) (eq-eqb (team / 2 ^ a % 2) 1 e) (move .1 a agent)) resource

@@ -11,6 +11,7 @@ use Rattle.game.specs.Model.{structureOf}
 use Rattle.game.proofs.Numbers.Decide.{all-below, both?, either?, eq?, from-yes, implies?, isYes, le?, lt?}
 use Rattle.game.proofs.Numbers.Joint.{joint-cong, joint-below}
 use Rattle.game.proofs.Bridge.Proper.{Proper}
+use Rattle.game.proofs.Bridge.Costs.{combine-none}
 
 module _ (b : Block) where
   abbrev ActsTest : ℕ → Type 0
@@ -40,6 +41,7 @@ module _ (b : Block) where
         few-agents = tests .0;
         acts = λ q a l h. tests .1 q l .0 a h;
         idle-free = λ q a r l h lr. tests .1 q l .1 .0 a h r lr;
+        nothing-combined = λ r. combine-none (L.resourceKind b r);
         next-fits = λ q m l available. tests .1 q l .1 .1 (joint (L.agents b) m) (joint-below (L.agents b) m (λ a h. omega (arith, available a h, tests .1 q l .0 a h)));
         next-agrees = λ q m m′ same. ap (L.next b q) (joint-cong (L.agents b) m m′ same);
       }

@@ -49,28 +49,23 @@ module _ (S : Structure) (proper : Proper S) where
 
   pub idle-costs-nothing : (A : Coalition) (q r : ℕ) → q < S .states → r < S .resources → (n : ℕ) → n ≤ S .agents → costUpTo S A n q (digit 0) r ≡ 0
   idle-costs-nothing A q r l lr zero h = refl
-  idle-costs-nothing A q r l lr (suc n) h =
-      let before : costUpTo S A n q (digit 0) r ≡ 0 = idle-costs-nothing A q r l lr n (omega arith) in
-      let here : cond (A n) (S .cost q n (digit 0 n) r) 0 ≡ 0 = go (A n) in
-      omega arith
+  idle-costs-nothing A q r l lr (suc n) h = go (A n) (idle-costs-nothing A q r l lr n (omega arith))
     where
       free : S .cost q n (digit 0 n) r ≡ 0
       free = rw (digit-idle n) (proper .idle-free q n r l (omega arith) lr)
 
-      go : (t : Bool) → cond t (S .cost q n (digit 0 n) r) 0 ≡ 0
-      go true = free
-      go false = refl
+      go : (t : Bool) → costUpTo S A n q (digit 0) r ≡ 0 → cond t (S .combine r (costUpTo S A n q (digit 0) r) (S .cost q n (digit 0 n) r)) (costUpTo S A n q (digit 0) r) ≡ 0
+      go true before = rw (before, free) (proper .nothing-combined r)
+      go false before = before
 
   pub cost-cong : (A : Coalition) (q r : ℕ) (σ τ : Joint) (n : ℕ) → ((a : ℕ) → a < n → T (A a) → σ a ≡ τ a) → costUpTo S A n q σ r ≡ costUpTo S A n q τ r
   cost-cong A q r σ τ zero e = refl
-  cost-cong A q r σ τ (suc n) e =
-      let before : costUpTo S A n q σ r ≡ costUpTo S A n q τ r = cost-cong A q r σ τ n (λ a l. e a (omega arith)) in
-      let here : cond (A n) (S .cost q n (σ n) r) 0 ≡ cond (A n) (S .cost q n (τ n) r) 0 = go (A n) (e n (omega arith)) in
-      omega arith
+  cost-cong A q r σ τ (suc n) e = go (A n) (e n (omega arith)) (cost-cong A q r σ τ n (λ a l. e a (omega arith)))
     where
-      go : (t : Bool) → (T t → σ n ≡ τ n) → cond t (S .cost q n (σ n) r) 0 ≡ cond t (S .cost q n (τ n) r) 0
-      go true g = ap (λ (k : ℕ). S .cost q n k r) (g tt)
-      go false g = refl
+      go : (t : Bool) → (T t → σ n ≡ τ n) → costUpTo S A n q σ r ≡ costUpTo S A n q τ r →
+          cond t (S .combine r (costUpTo S A n q σ r) (S .cost q n (σ n) r)) (costUpTo S A n q σ r) ≡ cond t (S .combine r (costUpTo S A n q τ r) (S .cost q n (τ n) r)) (costUpTo S A n q τ r)
+      go true g before = rw (before, g tt) refl
+      go false g before = before
 
   module _ (A : Coalition) (q : ℕ) where
     -- a move and a reply are the number of one joint action

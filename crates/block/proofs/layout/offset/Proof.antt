@@ -38,6 +38,12 @@ enum-known-x-6 c = search needs
 field-place-requires : tie.Need-field-place-requires
 field-place-requires c κs = rw (c .before .x6 .given .1) at (c .before .before .before .pre)
 
+enum-known-x-7 : tie.Need-enum-known-x-7
+enum-known-x-7 c = search needs
+
+resource-kind-place-requires : tie.Need-resource-kind-place-requires
+resource-kind-place-requires c κs = rw (c .before .x7 .given .1) at (c .before .before .before .pre)
+
 returns : tie.Need-returns
 returns c =
     let low = rw (c .before .x .given .1) at (c .before .before .before .pre) in
@@ -58,6 +64,9 @@ returns-5 c = rw (c .before .before .x5 .given .1) (c .next-place .ensures)
 returns-6 : tie.Need-returns-6
 returns-6 c = rw (c .before .before .x6 .given .1) (c .field-place .ensures)
 
+returns-7 : tie.Need-returns-7
+returns-7 c = rw (c .before .before .x7 .given .1) (c .resource-kind-place .ensures)
+
 pub offset-spec : {M : Type 1} → statement M
 offset-spec =
     tie.close
@@ -73,9 +82,12 @@ offset-spec =
     next-place-requires
     enum-known-x-6
     field-place-requires
+    enum-known-x-7
+    resource-kind-place-requires
     returns
     returns-2
     returns-3
     returns-4
     returns-5
-    returns-6)
+    returns-6
+    returns-7)

@@ -40,6 +40,12 @@ enum-known-x-5 c = search needs
 field-in-use-requires : tie.Need-field-in-use-requires
 field-in-use-requires c κs = search needs
 
+enum-known-x-6 : tie.Need-enum-known-x-6
+enum-known-x-6 c = search needs
+
+resources-requires : tie.Need-resources-requires
+resources-requires c κs = search needs
+
 returns : tie.Need-returns
 returns c = rw (c .enum-told .given .1) (holds (rw (c .enum-told .given .1) at (c .before .before .before .pre .1)))
 
@@ -58,6 +64,9 @@ returns-5 c = rw (c .before .before .x4 .given .1) (c .next-in-use .ensures)
 returns-6 : tie.Need-returns-6
 returns-6 c = rw (c .before .before .x5 .given .1) (c .field-in-use .ensures)
 
+returns-7 : tie.Need-returns-7
+returns-7 c = rw (c .before .before .x6 .given .1) (rw (← c .resources .ensures) (D.less _ _))
+
 pub in-use-spec : {M : Type 1} → statement M
 in-use-spec =
     tie.close
@@ -73,9 +82,12 @@ in-use-spec =
     next-in-use-requires
     enum-known-x-5
     field-in-use-requires
+    enum-known-x-6
+    resources-requires
     returns
     returns-2
     returns-3
     returns-4
     returns-5
-    returns-6)
+    returns-6
+    returns-7)

@@ -1,0 +1,79 @@
+-- What the costs of a coalition's agents come to in a move, by how the structure combines them.
+--     sum-cost          where the costs are added, this is document 003's definition 2
+--     one-cost          a coalition of one agent pays that agent's cost, added or not
+-- Assumes nothing.
+use mathlib.Core.Bool.{Bool, true, false, cond}
+use mathlib.Core.Logic.{⊎-elim}
+use mathlib.Core.Path.{_≡_, refl, sym, _∙_}
+use Prim.Native.Nat.{ℕ, zero, suc, _+_, _≤_, _<_}
+use native.Mathlib.Nat.{eq-or-lt-of-le}
+use native.Mathlib.Omega.{arith}
+use lib.Dec.{eqb, ltb}
+use borrow.Author.Tests.{eq-eqb, ne-eqb, lt-ltb}
+use Rattle.block.specs.Layout as L
+use Rattle.block.specs.Layout.{Block}
+use Rattle.game.specs.Rbatl.{Joint, Coalition, Structure, costUpTo, moveCost, sumUpTo, sumCost}
+use Rattle.game.specs.Model.{combineOf, structureOf}
+
+-- two costs, added or not
+pub combine-none : (k : ℕ) → combineOf k 0 0 ≡ 0
+combine-none k = go (eqb k L.sumKind)
+  where
+    go : (t : Bool) → cond t (0 + 0) (cond (ltb 0 0) 0 0) ≡ 0
+    go true = refl
+    go false = refl
+
+combine-first : (k x : ℕ) → combineOf k 0 x ≡ x
+combine-first k x = go (eqb k L.sumKind) x
+  where
+    go : (t : Bool) (x : ℕ) → cond t (0 + x) (cond (ltb 0 x) x 0) ≡ x
+    go true x = omega arith
+    go false zero = refl
+    go false (suc x) = rw (lt-ltb 0 (suc x) (omega arith)) refl
+
+pub combine-most : (k x y : ℕ) → combineOf k x y ≤ x + y
+combine-most k x y = go (eqb k L.sumKind) (ltb x y)
+  where
+    go : (t u : Bool) → cond t (x + y) (cond u y x) ≤ x + y
+    go true u = omega arith
+    go false true = omega arith
+    go false false = omega arith
+
+module _ (S : Structure) (A : Coalition) (q : ℕ) (σ : Joint) (r : ℕ) where
+  sum-up-to : ((x y : ℕ) → S .combine r x y ≡ x + y) → (n : ℕ) → costUpTo S A n q σ r ≡ sumUpTo S A n q σ r
+  sum-up-to adds zero = refl
+  sum-up-to adds (suc n) = go (A n) (sum-up-to adds n)
+    where
+      go : (t : Bool) → costUpTo S A n q σ r ≡ sumUpTo S A n q σ r → cond t (S .combine r (costUpTo S A n q σ r) (S .cost q n (σ n) r)) (costUpTo S A n q σ r) ≡ sumUpTo S A n q σ r + cond t (S .cost q n (σ n) r) 0
+      go true before = adds (costUpTo S A n q σ r) (S .cost q n (σ n) r) ∙ omega arith
+      go false before = omega arith
+
+  pub sum-cost : ((x y : ℕ) → S .combine r x y ≡ x + y) → moveCost S A q σ r ≡ sumCost S A q σ r
+  sum-cost adds = sum-up-to adds (S .agents)
+
+  -- the coalition {a}
+  module _ (a : ℕ) (alone : (c : ℕ) → A c ≡ eqb c a) (starts : (x : ℕ) → S .combine r 0 x ≡ x) where
+    none-before : (n : ℕ) → n ≤ a → costUpTo S A n q σ r ≡ 0
+    none-before zero h = refl
+    none-before (suc n) h = rw (alone n, ne-eqb n a (λ e. omega arith)) (none-before n (omega arith))
+
+    one-up-to : (n : ℕ) → a < n → costUpTo S A n q σ r ≡ S .cost q a (σ a) r
+    one-up-to zero h = absurd (omega arith)
+    one-up-to (suc n) h = let last : a ≤ n = omega arith in ⊎-elim here (there (one-up-to n)) (eq-or-lt-of-le last)
+      where
+        here : a ≡ n → costUpTo S A (suc n) q σ r ≡ S .cost q a (σ a) r
+        here e = rw (alone n, eq-eqb n a (sym e), none-before n (omega arith), ← e) (starts (S .cost q a (σ a) r))
+
+        there : (a < n → costUpTo S A n q σ r ≡ S .cost q a (σ a) r) → a < n → costUpTo S A (suc n) q σ r ≡ S .cost q a (σ a) r
+        there before l = rw (alone n, ne-eqb n a (λ e. omega arith)) (before l)
+
+    pub one-cost : a < S .agents → moveCost S A q σ r ≡ S .cost q a (σ a) r
+    one-cost h = one-up-to (S .agents) h
+
+-- the same of a block, by the kind of the resource
+module _ (b : Block) (A : Coalition) (q : ℕ) (σ : Joint) (r : ℕ) where
+  pub block-sum-cost : L.resourceKind b r ≡ L.sumKind → moveCost (structureOf b) A q σ r ≡ sumCost (structureOf b) A q σ r
+  block-sum-cost e = sum-cost (structureOf b) A q σ r (λ x y. rw e refl)
+
+  pub block-one-cost : (a : ℕ) → ((c : ℕ) → A c ≡ eqb c a) → a < L.agents b → moveCost (structureOf b) A q σ r ≡ L.cost b q a (σ a) r
+  block-one-cost a alone = one-cost (structureOf b) A q σ r a alone (combine-first (L.resourceKind b r))
