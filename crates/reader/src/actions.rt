@@ -5,7 +5,7 @@ use block::refusal::Refusal;
 use scan::step::Range;
 use scan::step::Step;
 use scan::steps::past_field;
-use text::ends::cost_end;
+use text::ends::list_end;
 use text::sizes::Sizes;
 ghost use mathlib.Core.Path.{_≡_};
 ghost use Prim.Native.Nat.{_+_, _≤_, _<_};
@@ -37,10 +37,10 @@ struct Actor {
 fn cost(text: &[u8], at: Step, job: &mut [u8], who: Actor, k: usize, j: usize, left: usize) -> Step
     requires { ⌜ Inside (now text) at × (length (now job) ≡ blockBytes) ⌝ }
     requires { ⌜ (who .state < maxStates) × (who .agent < maxAgents) × (k < maxActions) × (j < maxResources) ⌝ }
-    ensures { λ r. ⌜ ((f : Format) → resume (now (text .entry)) at (read (value (J.number (J.costEnd left) 0 (J.costLimit k) Refusal.State) (Place.Cost (who .state) (who .agent) k j) (λ v. f)) (now (job .entry))) ≡ resume (now (text .entry)) r (read f (now (job .exit)))) ⌝ }
+    ensures { λ r. ⌜ ((f : Format) → resume (now (text .entry)) at (read (value (J.number (J.listEnd left) 0 (J.costLimit k) Refusal.State) (Place.Cost (who .state) (who .agent) k j) (λ v. f)) (now (job .entry))) ≡ resume (now (text .entry)) r (read f (now (job .exit)))) ⌝ }
     ensures { λ r. ⌜ Inside (now (text .entry)) r ⌝ }
 {
-    let sep = cost_end(left) as usize;
+    let sep = list_end(left) as usize;
     let limit = cost_limit(k);
     past_field(
         text,

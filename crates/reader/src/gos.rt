@@ -8,8 +8,9 @@ use scan::step::Step;
 use scan::steps::past_field;
 use scan::steps::past_index;
 use scan::steps::past_word;
-use text::LINE_END;
+use text::ends::next_end;
 use text::joint::possible;
+use text::sizes::Edition;
 use text::sizes::Sizes;
 ghost use mathlib.Core.Bool.{cond};
 ghost use mathlib.Core.Path.{_≡_};
@@ -33,31 +34,42 @@ fn joint_fields(text: &[u8], at: Step, joint: usize, agents: usize) -> Step
     next
 }
 
-fn go_line(text: &[u8], at: Step, job: &mut [u8], z: Sizes, s: usize, joint: usize) -> Step
-    requires { ⌜ Inside (now text) at × (length (now job) ≡ blockBytes) ⌝ }
-    requires { ⌜ Fitting z × ((s < maxStates) × (joint < maxJoint)) ⌝ }
-    ensures { λ r. ⌜ ((f : Format) → resume (now (text .entry)) at (read (J.goLine z s joint f) (now (job .entry))) ≡ resume (now (text .entry)) r (read f (now (job .exit)))) ⌝ }
+// go,s,
+fn go_word(text: &[u8], at: Step, s: usize) -> Step
+    requires { ⌜ Inside (now text) at × (s < maxStates) ⌝ }
+    ensures { λ r. ⌜ ((f : Format) (b : Block) → resume (now (text .entry)) at (read (J.goWord s f) b) ≡ resume (now (text .entry)) r (read f b)) ⌝ }
     ensures { λ r. ⌜ Inside (now (text .entry)) r ⌝ }
 {
     let named = past_word(text, at, b"go,");
-    let state = past_index(text, named, s);
-    let acted = joint_fields(text, state, joint, z.agents);
-    past_field(
-        text,
-        acted,
-        job,
-        Place::Next(s, joint),
-        Range {
-            sep: LINE_END,
-            low: 0,
-            limit: z.states,
-            refusal: Refusal::Next,
-        },
-    )
+    past_index(text, named, s)
 }
 
-// The line of a joint action, where it can be done.
-fn go(
+// The beginning of a joint action's line, where it has one.
+fn go_actions(text: &[u8], at: Step, z: Sizes, s: usize, joint: usize) -> Step
+    requires { ⌜ Inside (now text) at × Fitting z × (s < maxStates) ⌝ }
+    ensures { λ r. ⌜ ((f : Format) (b : Block) → resume (now (text .entry)) at (read (J.goActions z s joint f) b) ≡ resume (now (text .entry)) r (read f b)) ⌝ }
+    ensures { λ r. ⌜ Inside (now (text .entry)) r ⌝ }
+{
+    match z.edition {
+        Edition::First => joint_fields(text, go_word(text, at, s), joint, z.agents),
+        Edition::Second => at,
+    }
+}
+
+// The beginning of the state's line, where it has one.
+fn go_state(text: &[u8], at: Step, z: Sizes, s: usize) -> Step
+    requires { ⌜ Inside (now text) at × (s < maxStates) ⌝ }
+    ensures { λ r. ⌜ ((f : Format) (b : Block) → resume (now (text .entry)) at (read (J.goState z s f) b) ≡ resume (now (text .entry)) r (read f b)) ⌝ }
+    ensures { λ r. ⌜ Inside (now (text .entry)) r ⌝ }
+{
+    match z.edition {
+        Edition::First => at,
+        Edition::Second => go_word(text, at, s),
+    }
+}
+
+// The next state of a joint action.
+fn next_field(
     text: &[u8],
     at: Step,
     job: &mut [u8],
@@ -68,15 +80,47 @@ fn go(
 ) -> Step
     requires { ⌜ Inside (now text) at × (length (now job) ≡ blockBytes) ⌝ }
     requires { ⌜ Fitting z × ((s < maxStates) × (joint < maxJoint)) ⌝ }
-    ensures { λ r. ⌜ ((f : Format) → resume (now (text .entry)) at (read (cond (J.possible counts joint) (J.goLine z s joint f) f) (now (job .entry))) ≡ resume (now (text .entry)) r (read f (now (job .exit)))) ⌝ }
+    ensures { λ r. ⌜ ((f : Format) → resume (now (text .entry)) at (read (J.nextField z s counts joint f) (now (job .entry))) ≡ resume (now (text .entry)) r (read f (now (job .exit)))) ⌝ }
+    ensures { λ r. ⌜ Inside (now (text .entry)) r ⌝ }
+{
+    let acted = go_actions(text, at, z, s, joint);
+    let sep = next_end(z.edition, counts, joint) as usize;
+    past_field(
+        text,
+        acted,
+        job,
+        Place::Next(s, joint),
+        Range {
+            sep: sep,
+            low: 0,
+            limit: z.states,
+            refusal: Refusal::Next,
+        },
+    )
+}
+
+// The same, where the joint action can be done.
+fn next_field_if(
+    text: &[u8],
+    at: Step,
+    job: &mut [u8],
+    z: Sizes,
+    s: usize,
+    counts: [usize; layout::MAX_AGENTS],
+    joint: usize,
+) -> Step
+    requires { ⌜ Inside (now text) at × (length (now job) ≡ blockBytes) ⌝ }
+    requires { ⌜ Fitting z × ((s < maxStates) × (joint < maxJoint)) ⌝ }
+    ensures { λ r. ⌜ ((f : Format) → resume (now (text .entry)) at (read (cond (J.possible counts joint) (J.nextField z s counts joint f) f) (now (job .entry))) ≡ resume (now (text .entry)) r (read f (now (job .exit)))) ⌝ }
     ensures { λ r. ⌜ Inside (now (text .entry)) r ⌝ }
 {
     if possible(counts, joint) {
-        return go_line(text, at, job, z, s, joint);
+        return next_field(text, at, job, z, s, counts, joint);
     }
     at
 }
 
+// The next states of a state.
 pub fn gos(
     text: &[u8],
     at: Step,
@@ -87,12 +131,12 @@ pub fn gos(
 ) -> Step
     requires { ⌜ Inside (now text) at × (length (now job) ≡ blockBytes) ⌝ }
     requires { ⌜ Fitting z × (s < maxStates) ⌝ }
-    ensures { λ r. ⌜ ((f : Format) → resume (now (text .entry)) at (read (J.goLines z s counts maxJoint 0 f) (now (job .entry))) ≡ resume (now (text .entry)) r (read f (now (job .exit)))) ⌝ }
+    ensures { λ r. ⌜ ((f : Format) → resume (now (text .entry)) at (read (J.goState z s (J.nextFields z s counts maxJoint 0 f)) (now (job .entry))) ≡ resume (now (text .entry)) r (read f (now (job .exit)))) ⌝ }
     ensures { λ r. ⌜ Inside (now (text .entry)) r ⌝ }
 {
-    let mut next = at;
+    let mut next = go_state(text, at, z, s);
     for joint in 0..layout::JOINT_ACTIONS {
-        next = go(text, next, job, z, s, counts, joint);
+        next = next_field_if(text, next, job, z, s, counts, joint);
     }
     next
 }

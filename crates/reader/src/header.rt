@@ -14,24 +14,26 @@ use block::refusal::Refusal;
 use scan::step::Range;
 use scan::step::Step;
 use scan::step::Valued;
+use scan::steps::past_resource;
 use scan::steps::past_value;
 use scan::steps::past_word;
 use scan::steps::value_at;
 use scan::steps::value_or;
 use text::COMMA;
-use text::LINE_END;
+use text::ends::sizes_end;
+use text::sizes::Edition;
 use text::sizes::Sizes;
 ghost use mathlib.Core.Path.{_≡_};
 ghost use Prim.Native.Nat.{ℕ, _≤_, _<_};
 ghost use lib.ListN.{length};
-ghost use Rattle.block.specs.Layout.{blockBytes, headerBytes};
-ghost use Rattle.text.specs.Format.{Format, read};
+ghost use Rattle.block.specs.Layout.{Block, blockBytes, headerBytes, maxResources};
+ghost use Rattle.text.specs.Format.{Format, exactly, read};
 ghost use Rattle.text.specs.Job as J;
 ghost use Rattle.text.specs.Numeral.{numbers};
 ghost use Rattle.text.specs.Inner.Fields.{Ends};
 ghost use Rattle.scan.specs.Inner.Step.{resume, Inside, Fitting};
 
-// The sizes of the job, or what stands in for them after a refusal, and the step past the line.
+// The edition and the sizes of the job, or what stands in for them after a refusal, and the step past the line.
 pub struct Opened {
     pub z: Sizes,
     pub next: Step,
@@ -62,12 +64,37 @@ fn size(text: &[u8], at: Step, job: &mut [u8], f: usize, sep: usize, high: usize
     Valued { value, next }
 }
 
-pub fn header(text: &[u8], job: &mut [u8]) -> Opened
+// Past the first word.
+fn named(text: &[u8], e: Edition) -> Step
+    ensures { λ r. ⌜ ((f : Format) (b : Block) → read (exactly (J.jobWord e) f) b (now (text .entry)) ≡ resume (now (text .entry)) r (read f b)) ⌝ }
+    ensures { λ r. ⌜ Inside (now (text .entry)) r ⌝ }
+{
+    match e {
+        Edition::First => past_word(text, Step::Next(0), b"job,"),
+        Edition::Second => past_word(text, Step::Next(0), b"job2,"),
+    }
+}
+
+// The kinds of the resources.
+fn resources(text: &[u8], at: Step, job: &mut [u8], e: Edition, resources: usize) -> Step
+    requires { ⌜ Inside (now text) at × (length (now job) ≡ blockBytes) ⌝ }
+    requires { ⌜ resources ≤ maxResources ⌝ }
+    ensures { λ r. ⌜ ((f : Format) → resume (now (text .entry)) at (read (J.resourceFields e resources 0 f) (now (job .entry))) ≡ resume (now (text .entry)) r (read f (now (job .exit)))) ⌝ }
+    ensures { λ r. ⌜ Inside (now (text .entry)) r ⌝ }
+{
+    let mut next = at;
+    for j in 0..resources {
+        next = past_resource(text, next, job, j, e, resources - (j + 1));
+    }
+    next
+}
+
+pub fn header(text: &[u8], job: &mut [u8], e: Edition) -> Opened
     requires { ⌜ length (now job) ≡ blockBytes ⌝ }
-    ensures { λ r. ⌜ ((f : Sizes → Format) → read (J.headerLine f) (now (job .entry)) (now (text .entry)) ≡ resume (now (text .entry)) (r .next) (read (f (r .z)) (now (job .exit)))) ⌝ }
+    ensures { λ r. ⌜ ((f : Sizes → Format) → read (J.headerLine e f) (now (job .entry)) (now (text .entry)) ≡ resume (now (text .entry)) (r .next) (read (f (r .z)) (now (job .exit)))) ⌝ }
     ensures { λ r. ⌜ Inside (now (text .entry)) (r .next) × Fitting (r .z) ⌝ }
 {
-    let named = past_word(text, Step::Next(0), b"job,");
+    let named = named(text, e);
     let n = size(text, named, job, AGENTS_BYTE, COMMA, MAX_AGENTS);
     let after_n = n.next;
     let r = size(text, after_n, job, RESOURCES_BYTE, COMMA, MAX_RESOURCES);
@@ -83,9 +110,11 @@ pub fn header(text: &[u8], job: &mut [u8]) -> Opened
         MAX_PROPOSITIONS,
     );
     let after_p = p.next;
-    let w = size(text, after_p, job, ROWS_BYTE, LINE_END, MAX_ROWS);
-    let next = w.next;
+    let sep = sizes_end(e) as usize;
+    let w = size(text, after_p, job, ROWS_BYTE, sep, MAX_ROWS);
+    let next = resources(text, w.next, job, e, r.value);
     let z = Sizes {
+        edition: e,
         agents: n.value,
         resources: r.value,
         states: m.value,

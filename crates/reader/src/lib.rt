@@ -12,8 +12,10 @@ use block::refusal::Refusal;
 use header::header;
 use rows::rows;
 use scan::step::Step;
+use scan::steps::starts;
 use states::states;
 use text::TEXT_BYTES;
+use text::sizes::Edition;
 ghost use mathlib.Core.Path.{_≡_};
 ghost use lib.ListN.{length};
 ghost use Rattle.block.specs.Layout.{blockBytes};
@@ -21,15 +23,25 @@ ghost use Rattle.block.specs.Refusal.{Answers};
 ghost use Rattle.text.specs.Format.{end, read};
 ghost use Rattle.text.specs.Job as J;
 ghost use Rattle.scan.specs.Inner.Step.{resume, outcomeAt, Inside};
-ghost use Rattle.text.specs.Text.{readText, readCall, answerTo, blockAfter, StopsAt, stopRules, Exact, Numbered};
+ghost use Rattle.text.specs.Text.{editionOf, readText, readCall, answerTo, blockAfter, StopsAt, stopRules, Exact, Numbered};
+
+// The edition, which the first word tells.
+fn edition(text: &[u8]) -> Edition
+    ensures { λ r. ⌜ r ≡ editionOf (now (text .entry)) ⌝ }
+{
+    if starts(text, b"job2,") {
+        return Edition::Second;
+    }
+    Edition::First
+}
 
 // All lines of the text.
-fn lines(text: &[u8], job: &mut [u8]) -> Step
+fn lines(text: &[u8], job: &mut [u8], e: Edition) -> Step
     requires { ⌜ length (now job) ≡ blockBytes ⌝ }
-    ensures { λ r. ⌜ read J.job (now (job .entry)) (now (text .entry)) ≡ resume (now (text .entry)) r (read end (now (job .exit))) ⌝ }
+    ensures { λ r. ⌜ read (J.job e) (now (job .entry)) (now (text .entry)) ≡ resume (now (text .entry)) r (read end (now (job .exit))) ⌝ }
     ensures { λ r. ⌜ Inside (now (text .entry)) r ⌝ }
 {
-    let opened = header(text, job);
+    let opened = header(text, job, e);
     let z = opened.z;
     let first = opened.next;
     let next = states(text, first, job, z);
@@ -39,10 +51,10 @@ fn lines(text: &[u8], job: &mut [u8]) -> Step
 // Reads the text into a block; nothing may follow its last line.
 fn read_into(text: &[u8], job: &mut [u8]) -> Step
     requires { ⌜ length (now job) ≡ blockBytes ⌝ }
-    ensures { λ r. ⌜ read J.job (now (job .entry)) (now (text .entry)) ≡ outcomeAt (now (text .entry)) r (now (job .exit)) ⌝ }
+    ensures { λ r. ⌜ read (J.job (editionOf (now (text .entry)))) (now (job .entry)) (now (text .entry)) ≡ outcomeAt (now (text .entry)) r (now (job .exit)) ⌝ }
     ensures { λ r. ⌜ Inside (now (text .entry)) r ⌝ }
 {
-    match lines(text, job) {
+    match lines(text, job, edition(text)) {
         Step::Next(at) => {
             if at < text.len() {
                 Step::Refused(Refusal::Form, at)

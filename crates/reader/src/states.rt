@@ -47,7 +47,7 @@ fn state_line(text: &[u8], at: Step, job: &mut [u8], z: Sizes, s: usize) -> Step
 fn moves(text: &[u8], at: Step, job: &mut [u8], z: Sizes, s: usize) -> Step
     requires { ⌜ Inside (now text) at × (length (now job) ≡ blockBytes) ⌝ }
     requires { ⌜ Fitting z × (s < maxStates) ⌝ }
-    ensures { λ r. ⌜ ((f : Format) → resume (now (text .entry)) at (read (J.agentLines z s (z .agents) 0 J.noCounts (λ counts. J.goLines z s counts maxJoint 0 f)) (now (job .entry))) ≡ resume (now (text .entry)) r (read f (now (job .exit)))) ⌝ }
+    ensures { λ r. ⌜ ((f : Format) → resume (now (text .entry)) at (read (J.agentLines z s (z .agents) 0 J.noCounts (λ counts. J.goState z s (J.nextFields z s counts maxJoint 0 f))) (now (job .entry))) ≡ resume (now (text .entry)) r (read f (now (job .exit)))) ⌝ }
     ensures { λ r. ⌜ Inside (now (text .entry)) r ⌝ }
 {
     let agents = z.agents;

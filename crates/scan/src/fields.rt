@@ -1,4 +1,4 @@
-// The fields of a line: numbers that are known, bytes of the block, bounds, and the words of the rows.
+// The fields of a line: numbers that are known, bytes of the block, bounds, and the words of rows and resources.
 use crate::numeral::number;
 use crate::step::Numeral;
 use crate::step::Range;
@@ -10,6 +10,7 @@ use block::layout::Place;
 use block::refusal::Refusal;
 use text::COMMA;
 use text::NUMBERS;
+use text::sizes::Edition;
 ghost use mathlib.Core.Path.{_≡_};
 ghost use Prim.Native.Nat.{ℕ, _≤_, _<_};
 ghost use lib.ListN.{length, drop, set};
@@ -17,7 +18,7 @@ ghost use Rattle.block.specs.Layout.{Block, blockBytes, kinds, placeOf};
 ghost use Rattle.block.specs.Inner.Places.{InLayout};
 ghost use Rattle.text.specs.Format.{Format, value, read};
 ghost use Rattle.text.specs.Job as J;
-ghost use Rattle.scan.specs.Inner.Step.{resume, resumeWith, Inside, InsideWith, InsideNumeral, Ranged, foundAt};
+ghost use Rattle.scan.specs.Inner.Step.{resume, resumeWith, Inside, InsideWith, InsideNumeral, Ranged, NumberedBelow, foundAt, valueOf, storedFound};
 ghost use Rattle.text.specs.Numeral.{numbers, search};
 ghost use Rattle.text.specs.Inner.Fields.{Ends};
 
@@ -139,13 +140,8 @@ pub fn kind(text: &[u8], at: usize, job: &mut [u8], x: Place) -> Value
     ensures { λ r. ⌜ InsideWith (now (text .entry)) r ⌝ }
     ensures { λ r. ⌜ Ranged 0 kinds r ⌝ }
 {
-    match kind_at(text, at) {
-        Numeral::Found(k, next) => {
-            put(job, x, k);
-            Value::At(k, next)
-        }
-        Numeral::Missing => Value::Refused(Refusal::Form, at),
-    }
+    let found = kind_at(text, at);
+    stored(found, at, job, x)
 }
 
 fn kind_at(text: &[u8], at: usize) -> Numeral
@@ -159,4 +155,55 @@ fn kind_at(text: &[u8], at: usize) -> Numeral
     let d = word_or(text, at, b"next,", layout::NEXT_KIND, c);
     let e = word_or(text, at, b"always,", layout::ALWAYS_KIND, d);
     word_or(text, at, b"until,", layout::UNTIL_KIND, e)
+}
+
+// The kind of a resource, before left further ones, stored at a place of the block.
+pub fn resource(text: &[u8], at: usize, job: &mut [u8], x: Place, e: Edition, left: usize) -> Value
+    requires { ⌜ at ≤ length (now text) ⌝ }
+    requires { ⌜ (length (now job) ≡ blockBytes) × InLayout x ⌝ }
+    ensures { λ r. ⌜ ((k : ℕ → Format) → read (value (J.resourceSpelling e left) x k) (now (job .entry)) (drop at (now (text .entry))) ≡ resumeWith (now (text .entry)) r (λ v rest. read (k v) (now (job .exit)) rest)) ⌝ }
+    ensures { λ r. ⌜ InsideWith (now (text .entry)) r ⌝ }
+{
+    let found = resource_at(text, at, e, left);
+    stored(found, at, job, x)
+}
+
+// Edition 1 has no word for it, and each is sum.
+fn resource_at(text: &[u8], at: usize, e: Edition, left: usize) -> Numeral
+    requires { ⌜ at ≤ length (now text) ⌝ }
+    ensures { λ r. ⌜ search (J.resourceSpelling e left .spell) (J.resourceSpelling e left .options) (drop at (now (text .entry))) ≡ foundAt (now (text .entry)) r ⌝ }
+    ensures { λ r. ⌜ InsideNumeral (now (text .entry)) r ⌝ }
+{
+    match e {
+        Edition::First => Numeral::Found(layout::SUM_KIND, at),
+        Edition::Second => resource_word(text, at, left),
+    }
+}
+
+fn resource_word(text: &[u8], at: usize, left: usize) -> Numeral
+    requires { ⌜ at ≤ length (now text) ⌝ }
+    ensures { λ r. ⌜ search (J.resourceSpelling Edition.Second left .spell) (J.resourceSpelling Edition.Second left .options) (drop at (now (text .entry))) ≡ foundAt (now (text .entry)) r ⌝ }
+    ensures { λ r. ⌜ InsideNumeral (now (text .entry)) r ⌝ }
+{
+    if left == 0 {
+        let sum = word_or(text, at, b"sum\n", layout::SUM_KIND, Numeral::Missing);
+        return word_or(text, at, b"max\n", layout::MAX_KIND, sum);
+    }
+    let sum = word_or(text, at, b"sum,", layout::SUM_KIND, Numeral::Missing);
+    word_or(text, at, b"max,", layout::MAX_KIND, sum)
+}
+
+// What was found, stored as the byte that it is the number of.
+fn stored(found: Numeral, at: usize, job: &mut [u8], x: Place) -> Value
+    requires { ⌜ (length (now job) ≡ blockBytes) × InLayout x ⌝ }
+    requires { ⌜ NumberedBelow numbers found ⌝ }
+    ensures { λ r. ⌜ (r ≡ valueOf found at) × (now (job .exit) ≡ storedFound (now (job .entry)) x found) ⌝ }
+{
+    match found {
+        Numeral::Found(n, next) => {
+            put(job, x, n);
+            Value::At(n, next)
+        }
+        Numeral::Missing => Value::Refused(Refusal::Form, at),
+    }
 }

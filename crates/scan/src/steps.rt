@@ -3,21 +3,32 @@ use crate::fields::bound;
 use crate::fields::field;
 use crate::fields::index;
 use crate::fields::kind;
+use crate::fields::resource;
 use crate::step::Range;
 use crate::step::Step;
 use crate::step::Value;
+use crate::words::stands;
 use crate::words::word;
 use block::layout::Place;
+use text::sizes::Edition;
 ghost use mathlib.Core.Path.{_≡_};
 ghost use Prim.Native.Nat.{ℕ, _<_};
 ghost use lib.ListN.{length};
-ghost use Rattle.block.specs.Layout.{Block, blockBytes, kinds};
+ghost use Rattle.block.specs.Layout.{Block, blockBytes, kinds, maxResources};
 ghost use Rattle.block.specs.Inner.Places.{InLayout};
 ghost use Rattle.text.specs.Format.{Format, exactly, value, read};
 ghost use Rattle.text.specs.Job as J;
-ghost use Rattle.text.specs.Numeral.{numbers};
+ghost use Rattle.block.specs.Inner.Tests.{Decides};
+ghost use Rattle.text.specs.Numeral.{numbers, Starts};
 ghost use Rattle.text.specs.Inner.Fields.{Ends};
 ghost use Rattle.scan.specs.Inner.Step.{resume, pastValue, valueOr, Ranged, Inside};
+
+// Whether the text begins with the word.
+pub fn starts(text: &[u8], w: &[u8]) -> bool
+    ensures { λ r. ⌜ Decides (Starts (now (w .entry)) (now (text .entry))) r ⌝ }
+{
+    stands(text, 0, w)
+}
 
 // Past the word.
 pub fn past_word(text: &[u8], at: Step, w: &[u8]) -> Step
@@ -88,6 +99,28 @@ pub fn kind_at(text: &[u8], at: Step, job: &mut [u8], x: Place) -> Value
     match at {
         Step::Next(next) => kind(text, next, job, x),
         Step::Refused(r, stop) => Value::Refused(r, stop),
+    }
+}
+
+// The kind of resource j, before left further ones.
+pub fn past_resource(
+    text: &[u8],
+    at: Step,
+    job: &mut [u8],
+    j: usize,
+    e: Edition,
+    left: usize,
+) -> Step
+    requires { ⌜ Inside (now text) at ⌝ }
+    requires { ⌜ (length (now job) ≡ blockBytes) × (j < maxResources) ⌝ }
+    ensures { λ r. ⌜ ((f : Format) → resume (now (text .entry)) at (read (value (J.resourceSpelling e left) (Place.ResourceKind j) (λ v. f)) (now (job .entry))) ≡ resume (now (text .entry)) r (read f (now (job .exit)))) ⌝ }
+    ensures { λ r. ⌜ Inside (now (text .entry)) r ⌝ }
+{
+    match at {
+        Step::Next(next) => {
+            past_value(resource(text, next, job, Place::ResourceKind(j), e, left))
+        }
+        Step::Refused(r, stop) => Step::Refused(r, stop),
     }
 }
 

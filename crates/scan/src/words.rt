@@ -13,7 +13,7 @@ ghost use Rattle.text.specs.Job.{boundSpellings};
 ghost use Rattle.scan.specs.Inner.Step.{resume, foundAt, Inside, InsideNumeral};
 
 // Whether the word stands at a place of the text.
-fn stands(text: &[u8], at: usize, word: &[u8]) -> bool
+pub fn stands(text: &[u8], at: usize, word: &[u8]) -> bool
     requires { ⌜ at ≤ length (now text) ⌝ }
     ensures { λ r. ⌜ Decides (Starts (now (word .entry)) (drop at (now (text .entry)))) r ⌝ }
 {

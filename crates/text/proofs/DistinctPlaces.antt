@@ -11,11 +11,13 @@ use Rattle.block.specs.Layout.{maxJoint, maxAgents, maxResources, maxStates, ma
 use Rattle.block.specs.Inner.Places.{InLayout}
 use Rattle.block.specs.declared.layout.Place.{Place}
 use Rattle.block.specs.declared.refusal.Refusal.{Refusal}
+use Rattle.text.specs.declared.sizes.Edition.{Edition}
+use Rattle.text.specs.declared.sizes.Edition.the-variants.{First, Second}
 use Rattle.text.specs.declared.sizes.Sizes.{Sizes}
 use Rattle.text.specs.Numeral.{comma, lineEnd}
 use Rattle.text.specs.Format.{Spelling, Format, exactly, value}
-use Rattle.text.specs.Job.{number, index, stateLine, costs, actions, actsLine, agentLines, possible, jointFields, goLine, goLines, noCounts, stateLines, states, strategic, binary, boundFields, teamFields, operandFields, rowLine, rowLines, size, headerLine, job}
-use Rattle.text.proofs.Spellings.{Fits, Clear, number-range, number-clear, bound-clear, kind-clear}
+use Rattle.text.specs.Job.{number, index, stateLine, costs, actions, actsLine, agentLines, possible, jointFields, byEdition, lastJoint, nextEnd, goWord, goActions, goState, nextField, nextFields, noCounts, stateLines, states, strategic, binary, boundFields, teamFields, operandFields, rowLine, rowLines, size, resourceFields, sizesEnd, headerLine, job}
+use Rattle.text.proofs.Spellings.{Fits, Clear, number-range, number-clear, bound-clear, kind-clear, resource-clear}
 use Rattle.text.proofs.Formats.{agentTurns, nextTurn, stateTurns, stateTurn, rowTurn, turn, Proper, done, word, field, sooner}
 
 -- the sizes of a job are in range
@@ -46,6 +48,15 @@ sep-small false sep sep′ h h′ = h′
 either-proper : {n : ℕ} (t : Bool) {f g : Format} → Proper n f → Proper n g → Proper n (cond t f g)
 either-proper true h h′ = h
 either-proper false h h′ = h′
+
+by-edition : {n : ℕ} (e : Edition) {f g : Format} → Proper n f → Proper n g → Proper n (byEdition e f g)
+by-edition First h h′ = h
+by-edition Second h h′ = h′
+
+-- a line's end, or another byte that may stand after a number
+end-small : (e : Edition) {sep : ℕ} → sep < 48 → byEdition e lineEnd sep < 48
+end-small First h = lit< tt
+end-small Second h = h
 
 module _ (z : Sizes) (small : Small z) (s : ℕ) (hs : s < maxStates) where
   costs-proper : {n : ℕ} (a left k m j : ℕ) {f : Format} → a < maxAgents → k < maxActions → j + m ≤ maxResources → n ≤ stateTurn s + (2 + agentTurns * a + actionCosts * k + j) →
@@ -82,26 +93,34 @@ module _ (z : Sizes) (small : Small z) (s : ℕ) (hs : s < maxStates) where
   joint-proper joint zero a h = h
   joint-proper joint (suc left) a h = past (joint-proper joint left (suc a) h)
 
-  go-proper : {n : ℕ} (joint : ℕ) {f : Format} → joint < maxJoint → n ≤ stateTurn s + (nextTurn + joint) →
-      Proper (stateTurn s + (1 + nextTurn + joint)) f → Proper n (goLine z s joint f)
-  unfolding goLine index
-  go-proper joint hj l h =
-      past (past (joint-proper joint (z .agents) 0 (number-field (lit< tt) l (omega arith) (λ q _ _. sooner (omega arith) h))))
+  go-actions : {n : ℕ} (joint : ℕ) {f : Format} → Proper n f → Proper n (goActions z s joint f)
+  unfolding goActions goWord index
+  go-actions joint h = by-edition (z .edition) (past (past (joint-proper joint (z .agents) 0 h))) h
 
-  gos-proper : {n : ℕ} (left joint : ℕ) (counts : List ℕ) {f : Format} → joint + left ≤ maxJoint → n ≤ stateTurn s + (nextTurn + joint) →
-      Proper (stateTurn s + stateTurns) f → Proper n (goLines z s counts left joint f)
-  unfolding goLines
-  gos-proper zero joint counts hj l h = sooner (omega arith) h
-  gos-proper (suc left) joint counts hj l h =
+  go-state : {n : ℕ} {f : Format} → Proper n f → Proper n (goState z s f)
+  unfolding goState goWord index
+  go-state h = by-edition (z .edition) h (past (past h))
+
+  next-proper : {n : ℕ} (joint : ℕ) (counts : List ℕ) {f : Format} → joint < maxJoint → n ≤ stateTurn s + (nextTurn + joint) →
+      Proper (stateTurn s + (1 + nextTurn + joint)) f → Proper n (nextField z s counts joint f)
+  unfolding nextField
+  next-proper joint counts hj l h =
+      go-actions joint (number-field (end-small (z .edition) (sep-small (lastJoint counts joint) lineEnd comma (lit< tt) (lit< tt))) l (omega arith) (λ q _ _. sooner (omega arith) h))
+
+  nexts-proper : {n : ℕ} (left joint : ℕ) (counts : List ℕ) {f : Format} → joint + left ≤ maxJoint → n ≤ stateTurn s + (nextTurn + joint) →
+      Proper (stateTurn s + stateTurns) f → Proper n (nextFields z s counts left joint f)
+  unfolding nextFields
+  nexts-proper zero joint counts hj l h = sooner (omega arith) h
+  nexts-proper (suc left) joint counts hj l h =
       either-proper (possible counts joint)
-      (go-proper joint (omega arith) l (gos-proper left (suc joint) counts (omega arith) (omega arith) h))
-      (gos-proper left (suc joint) counts (omega arith) (omega arith) h)
+      (next-proper joint counts (omega arith) l (nexts-proper left (suc joint) counts (omega arith) (omega arith) h))
+      (nexts-proper left (suc joint) counts (omega arith) (omega arith) h)
 
   state-proper : {n : ℕ} {f : Format} → n ≤ stateTurn s → Proper (stateTurn s + stateTurns) f → Proper n (stateLines z s f)
   unfolding stateLines stateLine index
   state-proper l h =
       past (past (number-field (lit< tt) l hs
-      (λ m _ _. agents-proper (z .agents) 0 noCounts (omega arith) (omega arith) (λ counts. gos-proper maxJoint 0 counts (omega arith) (omega arith) h))))
+      (λ m _ _. agents-proper (z .agents) 0 noCounts (omega arith) (omega arith) (λ counts. go-state (nexts-proper maxJoint 0 counts (omega arith) (omega arith) h)))))
 
 module _ (z : Sizes) (small : Small z) where
   states-proper : {n : ℕ} (left s : ℕ) {f : Format} → s + left ≤ maxStates → n ≤ stateTurn s → Proper (rowTurn 0) f → Proper n (states z left s f)
@@ -144,18 +163,25 @@ size-proper : {n : ℕ} (sep f high : ℕ) {k : ℕ → Format} → sep < 48 →
 unfolding size
 size-proper sep f high hs l h g = number-field hs l h (λ v _ m. g v (omega arith))
 
-header-proper : {f : Sizes → Format} → ((z : Sizes) → Small z → Proper headerBytes (f z)) → Proper 0 (headerLine f)
+resources-proper : {n : ℕ} (e : Edition) (left j : ℕ) {f : Format} → j + left ≤ maxResources → n ≤ headerBytes + j → Proper (stateTurn 0) f → Proper n (resourceFields e left j f)
+unfolding resourceFields
+resources-proper e zero j hj l h = sooner (omega arith) h
+resources-proper e (suc left) j hj l h =
+    clear-field (resource-clear e left) l (omega arith) (λ v _. resources-proper e left (suc j) (omega arith) (omega arith) h)
+
+header-proper : (e : Edition) {f : Sizes → Format} → ((z : Sizes) → Small z → Proper (stateTurn 0) (f z)) → Proper 0 (headerLine e f)
 unfolding headerLine
-header-proper h =
+header-proper e h =
     past
     (size-proper comma 0 maxAgents (lit< tt) (omega arith) (omega arith) λ n hn.
     size-proper comma 1 maxResources (lit< tt) (omega arith) (omega arith) λ r hr.
     size-proper comma 2 maxStates (lit< tt) (omega arith) (omega arith) λ m hm.
     size-proper comma 3 maxPropositions (lit< tt) (omega arith) (omega arith) λ p hp.
-    size-proper lineEnd 4 maxRows (lit< tt) (omega arith) (omega arith) λ w hw.
-    h _ (record { agents-small = hn; resources-small = hr; states-small = hm; rows-small = hw }))
+    size-proper (sizesEnd e) 4 maxRows (end-small e (lit< tt)) (omega arith) (omega arith) λ w hw.
+    resources-proper e r 0 (omega arith) (omega arith)
+    (h _ (record { agents-small = hn; resources-small = hr; states-small = hm; rows-small = hw })))
 
-pub job-proper : Proper 0 job
+pub job-proper : (e : Edition) → Proper 0 (job e)
 unfolding job
-job-proper = header-proper λ z small.
+job-proper e = header-proper e λ z small.
     states-proper z small (z .states) 0 (omega arith) (omega arith) (rows-proper z small (z .rows) 0 (omega arith) (omega arith) done)

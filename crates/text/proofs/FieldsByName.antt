@@ -11,12 +11,14 @@ use lib.Dec.{T}
 use lib.ListN.{set}
 use Rattle.block.specs.Layout.{Block, maxJoint, maxAgents, maxResources, maxStates, maxPropositions, maxRows, boundByte, agents, resources, states, rows, count, kind}
 use Rattle.block.specs.declared.layout.Place.{Place}
-use Rattle.block.specs.declared.layout.Place.the-variants.{Header, Mask, Count, Cost, Next, Field}
+use Rattle.block.specs.declared.layout.Place.the-variants.{Header, Mask, Count, Cost, Next, Field, ResourceKind}
+use Rattle.text.specs.declared.sizes.Edition.{Edition}
+use Rattle.text.specs.declared.sizes.Edition.the-variants.{First, Second}
 use Rattle.text.specs.declared.sizes.Sizes.{Sizes}
 use Rattle.text.specs.Inner.Fields.{sizesOf}
 use Rattle.text.specs.Numeral.{comma, lineEnd}
 use Rattle.text.specs.Format.{Spelling, Format, end, value}
-use Rattle.text.specs.Job.{bound, kindSpelling, index, maskSpelling, stateLine, costSpelling, costs, actions, countSpelling, actsLine, agentLines, possible, jointFields, nextSpelling, goLine, goLines, noCounts, stateLines, states as allStates, strategic, binary, boundFields, teamSpelling, teamFields, leftSpelling, rightSpelling, operandFields, rowLine, rowLines, sizeSpelling, size, headerLine, job}
+use Rattle.text.specs.Job.{bound, kindSpelling, index, maskSpelling, stateLine, costSpelling, costs, actions, countSpelling, actsLine, agentLines, possible, jointFields, byEdition, nextSpelling, goWord, goActions, goState, nextField, nextFields, noCounts, stateLines, states as allStates, strategic, binary, boundFields, teamSpelling, teamFields, leftSpelling, rightSpelling, operandFields, rowLine, rowLines, sizeSpelling, size, resourceSpelling, resourceFields, sizesEnd, headerLine, job}
 use Rattle.text.proofs.Formats.{Every}
 
 -- Q holds of each number from j to below e
@@ -87,25 +89,38 @@ module _ (P : Spelling → Place → Type 0) (b : Block) where
 
   -- the next state, where the joint action can be done with the counts
   abbrev NextField : Sizes → List ℕ → ℕ → ℕ → Type 0
-  NextField z counts s joint = T (possible counts joint) → P (nextSpelling z) (Next s joint)
+  NextField z counts s joint = T (possible counts joint) → P (nextSpelling z counts joint) (Next s joint)
 
   -- what stands there only where a test holds
   test-every : (t : Bool) (f g : Format) {Q : Type 0} → Every P f b ↔ (Q × Every P g b) → Every P (cond t f g) b ↔ ((T t → Q) × Every P g b)
   test-every true f g h = (λ x. (λ _. h .0 x .0, h .0 x .1), λ y. h .1 (y .0 tt, y .1))
   test-every false f g h = (λ x. (λ q. absurd q, x), λ y. y .1)
 
-  go-every : (z : Sizes) (s joint : ℕ) (f : Format) →
-      Every P (goLine z s joint f) b ↔ (P (nextSpelling z) (Next s joint) × Every P f b)
-  unfolding goLine index
-  go-every z s joint f = joint-every joint (z .agents) 0 (value (nextSpelling z) (Next s joint) (λ q. f))
+  -- the words before the next states
+  by-edition : (e : Edition) (f g h : Format) → Every P f b ↔ Every P h b → Every P g b ↔ Every P h b → Every P (byEdition e f g) b ↔ Every P h b
+  by-edition First f g h x y = x
+  by-edition Second f g h x y = y
 
-  gos-every : (z : Sizes) (s : ℕ) (counts : List ℕ) (n left joint : ℕ) (f : Format) → joint + left ≡ n →
-      Every P (goLines z s counts left joint f) b ↔ (Between joint n (NextField z counts s) × Every P f b)
-  unfolding goLines
-  gos-every z s counts n zero joint f e = loop-end (omega arith)
-  gos-every z s counts n (suc left) joint f e =
-      let rest = goLines z s counts left (suc joint) f in
-      loop-step (omega arith) (test-every (possible counts joint) (goLine z s joint rest) rest (go-every z s joint rest)) (gos-every z s counts n left (suc joint) f (omega arith))
+  actions-named : (z : Sizes) (s joint : ℕ) (f : Format) → Every P (goActions z s joint f) b ↔ Every P f b
+  unfolding goActions goWord index
+  actions-named z s joint f = by-edition (z .edition) _ f f (joint-every joint (z .agents) 0 f) Iff·rfl
+
+  state-named : (z : Sizes) (s : ℕ) (f : Format) → Every P (goState z s f) b ↔ Every P f b
+  unfolding goState goWord index
+  state-named z s f = by-edition (z .edition) f _ f Iff·rfl Iff·rfl
+
+  next-every : (z : Sizes) (s : ℕ) (counts : List ℕ) (joint : ℕ) (f : Format) →
+      Every P (nextField z s counts joint f) b ↔ (P (nextSpelling z counts joint) (Next s joint) × Every P f b)
+  unfolding nextField
+  next-every z s counts joint f = actions-named z s joint (value (nextSpelling z counts joint) (Next s joint) (λ q. f))
+
+  nexts-every : (z : Sizes) (s : ℕ) (counts : List ℕ) (n left joint : ℕ) (f : Format) → joint + left ≡ n →
+      Every P (nextFields z s counts left joint f) b ↔ (Between joint n (NextField z counts s) × Every P f b)
+  unfolding nextFields
+  nexts-every z s counts n zero joint f e = loop-end (omega arith)
+  nexts-every z s counts n (suc left) joint f e =
+      let rest = nextFields z s counts left (suc joint) f in
+      loop-step (omega arith) (test-every (possible counts joint) (nextField z s counts joint rest) rest (next-every z s counts joint rest)) (nexts-every z s counts n left (suc joint) f (omega arith))
 
   abbrev StateFields : Sizes → ℕ → Type 0
   StateFields z s =
@@ -116,10 +131,12 @@ module _ (P : Spelling → Place → Type 0) (b : Block) where
   state-every : (z : Sizes) (s : ℕ) (f : Format) → Every P (stateLines z s f) b ↔ (StateFields z s × Every P f b)
   unfolding stateLines stateLine index
   state-every z s f =
-      let acts = agents-every z s (z .agents) (z .agents) 0 noCounts (λ counts. goLines z s counts maxJoint 0 f) (omega arith) in
-      let gos = gos-every z s (told b s (z .agents) 0 noCounts) maxJoint maxJoint 0 f refl in (
-        λ x. let (h, g) = acts .0 (x .1) in let (n, r) = gos .0 g in ((x .0, h, n), r),
-        λ y. (y .0 .0, acts .1 (y .0 .1, gos .1 (y .0 .2, y .1))),
+      let acts = agents-every z s (z .agents) (z .agents) 0 noCounts (λ counts. goState z s (nextFields z s counts maxJoint 0 f)) (omega arith) in
+      let counts = told b s (z .agents) 0 noCounts in
+      let line = state-named z s (nextFields z s counts maxJoint 0 f) in
+      let nexts = nexts-every z s counts maxJoint maxJoint 0 f refl in (
+        λ x. let (h, g) = acts .0 (x .1) in let (n, r) = nexts .0 (line .0 g) in ((x .0, h, n), r),
+        λ y. (y .0 .0, acts .1 (y .0 .1, line .1 (nexts .1 (y .0 .2, y .1)))),
       )
 
   states-every : (z : Sizes) (n left s : ℕ) (f : Format) → s + left ≡ n → Every P (allStates z left s f) b ↔ (Between s n (StateFields z) × Every P f b)
@@ -178,30 +195,44 @@ module _ (P : Spelling → Place → Type 0) (b : Block) where
   abbrev SizeField : ℕ → ℕ → ℕ → Type 0
   SizeField sep f high = P (sizeSpelling sep high) (Header f)
 
-  -- what holds of each field of a block's text
-  pub record Everywhere : Type 0 where
+  -- the kind of resource j, where resources up to r follow
+  abbrev ResourceField : Edition → ℕ → ℕ → Type 0
+  ResourceField e r j = P (resourceSpelling e (r - suc j)) (ResourceKind j)
+
+  resources-every : (e : Edition) (r left j : ℕ) (f : Format) → j + left ≡ r → Every P (resourceFields e left j f) b ↔ (Between j r (ResourceField e r) × Every P f b)
+  unfolding resourceFields
+  resources-every e r zero j f q = loop-end (omega arith)
+  resources-every e r (suc left) j f q =
+      let last : left ≡ r - suc j = omega arith in
+      loop-step (omega arith) (rw last Iff·rfl) (resources-every e r left (suc j) f (omega arith))
+
+  -- what holds of each field of a block's text in an edition
+  pub record Everywhere (e : Edition) : Type 0 where
     pub agents-field : SizeField comma 0 maxAgents
     pub resources-field : SizeField comma 1 maxResources
     pub states-field : SizeField comma 2 maxStates
     pub propositions-field : SizeField comma 3 maxPropositions
-    pub rows-field : SizeField lineEnd 4 maxRows
-    pub state-fields : Between 0 (states b) (StateFields (sizesOf b))
-    pub row-fields : Between 0 (rows b) (RowFields (sizesOf b))
+    pub rows-field : SizeField (sizesEnd e) 4 maxRows
+    pub resource-fields : Between 0 (resources b) (ResourceField e (resources b))
+    pub state-fields : Between 0 (states b) (StateFields (sizesOf e b))
+    pub row-fields : Between 0 (rows b) (RowFields (sizesOf e b))
 
-  pub job-every : Every P job b ↔ Everywhere
+  pub job-every : (e : Edition) → Every P (job e) b ↔ Everywhere e
   unfolding job headerLine size
-  job-every =
-      let z = sizesOf b in
+  job-every e =
+      let z = sizesOf e b in
+      let kinds = resources-every e (resources b) (resources b) 0 (allStates z (states b) 0 (rowLines z (rows b) 0 end)) (omega arith) in
       let body = states-every z (states b) (states b) 0 (rowLines z (rows b) 0 end) (omega arith) in
       let lines = rows-every z (rows b) (rows b) 0 end (omega arith) in (
-        λ x. let (s, g) = body .0 (x .1 .1 .1 .1 .1) in record {
+        λ x. let (k, h) = kinds .0 (x .1 .1 .1 .1 .1) in let (s, g) = body .0 h in record {
           agents-field = x .0;
           resources-field = x .1 .0;
           states-field = x .1 .1 .0;
           propositions-field = x .1 .1 .1 .0;
           rows-field = x .1 .1 .1 .1 .0;
+          resource-fields = k;
           state-fields = s;
           row-fields = lines .0 g .0;
         },
-        λ y. (y .agents-field, (y .resources-field, (y .states-field, (y .propositions-field, (y .rows-field, body .1 (y .state-fields, lines .1 (y .row-fields, tt))))))),
+        λ y. (y .agents-field, (y .resources-field, (y .states-field, (y .propositions-field, (y .rows-field, kinds .1 (y .resource-fields, body .1 (y .state-fields, lines .1 (y .row-fields, tt)))))))),
       )

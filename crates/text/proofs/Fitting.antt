@@ -11,14 +11,16 @@ use lib.Dec.{eqb, lit<}
 use lib.ListN.{length}
 use lib.Pow.{pow-mono}
 use borrow.Author.Tests.{eq-eqb, ne-eqb}
-use Rattle.block.specs.Layout.{Block, maxAgents, maxResources, maxStates, maxPropositions, maxRows, maxActions, maxUnits, boundByte, blockBytes, placeOf, InUse, Used, UsesField, byteAt, at, agents, resources, states, propositions, rows, count, cost, left, bound, kind, propKind}
+use Rattle.block.specs.Layout.{Block, maxAgents, maxResources, maxStates, maxPropositions, maxRows, maxActions, maxUnits, boundByte, blockBytes, placeOf, InUse, Used, UsesField, byteAt, at, agents, resources, states, propositions, rows, count, cost, left, bound, kind, resourceKind, sumKind, maxKind, propKind}
 use Rattle.block.specs.Inner.Valid.{Counted, RowFits, Valid}
 use Rattle.block.specs.declared.layout.Place.{Place}
-use Rattle.block.specs.declared.layout.Place.the-variants.{Header, Mask, Count, Cost, Next, Field}
+use Rattle.block.specs.declared.layout.Place.the-variants.{Header, Mask, Count, Cost, Next, Field, ResourceKind}
+use Rattle.text.specs.declared.sizes.Edition.{Edition}
+use Rattle.text.specs.declared.sizes.Edition.the-variants.{First, Second}
 use Rattle.text.specs.Numeral.{numbers}
-use Rattle.text.specs.Job.{costLimit}
+use Rattle.text.specs.Job.{byEdition, costLimit}
 use Rattle.text.proofs.Decimals.{lt-or-ge}
-use Rattle.text.proofs.Spellings.{Fits, number-range, number-fits, bound-range, bound-fits, kind-range, kind-fits}
+use Rattle.text.proofs.Spellings.{Fits, number-range, number-fits, bound-range, bound-fits, kind-range, kind-fits, resource-range, resource-fits}
 use Rattle.text.proofs.FieldsByName.{Everywhere}
 use Rattle.text.proofs.KindTests.{binary-true, binary-case, strategic-true, strategic-case}
 use Rattle.text.proofs.Possible.{possible-acts}
@@ -40,13 +42,28 @@ cost-limit k = either-le (eqb k 0) _ _ (suc maxUnits) (omega arith) (omega arith
 from-bound : (f r : ℕ) → boundByte ≤ f → f < boundByte + r → (f - boundByte < r) × (boundByte + (f - boundByte) ≡ f)
 from-bound f r h g = omega arith
 
-module _ (b : Block) where
+-- the kinds that an edition has: all, or sum alone
+abbrev pub KindsTold : Edition → Block → Type 0
+KindsTold e b = (j : ℕ) → j < resources b → resourceKind b j < byEdition e (suc sumKind) (suc maxKind)
+
+-- every kind is one of edition 2's
+told-most : (e : Edition) {v : ℕ} → v < byEdition e (suc sumKind) (suc maxKind) → v ≤ maxKind
+told-most First h = omega arith
+told-most Second h = omega arith
+
+pub all-told : (b : Block) → Valid b → KindsTold Second b
+all-told b v j hj = omega (arith, v .sized .kinds-fit j hj)
+
+module _ (e : Edition) (b : Block) where
   abbrev FitsEverywhere : Type 0
-  FitsEverywhere = Everywhere (λ x p. Fits x (at b p)) b
+  FitsEverywhere = Everywhere (λ x p. Fits x (at b p)) b e
+
+  pub fits-told : FitsEverywhere → KindsTold e b
+  fits-told f j hj = resource-range e (f .resource-fields j zero-le hj)
 
   row-valid : FitsEverywhere → (i : ℕ) → i < rows b → RowFits b i
-  row-valid e i hi =
-      let (k, t, l, r) = e .row-fields i zero-le hi in
+  row-valid f i hi =
+      let (k, t, l, r) = f .row-fields i zero-le hi in
       let limit = cond (eqb (kind b i) propKind) (propositions b) i in
       let below : left b i < limit = number-range 0 limit l .1 in
       record {
@@ -60,23 +77,24 @@ module _ (b : Block) where
       }
 
   pub fits-valid : FitsEverywhere → length b ≡ blockBytes → ((p : ℕ) → p < blockBytes → (Used b p → ⊥) → byteAt b p ≡ 0) → Valid b
-  fits-valid e l u =
-      let c : Counted b = λ s a hs ha. omega (arith, number-range 1 (suc maxActions) (e .state-fields s zero-le hs .1 a zero-le ha .0)) in
+  fits-valid f l u =
+      let c : Counted b = λ s a hs ha. omega (arith, number-range 1 (suc maxActions) (f .state-fields s zero-le hs .1 a zero-le ha .0)) in
       record {
         sized = record {
           bytes = l;
-          agents-fit = omega (arith, number-range 1 (suc maxAgents) (e .agents-field));
-          resources-fit = omega (arith, number-range 1 (suc maxResources) (e .resources-field));
-          states-fit = omega (arith, number-range 1 (suc maxStates) (e .states-field));
-          propositions-fit = omega (arith, number-range 1 (suc maxPropositions) (e .propositions-field));
-          rows-fit = omega (arith, number-range 1 (suc maxRows) (e .rows-field));
+          agents-fit = omega (arith, number-range 1 (suc maxAgents) (f .agents-field));
+          resources-fit = omega (arith, number-range 1 (suc maxResources) (f .resources-field));
+          states-fit = omega (arith, number-range 1 (suc maxStates) (f .states-field));
+          propositions-fit = omega (arith, number-range 1 (suc maxPropositions) (f .propositions-field));
+          rows-fit = omega (arith, number-range 1 (suc maxRows) (f .rows-field));
+          kinds-fit = λ j hj. told-most e (fits-told f j hj);
         };
         counted = c;
-        mask-fits = λ s hs. number-range 0 (2 ^ propositions b) (e .state-fields s zero-le hs .0) .1;
-        cost-fits = λ s a k j hs ha hk hj. omega (arith, cost-limit k, number-range 0 (costLimit k) (e .state-fields s zero-le hs .1 a zero-le ha .1 k zero-le hk j zero-le hj) .1);
-        idle-free = λ s a j hs ha hj. omega (arith, number-range 0 1 (e .state-fields s zero-le hs .1 a zero-le ha .1 0 zero-le (c s a hs ha .0) j zero-le hj) .1);
-        next-fits = λ s joint hs av. number-range 0 (states b) (e .state-fields s zero-le hs .2 joint zero-le (av .0) (possible-acts b s joint .1 (av .1))) .1;
-        row-fits = row-valid e;
+        mask-fits = λ s hs. number-range 0 (2 ^ propositions b) (f .state-fields s zero-le hs .0) .1;
+        cost-fits = λ s a k j hs ha hk hj. omega (arith, cost-limit k, number-range 0 (costLimit k) (f .state-fields s zero-le hs .1 a zero-le ha .1 k zero-le hk j zero-le hj) .1);
+        idle-free = λ s a j hs ha hj. omega (arith, number-range 0 1 (f .state-fields s zero-le hs .1 a zero-le ha .1 0 zero-le (c s a hs ha .0) j zero-le hj) .1);
+        next-fits = λ s joint hs av. number-range 0 (states b) (f .state-fields s zero-le hs .2 joint zero-le (av .0) (possible-acts b s joint .1 (av .1))) .1;
+        row-fits = row-valid f;
         unused-zero = u;
       }
 
@@ -94,8 +112,8 @@ module _ (b : Block) where
   mask-byte : (m n : ℕ) → n ≤ maxPropositions → m < 2 ^ n → m < numbers
   mask-byte m n h l = omega (arith, pow-mono h)
 
-  pub valid-fits : Valid b → FitsEverywhere
-  valid-fits v =
+  pub valid-fits : Valid b → KindsTold e b → FitsEverywhere
+  valid-fits v told =
       let z = v .sized in
       record {
         agents-field = number-fits 1 (suc maxAgents) (z .agents-fit .0) (omega arith) (omega arith);
@@ -103,6 +121,7 @@ module _ (b : Block) where
         states-field = number-fits 1 (suc maxStates) (z .states-fit .0) (omega arith) (omega arith);
         propositions-field = number-fits 1 (suc maxPropositions) (z .propositions-fit .0) (omega arith) (omega arith);
         rows-field = number-fits 1 (suc maxRows) (z .rows-fit .0) (omega arith) (omega arith);
+        resource-fields = λ j _ hj. resource-fits e (told j hj);
         state-fields = λ s _ hs. (
           number-fits 0 (2 ^ propositions b) zero-le (v .mask-fits s hs) (mask-byte _ (propositions b) (z .propositions-fit .1) (v .mask-fits s hs)),
           λ a _ ha. let c = v .counted s a hs ha in (
@@ -125,44 +144,46 @@ module _ (b : Block) where
 
   -- no field's place has the number n
   abbrev AvoidsEverywhere : ℕ → Type 0
-  AvoidsEverywhere n = Everywhere (λ x p. placeOf p ≡ n → ⊥) b
+  AvoidsEverywhere n = Everywhere (λ x p. placeOf p ≡ n → ⊥) b e
 
   pub used-avoided : (n : ℕ) → AvoidsEverywhere n → Used b n → ⊥
-  used-avoided n e u = place (u .0) (u .2) (u .1)
+  used-avoided n a u = place (u .0) (u .2) (u .1)
     where
       field : (i f : ℕ) → i < rows b → UsesField b (kind b i) f → placeOf (Field i f) ≡ n → ⊥
       field i f hi (inl h) q = ⊎-elim
-          (λ z. e .row-fields i zero-le hi .0 (omega arith))
-          (λ z. e .row-fields i zero-le hi .2 (omega arith))
+          (λ z. a .row-fields i zero-le hi .0 (omega arith))
+          (λ z. a .row-fields i zero-le hi .2 (omega arith))
           (lt-or-ge f 1)
-      field i f hi (inr (inl h)) q = e .row-fields i zero-le hi .3 (binary-true (kind b i) (h .1)) (omega arith)
+      field i f hi (inr (inl h)) q = a .row-fields i zero-le hi .3 (binary-true (kind b i) (h .1)) (omega arith)
       field i f hi (inr (inr h)) q =
-          let (t, bs) = e .row-fields i zero-le hi .1 (strategic-true (kind b i) (h .0)) in
+          let (t, bs) = a .row-fields i zero-le hi .1 (strategic-true (kind b i) (h .0)) in
           ⊎-elim
           (λ z. t (omega arith))
           (λ z. let (l, s) = from-bound f (resources b) z (h .1 .1) in bs (f - boundByte) zero-le l (rw s q))
           (lt-or-ge f boundByte)
 
       place : (x : Place) → InUse b x → placeOf x ≡ n → ⊥
-      place (Header zero) h q = e .agents-field q
-      place (Header (suc zero)) h q = e .resources-field q
-      place (Header (suc (suc zero))) h q = e .states-field q
-      place (Header (suc (suc (suc zero)))) h q = e .propositions-field q
-      place (Header (suc (suc (suc (suc zero))))) h q = e .rows-field q
+      place (Header zero) h q = a .agents-field q
+      place (Header (suc zero)) h q = a .resources-field q
+      place (Header (suc (suc zero))) h q = a .states-field q
+      place (Header (suc (suc (suc zero)))) h q = a .propositions-field q
+      place (Header (suc (suc (suc (suc zero))))) h q = a .rows-field q
       place (Header (suc (suc (suc (suc (suc f)))))) h q = omega arith
-      place (Mask s) h q = e .state-fields s zero-le h .0 q
-      place (Count s a) h q = e .state-fields s zero-le (h .0) .1 a zero-le (h .1) .0 q
-      place (Cost s a k j) h q = e .state-fields s zero-le (h .0) .1 a zero-le (h .1) .1 k zero-le (h .2) j zero-le (h .3) q
-      place (Next s joint) h q = e .state-fields s zero-le (h .0) .2 joint zero-le (h .1 .0) (possible-acts b s joint .1 (h .1 .1)) q
+      place (Mask s) h q = a .state-fields s zero-le h .0 q
+      place (Count s c) h q = a .state-fields s zero-le (h .0) .1 c zero-le (h .1) .0 q
+      place (Cost s c k j) h q = a .state-fields s zero-le (h .0) .1 c zero-le (h .1) .1 k zero-le (h .2) j zero-le (h .3) q
+      place (Next s joint) h q = a .state-fields s zero-le (h .0) .2 joint zero-le (h .1 .0) (possible-acts b s joint .1 (h .1 .1)) q
       place (Field i f) h q = field i f (h .0) (h .1) q
+      place (ResourceKind j) h q = a .resource-fields j zero-le h q
 
   pub unused-avoided : (n : ℕ) → FitsEverywhere → (Used b n → ⊥) → AvoidsEverywhere n
-  unused-avoided n e u = record {
+  unused-avoided n f u = record {
     agents-field = λ q. u (Header 0, q, lit< tt);
     resources-field = λ q. u (Header 1, q, lit< tt);
     states-field = λ q. u (Header 2, q, lit< tt);
     propositions-field = λ q. u (Header 3, q, lit< tt);
     rows-field = λ q. u (Header 4, q, lit< tt);
+    resource-fields = λ j _ hj q. u (ResourceKind j, q, hj);
     state-fields = λ s _ hs. (
       λ q. u (Mask s, q, hs),
       λ a _ ha. (λ q. u (Count s a, q, (hs, ha)), λ k _ hk j _ hj q. u (Cost s a k j, q, (hs, ha, hk, hj))),

@@ -19,7 +19,7 @@ use borrow.Author.Tests.{eqb-true, eqb-false}
 use Rattle.block.specs.Layout.{Block, maxAgents, maxResources, maxStates, maxJoint, headerBytes, boundByte, rowBytes, actionCosts, agentCosts, blockBytes, placeOf, byteAt, at}
 use Rattle.block.specs.Inner.Places.{InLayout}
 use Rattle.block.specs.declared.layout.Place.{Place}
-use Rattle.block.specs.declared.layout.Place.the-variants.{Header, Mask, Count, Cost, Next, Field}
+use Rattle.block.specs.declared.layout.Place.the-variants.{Header, Mask, Count, Cost, Next, Field, ResourceKind}
 use Rattle.block.specs.declared.refusal.Refusal.{Refusal}
 use Rattle.block.specs.declared.refusal.Refusal.the-variants.{Form}
 use Rattle.block.proofs.Places.{one-place}
@@ -40,15 +40,16 @@ stateTurns = nextTurn + maxJoint
 
 -- the turns of state s and of row i
 abbrev pub stateTurn : ℕ → ℕ
-stateTurn s = headerBytes + stateTurns * s
+stateTurn s = headerBytes + maxResources + stateTurns * s
 
 abbrev pub rowTurn : ℕ → ℕ
-rowTurn i = headerBytes + stateTurns * maxStates + rowBytes * i
+rowTurn i = headerBytes + maxResources + stateTurns * maxStates + rowBytes * i
 
--- when a place's turn comes in the text: the sizes, then state by state, then row by row, where the kind, the team and the bounds come before
+-- when a place's turn comes in the text: the sizes and the kinds of the resources, then state by state, then row by row, where the kind, the team and the bounds come before
 -- what the row names
 abbrev pub turn : Place → ℕ
 turn (Header f) = f
+turn (ResourceKind j) = headerBytes + j
 turn (Mask s) = stateTurn s
 turn (Count s a) = stateTurn s + (1 + agentTurns * a)
 turn (Cost s a k j) = stateTurn s + (2 + agentTurns * a + actionCosts * k + j)
@@ -81,6 +82,7 @@ sooner l (field a i c h) = field (le-trans l a) i c h
 -- a place is a byte of the block
 inside : (p : Place) → InLayout p → placeOf p < blockBytes
 inside (Header f) h = omega arith
+inside (ResourceKind j) h = omega arith
 inside (Mask s) h = omega arith
 inside (Count s a) h = omega arith
 inside (Cost s a k j) h = omega arith

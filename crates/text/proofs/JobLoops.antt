@@ -5,10 +5,11 @@ use mathlib.Core.List.{List}
 use mathlib.Core.Path.{refl}
 use Prim.Native.Nat.{ℕ, _+_}
 use Rattle.block.specs.Layout.{digit}
-use Rattle.block.specs.declared.layout.Place.the-variants.{Cost, Field}
+use Rattle.block.specs.declared.layout.Place.the-variants.{Cost, Field, ResourceKind}
+use Rattle.text.specs.declared.sizes.Edition.{Edition}
 use Rattle.text.specs.declared.sizes.Sizes.{Sizes}
 use Rattle.text.specs.Format.{value}
-use Rattle.text.specs.Job.{bound, index, costSpelling, costs, actions, possible, jointFields, goLine, goLines, stateLines, states, boundFields, rowLine, rowLines}
+use Rattle.text.specs.Job.{bound, index, costSpelling, costs, actions, possible, jointFields, nextField, nextFields, stateLines, states, boundFields, rowLine, rowLines, resourceSpelling, resourceFields}
 use Rattle.text.proofs.Loops.{Loop}
 
 pub costs-loop : (s a n k : ℕ) → Loop (costs s a n k) (λ left j f. value (costSpelling k (n + left)) (Cost s a k j) (λ v. f))
@@ -23,9 +24,9 @@ pub joint-loop : (joint : ℕ) → Loop (jointFields joint) (λ left a f. index 
 unfolding jointFields
 joint-loop joint = record { done = λ j f. refl; more = λ m j f. refl }
 
-pub go-loop : (z : Sizes) (s : ℕ) (counts : List ℕ) → Loop (goLines z s counts) (λ left joint f. cond (possible counts joint) (goLine z s joint f) f)
-unfolding goLines
-go-loop z s counts = record { done = λ j f. refl; more = λ m j f. refl }
+pub nexts-loop : (z : Sizes) (s : ℕ) (counts : List ℕ) → Loop (nextFields z s counts) (λ left joint f. cond (possible counts joint) (nextField z s counts joint f) f)
+unfolding nextFields
+nexts-loop z s counts = record { done = λ j f. refl; more = λ m j f. refl }
 
 pub states-loop : (z : Sizes) → Loop (states z) (λ left s f. stateLines z s f)
 unfolding states
@@ -38,3 +39,7 @@ bounds-loop i = record { done = λ j f. refl; more = λ m j f. refl }
 pub rows-loop : (z : Sizes) → Loop (rowLines z) (λ left i f. rowLine z i f)
 unfolding rowLines
 rows-loop z = record { done = λ j f. refl; more = λ m j f. refl }
+
+pub resources-loop : (e : Edition) → Loop (resourceFields e) (λ left j f. value (resourceSpelling e left) (ResourceKind j) (λ v. f))
+unfolding resourceFields
+resources-loop e = record { done = λ j f. refl; more = λ m j f. refl }

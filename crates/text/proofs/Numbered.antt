@@ -23,11 +23,12 @@ use Rattle.block.specs.declared.layout.Place.the-variants.{Field}
 use Rattle.block.specs.declared.refusal.Refusal.{Refusal}
 use Rattle.block.specs.declared.refusal.Refusal.the-variants as refusal
 use Rattle.block.proofs.Masks.{bit-above}
+use Rattle.text.specs.declared.sizes.Edition.{Edition}
 use Rattle.text.specs.Format.{Spelling, Stop, nowhere, stopped, stop}
 use Rattle.text.specs.Numeral.{numbers}
 use Rattle.text.specs.Job.{both, either, infBound, bound as boundSpelling, costLimit, strategic, teamSpelling, leftSpelling, job}
 use Rattle.text.specs.Broken.{BrokenAt, agents-at, resources-at, states-at, propositions-at, rows-at, mask-at, count-at, cost-at, next-at, prop-at, left-at, right-at, team-empty-at, team-absent-at, bound-at, UnlimitedNumber, written}
-use Rattle.text.specs.Text.{blank, readText, NumberedAt, Numbered}
+use Rattle.text.specs.Text.{blank, editionOf, readText, NumberedAt, Numbered}
 use Rattle.text.proofs.Decimals.{lt-or-ge}
 use Rattle.text.proofs.Spellings.{bound-spelled, bound-itself}
 use Rattle.text.proofs.Stops.{Barred, along-every, halted, misread}
@@ -95,12 +96,12 @@ cost-bad : (k c : ℕ) → costLimit k ≤ c → (maxUnits < c) ⊎ ((k ≡ 0) �
 cost-bad zero c h = inr (refl, h)
 cost-bad (suc k) c h = inl (omega (arith, h, on-other (suc k) 1 (suc maxUnits) (omega arith)))
 
-module _ (b : Block) (t : List ℕ) where
+module _ (e : Edition) (b : Block) (t : List ℕ) where
   -- where the field's spelling with which the text t begins may not stand there, the block is broken at the field's place
   abbrev Told : Spelling → Place → Type 0
   Told x p = InLayout p → Barred x (at b p) t → BrokenAt b p (x .refusal) ⊎ UnlimitedNumber b t p (x .refusal)
 
-  team-told : (i : ℕ) → i < rows b → T (strategic (kind b i)) → Told (teamSpelling (sizesOf b)) (Field i 3)
+  team-told : (i : ℕ) → i < rows b → T (strategic (kind b i)) → Told (teamSpelling (sizesOf e b)) (Field i 3)
   team-told i hi s l x = ⊎-elim
       (λ h. inl (team-empty-at hi (strategic-case (kind b i) s) (omega arith)))
       (λ h. inl (team-absent-at hi (strategic-case (kind b i) s) (bit-from (agents b) (team b i) h)))
@@ -119,7 +120,7 @@ module _ (b : Block) (t : List ℕ) where
       (λ h. let full : x .option ≡ unlimited = omega arith in inr (written hi k hj (sym byte ∙ full) (rw (full, bound-spelled unlimited (lit< tt)) at (x .begins))))
       (lt-or-ge (x .option) unlimited)
 
-  left-told : (i : ℕ) → i < rows b → Told (leftSpelling (sizesOf b) i (kind b i)) (Field i 1)
+  left-told : (i : ℕ) → i < rows b → Told (leftSpelling (sizesOf e b) i (kind b i)) (Field i 1)
   left-told i hi l x =
       let limit = cond (eqb (kind b i) propKind) (propositions b) i in
       let from : limit ≤ left b i = from-limit limit (x .meant) (x .not-allowed) in
@@ -128,13 +129,14 @@ module _ (b : Block) (t : List ℕ) where
       (λ h. inl (left-at hi h (omega (arith, from, on-other (kind b i) (propositions b) i h))))
       (lt-or-ge (kind b i) 1)
 
-  told : Everywhere Told b
+  told : Everywhere Told b e
   told = record {
     agents-field = λ _ x. inl (agents-at (out-of-range 1 (suc maxAgents) (x .meant) (x .not-allowed)));
     resources-field = λ _ x. inl (resources-at (out-of-range 1 (suc maxResources) (x .meant) (x .not-allowed)));
     states-field = λ _ x. inl (states-at (out-of-range 1 (suc maxStates) (x .meant) (x .not-allowed)));
     propositions-field = λ _ x. inl (propositions-at (out-of-range 1 (suc maxPropositions) (x .meant) (x .not-allowed)));
     rows-field = λ _ x. inl (rows-at (out-of-range 1 (suc maxRows) (x .meant) (x .not-allowed)));
+    resource-fields = λ j _ hj _ x. let z : _≡_ {A = ℕ} 0 1 = cc (x .not-allowed) in absurd (omega arith);
     state-fields = λ s _ hs. (
       λ _ x. inl (mask-at hs (bit-from (propositions b) (mask b s) (from-limit (2 ^ propositions b) (x .meant) (x .not-allowed)))),
       λ a _ ha. (
@@ -152,11 +154,14 @@ module _ (b : Block) (t : List ℕ) where
   }
 
 pub numbered : (t : List ℕ) → Numbered t
-numbered t = on (stop job blank t) refl
+numbered t = on (stop (job e) blank t) refl
   where
-    on : (s : Stop) → stop job blank t ≡ s → NumberedAt s (readText t)
-    on nowhere e = λ r rest. misread job blank t r rest e
-    on (stopped p b u) e =
-        let h = halted job blank t p b u job-proper blank-length e in
-        let field = along-every (Told b u) (h .along) (job-every _ b .1 (told b u)) (h .in-layout) (h .barred) in
+    e : Edition
+    e = editionOf t
+
+    on : (s : Stop) → stop (job e) blank t ≡ s → NumberedAt s (readText t)
+    on nowhere q = λ r rest. misread (job e) blank t r rest q
+    on (stopped p b u) q =
+        let h = halted (job e) blank t p b u (job-proper e) blank-length q in
+        let field = along-every (Told e b u) (h .along) (job-every _ b e .1 (told e b u)) (h .in-layout) (h .barred) in
         (h .spelling .refusal, h .refuses, ⊎-elim (λ bad. inl (bad, broken-at bad)) inr field)

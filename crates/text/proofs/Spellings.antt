@@ -5,17 +5,20 @@
 use mathlib.Core.Bool.{Bool, true, false, cond}
 use mathlib.Core.List.{List, [], _∷_, _++_}
 use mathlib.Core.Logic.{_⊎_, inl, inr, ⊎-elim}
-use mathlib.Core.Path.{_≡_, refl, sym, ap, _∙_}
+use mathlib.Core.Path.{_≡_, refl, sym, ap, subst, _∙_}
 use Prim.Native.Nat.{ℕ, zero, suc, _≤_, _<_}
 use native.Mathlib.Omega.{arith}
 use lib.Dec.{T, ltb, leb, eqb, leb→le, le→leb, ltb→lt, lt→ltb, lit<}
 use lib.ListN.{getD}
 use borrow.Author.Tests.{lt-ltb, ne-eqb}
+use Rattle.block.specs.Layout.{sumKind, maxKind}
 use Rattle.block.specs.declared.refusal.Refusal.{Refusal}
 use Rattle.block.specs.declared.refusal.Refusal.the-variants.{Form}
 use Rattle.text.specs.Numeral.{ascii, comma, decimal, Starts}
+use Rattle.text.specs.declared.sizes.Edition.{Edition}
+use Rattle.text.specs.declared.sizes.Edition.the-variants.{First, Second}
 use Rattle.text.specs.Format.{Spelling}
-use Rattle.text.specs.Job.{both, either, number, boundField, bound, kindWord, kindSpelling}
+use Rattle.text.specs.Job.{byEdition, both, either, number, listEnd, boundField, bound, kindWord, kindSpelling, resourceWord, resourceSpelling}
 use Rattle.text.proofs.Decimals.{lt-or-ge, shape, Shape, one, two, three, only-one}
 
 abbrev pub Fits : Spelling → ℕ → Type 0
@@ -180,3 +183,31 @@ kind-clear = record {
   only = λ t o o′ l l′ s s′. sym (word-of t o l s) ∙ word-of t o′ l′ s′;
   meant = λ v f. (kind-range f, tt, refl);
 }
+
+-- the kind of a resource: its word shows in the first byte, and edition 1 has one kind only
+resource-of : (t : List ℕ) (k left : ℕ) → k < 2 → Starts (resourceWord k ++ listEnd left ∷ []) t → cond (eqb (getD t 0 0) 115) 0 1 ≡ k
+unfolding resourceWord
+resource-of t zero left h s = rw (s .1)
+resource-of t (suc zero) left h s = rw (s .1)
+resource-of t (suc (suc k)) left h s = absurd (omega arith)
+
+-- what fits does not depend on how many follow
+abbrev pub FitsResource : Edition → ℕ → Type 0
+FitsResource e v = Fits (resourceSpelling e 0) v
+
+pub resource-range : (e : Edition) {v : ℕ} → FitsResource e v → v < byEdition e (suc sumKind) (suc maxKind)
+resource-range e f = subst (λ (n : ℕ). n < byEdition e (suc sumKind) (suc maxKind)) (f .3) (f .1)
+
+pub resource-fits : (e : Edition) {v : ℕ} → v < byEdition e (suc sumKind) (suc maxKind) → FitsResource e v
+resource-fits e {v} h = (v, h, tt, refl)
+
+pub resource-clear : (e : Edition) (left : ℕ) → Clear (resourceSpelling e left)
+resource-clear e left = record {
+  only = only e;
+  meant = λ v f. (resource-range e f, tt, refl);
+}
+  where
+    only : (e : Edition) (t : List ℕ) (o o′ : ℕ) → o < resourceSpelling e left .options → o′ < resourceSpelling e left .options →
+        Starts (resourceSpelling e left .spell o) t → Starts (resourceSpelling e left .spell o′) t → o ≡ o′
+    only First t o o′ l l′ s s′ = omega arith
+    only Second t o o′ l l′ s s′ = sym (resource-of t o left l s) ∙ resource-of t o′ left l′ s′

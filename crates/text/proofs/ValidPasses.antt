@@ -7,7 +7,7 @@ use native.Mathlib.Nat.{div-eq-of-lt}
 use native.Mathlib.Omega.{arith}
 use Rattle.block.specs.Decide.{Outside, BitFrom}
 use Rattle.block.specs.Layout.{Block, agents, resources, states, cost, count, kind, Strategic}
-use Rattle.block.specs.Check.{BadSizes, agents-range, resources-range, states-range, propositions-range, rows-range, BadCost, BadActions, BadState, BadNext, BadOperands, BadTeam, BadRow, kind-unknown, operands, coalition, prop-range, left-range, right-range, team-empty, team-absent, bound-range, Passes}
+use Rattle.block.specs.Check.{BadSizes, agents-range, resources-range, states-range, propositions-range, rows-range, kinds-range, BadCost, BadActions, BadState, BadNext, BadOperands, BadTeam, BadRow, kind-unknown, operands, coalition, prop-range, left-range, right-range, team-empty, team-absent, bound-range, Passes}
 use Rattle.block.specs.Inner.Valid.{Range, RowFits, Valid}
 use Rattle.block.proofs.Masks.{no-bit-above}
 use Rattle.block.proofs.Refusals.{past, answered}
@@ -26,6 +26,7 @@ module _ (b : Block) (v : Valid b) where
   sizes-pass (states-range h) = not-outside _ _ _ (v .sized .states-fit) h
   sizes-pass (propositions-range h) = not-outside _ _ _ (v .sized .propositions-fit) h
   sizes-pass (rows-range h) = not-outside _ _ _ (v .sized .rows-fit) h
+  sizes-pass (kinds-range h) = omega (arith, v .sized .kinds-fit (h .0) (h .1), h .2)
 
   cost-passes : (s a k j : ℕ) → s < states b → a < agents b → k < count b s a → j < resources b → BadCost b s a k j → ⊥
   cost-passes s a k j hs ha hk hj (inl h) = omega (arith, v .cost-fits s a k j hs ha hk hj)

@@ -1,13 +1,16 @@
--- The text of a job (document 01, "The text"), line kind by line kind. Each line is described once, for the writer and the reader.
+-- The text of a job (document 01, "The text"; document 02, R-3), line kind by line kind. Each line is described once, for the writer and the
+-- reader, and for both editions; where they differ, byEdition shows it.
 use mathlib.Core.Bool.{Bool, true, false, cond}
 use mathlib.Core.List.{List, [], _∷_, _++_}
 use Prim.Native.Nat.{ℕ, zero, suc, _+_, _^_}
 use lib.Dec.{ltb, leb, eqb}
 use lib.ListN.{getD, set}
-use Rattle.block.specs.Layout.{maxAgents, maxResources, maxStates, maxPropositions, maxRows, maxActions, maxUnits, maxJoint, agentsByte, resourcesByte, statesByte, propositionsByte, rowsByte, kindByte, leftByte, rightByte, teamByte, boundByte, unlimited, propKind, orKind, nextKind, untilKind, kinds, digit}
-use Rattle.block.specs.declared.layout.Place.the-variants.{Header, Mask, Count, Cost, Next, Field}
+use Rattle.block.specs.Layout.{maxAgents, maxResources, maxStates, maxPropositions, maxRows, maxActions, maxUnits, maxJoint, agentsByte, resourcesByte, statesByte, propositionsByte, rowsByte, kindByte, leftByte, rightByte, teamByte, boundByte, unlimited, sumKind, maxKind, propKind, orKind, nextKind, untilKind, kinds, digit}
+use Rattle.block.specs.declared.layout.Place.the-variants.{Header, Mask, Count, Cost, Next, Field, ResourceKind}
 use Rattle.block.specs.declared.refusal.Refusal.{Refusal}
 use Rattle.block.specs.declared.refusal.Refusal.the-variants as refusal
+use Rattle.text.specs.declared.sizes.Edition.{Edition}
+use Rattle.text.specs.declared.sizes.Edition.the-variants.{First, Second}
 use Rattle.text.specs.declared.sizes.Sizes.{Sizes}
 use Rattle.text.specs.Numeral.{ascii, comma, lineEnd, numbers, decimal}
 use Rattle.text.specs.Format.{Spelling, Format, end, exactly, value}
@@ -17,6 +20,11 @@ both a b = cond a b false
 
 abbrev pub either : Bool → Bool → Bool
 either a b = cond a true b
+
+-- what stands in edition 1, and in edition 2
+abbrev pub byEdition : {A : Type 0} → Edition → A → A → A
+byEdition First x y = x
+byEdition Second x y = y
 
 -- a number, 0 to 255 by its form, that must be from low to below limit
 abbrev pub number : ℕ → ℕ → ℕ → Refusal → Spelling
@@ -83,16 +91,17 @@ maskSpelling z = number lineEnd 0 (2 ^ z .propositions) refusal.State
 unfoldable pub stateLine : Sizes → ℕ → Format → Format
 stateLine z s f = exactly (ascii "state,") (index s (value (maskSpelling z) (Mask s) (λ m. f)))
 
--- a cost is 0 to 15, and idle's is 0; the last of its line is followed by the line's end
+-- a field of a list with left further ones: the last is followed by the line's end
+abbrev pub listEnd : ℕ → ℕ
+listEnd left = cond (eqb left 0) lineEnd comma
+
+-- a cost is 0 to 15, and idle's is 0
 abbrev pub costLimit : ℕ → ℕ
 costLimit k = cond (eqb k 0) 1 (suc maxUnits)
 
-abbrev pub costEnd : ℕ → ℕ
-costEnd left = cond (eqb left 0) lineEnd comma
-
 -- a cost of action k, with left further costs on its line
 abbrev pub costSpelling : ℕ → ℕ → Spelling
-costSpelling k left = number (costEnd left) 0 (costLimit k) refusal.State
+costSpelling k left = number (listEnd left) 0 (costLimit k) refusal.State
 
 -- the costs of action k from resource j on: m of them, and then n further actions
 unfoldable pub costs : ℕ → ℕ → ℕ → ℕ → ℕ → ℕ → Format → Format
@@ -127,19 +136,39 @@ unfoldable pub jointFields : ℕ → ℕ → ℕ → Format → Format
 jointFields joint zero a f = f
 jointFields joint (suc n) a f = index (digit joint a) (jointFields joint n (suc a) f)
 
+-- each agent does its last action: no later joint action can be done
+unfoldable pub lastJoint : List ℕ → ℕ → Bool
+lastJoint counts joint =
+    both (eqb (digit joint 0 + 1) (getD counts 0 0)) (both (eqb (digit joint 1 + 1) (getD counts 1 0)) (eqb (digit joint 2 + 1) (getD counts 2 0)))
+
+-- the byte after a next state: edition 1 has a line for each, edition 2 one for all of a state
+abbrev pub nextEnd : Edition → List ℕ → ℕ → ℕ
+nextEnd e counts joint = byEdition e lineEnd (cond (lastJoint counts joint) lineEnd comma)
+
 -- a next state is one of the job's
-abbrev pub nextSpelling : Sizes → Spelling
-nextSpelling z = number lineEnd 0 (z .states) refusal.Next
+abbrev pub nextSpelling : Sizes → List ℕ → ℕ → Spelling
+nextSpelling z counts joint = number (nextEnd (z .edition) counts joint) 0 (z .states) refusal.Next
 
--- go,s, one action per agent, and the next state
-unfoldable pub goLine : Sizes → ℕ → ℕ → Format → Format
-goLine z s joint f =
-    exactly (ascii "go,") (index s (jointFields joint (z .agents) 0 (value (nextSpelling z) (Next s joint) (λ q. f))))
+-- go,s,
+unfoldable pub goWord : ℕ → Format → Format
+goWord s f = exactly (ascii "go,") (index s f)
 
--- the n joint actions from joint on: a line for each that can be done
-unfoldable pub goLines : Sizes → ℕ → List ℕ → ℕ → ℕ → Format → Format
-goLines z s counts zero joint f = f
-goLines z s counts (suc n) joint f = cond (possible counts joint) (goLine z s joint (goLines z s counts n (suc joint) f)) (goLines z s counts n (suc joint) f)
+-- go,s, and one action per agent, where the line is that of one joint action
+unfoldable pub goActions : Sizes → ℕ → ℕ → Format → Format
+goActions z s joint f = byEdition (z .edition) (goWord s (jointFields joint (z .agents) 0 f)) f
+
+-- go,s, where the line is that of the state
+unfoldable pub goState : Sizes → ℕ → Format → Format
+goState z s f = byEdition (z .edition) f (goWord s f)
+
+-- the next state of a joint action, and those of the n joint actions from joint on that can be done
+unfoldable pub nextField : Sizes → ℕ → List ℕ → ℕ → Format → Format
+nextField z s counts joint f = goActions z s joint (value (nextSpelling z counts joint) (Next s joint) (λ q. f))
+
+unfoldable pub nextFields : Sizes → ℕ → List ℕ → ℕ → ℕ → Format → Format
+nextFields z s counts zero joint f = f
+nextFields z s counts (suc n) joint f =
+    cond (possible counts joint) (nextField z s counts joint (nextFields z s counts n (suc joint) f)) (nextFields z s counts n (suc joint) f)
 
 -- an agent that does not exist can only do 0
 abbrev pub noCounts : List ℕ
@@ -147,7 +176,7 @@ noCounts = 1 ∷ 1 ∷ 1 ∷ []
 
 -- the lines of a state, and of n states from s on
 unfoldable pub stateLines : Sizes → ℕ → Format → Format
-stateLines z s f = stateLine z s (agentLines z s (z .agents) 0 noCounts (λ counts. goLines z s counts maxJoint 0 f))
+stateLines z s f = stateLine z s (agentLines z s (z .agents) 0 noCounts (λ counts. goState z s (nextFields z s counts maxJoint 0 f)))
 
 unfoldable pub states : Sizes → ℕ → ℕ → Format → Format
 states z zero s f = f
@@ -200,15 +229,43 @@ sizeSpelling sep high = number sep 1 (suc high) refusal.Sizes
 unfoldable pub size : ℕ → ℕ → ℕ → (ℕ → Format) → Format
 size sep f high k = value (sizeSpelling sep high) (Header f) k
 
--- job,N,R,M,P,F, then the states and the rows
-unfoldable pub headerLine : (Sizes → Format) → Format
-headerLine f =
-    exactly (ascii "job,")
+-- the words of the resources, in the order of their kinds
+unfoldable pub resourceWord : ℕ → List ℕ
+resourceWord k = getD (ascii "sum" ∷ ascii "max" ∷ []) k []
+
+-- the kind of a resource, before left further ones. Edition 1 has no word for it, and each is sum
+abbrev pub resourceSpelling : Edition → ℕ → Spelling
+resourceSpelling e left = record {
+  options = byEdition e (suc sumKind) (suc maxKind);
+  spell = λ k. byEdition e [] (resourceWord k ++ listEnd left ∷ []);
+  byte = λ k. k;
+  allowed = λ k. true;
+  refusal = refusal.Sizes;
+  chosen = λ v. v;
+}
+
+-- the kinds of n resources from resource j on
+unfoldable pub resourceFields : Edition → ℕ → ℕ → Format → Format
+resourceFields e zero j f = f
+resourceFields e (suc n) j f = value (resourceSpelling e n) (ResourceKind j) (λ v. resourceFields e n (suc j) f)
+
+-- the first word, and the byte after F, which the kinds follow in edition 2
+abbrev pub jobWord : Edition → List ℕ
+jobWord e = byEdition e (ascii "job,") (ascii "job2,")
+
+abbrev pub sizesEnd : Edition → ℕ
+sizesEnd e = byEdition e lineEnd comma
+
+-- job,N,R,M,P,F and the kinds, then the states and the rows
+unfoldable pub headerLine : Edition → (Sizes → Format) → Format
+headerLine e f =
+    exactly (jobWord e)
     (size comma agentsByte maxAgents λ n.
     size comma resourcesByte maxResources λ r.
     size comma statesByte maxStates λ m.
     size comma propositionsByte maxPropositions λ p.
-    size lineEnd rowsByte maxRows λ w. f (record { agents = n; resources = r; states = m; propositions = p; rows = w }))
+    size (sizesEnd e) rowsByte maxRows λ w.
+    resourceFields e r 0 (f (record { edition = e; agents = n; resources = r; states = m; propositions = p; rows = w })))
 
-unfoldable pub job : Format
-job = headerLine (λ z. states z (z .states) 0 (rowLines z (z .rows) 0 end))
+unfoldable pub job : Edition → Format
+job e = headerLine e (λ z. states z (z .states) 0 (rowLines z (z .rows) 0 end))

@@ -14,23 +14,37 @@ use Rattle.block.specs.declared.refusal.Refusal.the-variants.{Length, Form}
 use Rattle.block.specs.declared.refusal.Answer.{Answer}
 use Rattle.block.specs.declared.refusal.Answer.the-variants.{Value, Refused}
 use Rattle.text.specs.Format.{Outcome, accepted, refused, write, Spells, read, Stop, nowhere, stopped, stop}
-use Rattle.text.specs.Job.{either, job}
+use Rattle.text.specs.Numeral.{Found, found, missing, after}
+use Rattle.text.specs.Job.{either, jobWord, job}
+use Rattle.text.specs.declared.sizes.Edition.{Edition}
+use Rattle.text.specs.declared.sizes.Edition.the-variants.{First, Second}
 use Rattle.text.specs.Broken.{BrokenAt, UnlimitedNumber}
 
 -- a text is at most this long, and the writer's buffer has this length
 abbrev pub textBytes : ℕ
 textBytes = 32768
 
--- the text that the writer gives a block
+-- the text of a block in an edition, and that which the writer gives
+abbrev pub textIn : Edition → Block → List ℕ
+textIn e b = write (job e) b
+
 abbrev pub textOf : Block → List ℕ
-textOf b = write job b
+textOf b = textIn Second b
 
 unfoldable pub blank : Block
 blank = replicate blockBytes 0
 
+-- the edition of a text is told by its first word; what begins with neither is read as edition 1, and refused there
+abbrev pub toldBy : Found → Edition
+toldBy (found o rest) = Second
+toldBy missing = First
+
+abbrev pub editionOf : List ℕ → Edition
+editionOf t = toldBy (after 0 (jobWord Second) t missing)
+
 -- reading a text
 abbrev pub readText : List ℕ → Outcome
-readText t = read job blank t
+readText t = read (job (editionOf t)) blank t
 
 -- the read call: 1 for a text that is too long or a block of another length, else what reading comes to
 abbrev pub readCall : List ℕ → Block → Outcome
@@ -54,9 +68,9 @@ StopsAt t (refused r rest) n = (n ≤ length t) × (rest ≡ drop n t)
 abbrev pub stopRules : List ℕ → List Rule
 stopRules t = Length when (textBytes < length t) ∷ []
 
--- a text is accepted as a block exactly where the block passes and the text is one of its texts
+-- a text is accepted as a block exactly where the block passes and the text is one of its texts in an edition
 abbrev pub Exact : List ℕ → Type 0
-Exact t = (b : Block) → (readText t ≡ accepted b) ↔ (Passes b × Spells job b t)
+Exact t = (b : Block) → (readText t ≡ accepted b) ↔ (Passes b × ((e : Edition) × Spells (job e) b t))
 
 -- a text that is refused at a value gets the number of the condition that the block read so far, with that value's byte, meets at that very place;
 -- one that is refused elsewhere gets the number of the form
@@ -65,7 +79,7 @@ NumberedAt nowhere o = (r : Refusal) (rest : List ℕ) → o ≡ refused r rest 
 NumberedAt (stopped p b t) o = (r : Refusal) × (o ≡ refused r t) × ((BrokenAt b p r × Meets (blockRules b) r) ⊎ UnlimitedNumber b t p r)
 
 abbrev pub Numbered : List ℕ → Type 0
-Numbered t = NumberedAt (stop job blank t) (readText t)
+Numbered t = NumberedAt (stop (job (editionOf t)) blank t) (readText t)
 
 -- reading what is written for a block that passes gives the same block
 abbrev pub RoundTrip : Block → Type 0

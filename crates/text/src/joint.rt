@@ -16,3 +16,16 @@ pub fn possible(counts: [usize; layout::MAX_AGENTS], joint: usize) -> bool
     }
     digit(joint, 2) < counts[2]
 }
+
+// Whether each agent does its last action.
+pub fn last(counts: [usize; layout::MAX_AGENTS], joint: usize) -> bool
+    ensures { λ r. ⌜ r ≡ J.lastJoint counts joint ⌝ }
+{
+    if digit(joint, 0) + 1 != counts[0] {
+        return false;
+    }
+    if digit(joint, 1) + 1 != counts[1] {
+        return false;
+    }
+    digit(joint, 2) + 1 == counts[2]
+}

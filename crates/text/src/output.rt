@@ -8,7 +8,7 @@ ghost use Rattle.text.specs.Inner.Adding.{Adds, Untouched};
 ghost use Rattle.text.specs.Numeral.{numeral, decimal, field};
 
 // Puts a byte at a place of the text.
-fn put(text: &mut [u8], at: usize, x: u8) -> usize
+pub fn put(text: &mut [u8], at: usize, x: u8) -> usize
     requires { ⌜ at < length (now text) ⌝ }
     ensures { λ r. ⌜ Adds (x ∷ []) (now (text .entry)) at (now (text .exit)) r × (r ≡ at + 1) × Untouched (now (text .entry)) (now (text .exit)) r ⌝ }
 {

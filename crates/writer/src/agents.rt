@@ -1,7 +1,7 @@
 // The acts lines of a state.
 use crate::output::number;
 use block::layout;
-use text::ends::cost_end;
+use text::ends::list_end;
 use text::output::word;
 ghost use mathlib.Core.Path.{_≡_};
 ghost use Prim.Native.Nat.{_+_, _≤_, _<_};
@@ -10,8 +10,7 @@ ghost use Rattle.block.specs.Layout.{maxStates, maxAgents, maxActions};
 ghost use Rattle.block.specs.Inner.Valid.{Valid};
 ghost use Rattle.text.specs.Job as J;
 ghost use Rattle.writer.specs.Inner.Lengths.{costsBytes, actionsBytes, actsLineBytes, agentLinesBytes};
-ghost use Rattle.text.specs.Inner.Fields.{sizesOf};
-ghost use Rattle.writer.specs.Inner.Writing.{Past, PastWith, Room, countsTo};
+ghost use Rattle.writer.specs.Inner.Writing.{Past, PastWith, Room, countsTo, writtenSizes};
 
 // The costs of action k, which n further actions follow.
 fn costs(block: &[u8], text: &mut [u8], at: usize, s: usize, a: usize, n: usize, k: usize) -> usize
@@ -22,7 +21,7 @@ fn costs(block: &[u8], text: &mut [u8], at: usize, s: usize, a: usize, n: usize,
     let resources = layout::resources(block);
     let mut next = at;
     for j in 0..resources {
-        let sep = cost_end(n + (resources - (j + 1)));
+        let sep = list_end(n + (resources - (j + 1)));
         next = number(text, next, layout::cost(block, s, a, k, j), sep);
     }
     next
@@ -31,7 +30,7 @@ fn costs(block: &[u8], text: &mut [u8], at: usize, s: usize, a: usize, n: usize,
 fn actions(block: &[u8], text: &mut [u8], at: usize, s: usize, a: usize) -> usize
     requires { ⌜ Valid (now block) × Room (now text) (at + actionsBytes) ⌝ }
     requires { ⌜ (s < L.states (now block)) × (a < L.agents (now block)) ⌝ }
-    ensures { λ r. ⌜ Past (now (block .entry)) (J.actions (sizesOf (now (block .entry))) s a (L.count (now (block .entry)) s a) 0) (now (text .entry)) at (now (text .exit)) r × (r ≤ at + actionsBytes) ⌝ }
+    ensures { λ r. ⌜ Past (now (block .entry)) (J.actions (writtenSizes (now (block .entry))) s a (L.count (now (block .entry)) s a) 0) (now (text .entry)) at (now (text .exit)) r × (r ≤ at + actionsBytes) ⌝ }
 {
     let actions = layout::count(block, s, a);
     let mut next = at;
@@ -45,7 +44,7 @@ fn actions(block: &[u8], text: &mut [u8], at: usize, s: usize, a: usize) -> usiz
 fn acts_line(block: &[u8], text: &mut [u8], at: usize, s: usize, a: usize) -> usize
     requires { ⌜ Valid (now block) × Room (now text) (at + actsLineBytes) ⌝ }
     requires { ⌜ (s < L.states (now block)) × (a < L.agents (now block)) ⌝ }
-    ensures { λ r. ⌜ PastWith (now (block .entry)) (J.actsLine (sizesOf (now (block .entry))) s a) (L.count (now (block .entry)) s a) (now (text .entry)) at (now (text .exit)) r × (r ≤ at + actsLineBytes) ⌝ }
+    ensures { λ r. ⌜ PastWith (now (block .entry)) (J.actsLine (writtenSizes (now (block .entry))) s a) (L.count (now (block .entry)) s a) (now (text .entry)) at (now (text .exit)) r × (r ≤ at + actsLineBytes) ⌝ }
 {
     let state = word(text, at, b"acts,");
     let agent = number(text, state, s, b',');
@@ -58,7 +57,7 @@ fn acts_line(block: &[u8], text: &mut [u8], at: usize, s: usize, a: usize) -> us
 pub fn agent_lines(block: &[u8], text: &mut [u8], at: usize, s: usize) -> usize
     requires { ⌜ Valid (now block) × Room (now text) (at + agentLinesBytes) ⌝ }
     requires { ⌜ s < L.states (now block) ⌝ }
-    ensures { λ r. ⌜ PastWith (now (block .entry)) (J.agentLines (sizesOf (now (block .entry))) s (L.agents (now (block .entry))) 0 J.noCounts) (countsTo (now (block .entry)) s (L.agents (now (block .entry)))) (now (text .entry)) at (now (text .exit)) r × (r ≤ at + agentLinesBytes) ⌝ }
+    ensures { λ r. ⌜ PastWith (now (block .entry)) (J.agentLines (writtenSizes (now (block .entry))) s (L.agents (now (block .entry))) 0 J.noCounts) (countsTo (now (block .entry)) s (L.agents (now (block .entry)))) (now (text .entry)) at (now (text .exit)) r × (r ≤ at + agentLinesBytes) ⌝ }
 {
     let agents = layout::agents(block);
     let mut next = at;

@@ -1,15 +1,16 @@
 // The spellings of a field.
 use block::layout;
 use text::output::field;
+use text::output::put;
 use text::output::word;
 ghost use mathlib.Core.List.{_∷_, [], _++_};
 ghost use Prim.Native.Nat.{_+_, _≤_, _<_};
 ghost use lib.ListN.{length};
-ghost use Rattle.block.specs.Layout.{kinds};
+ghost use Rattle.block.specs.Layout.{kinds, maxKind};
 ghost use Rattle.text.specs.Job as J;
 ghost use Rattle.text.specs.Numeral.{numbers, decimal};
 ghost use Rattle.text.specs.Inner.Adding.{Adds};
-ghost use Rattle.writer.specs.Inner.Lengths.{fieldBytes, indexBytes, actionBytes, wordBytes};
+ghost use Rattle.writer.specs.Inner.Lengths.{fieldBytes, indexBytes, actionBytes, wordBytes, resourceBytes};
 
 // A number and the comma or line end after it.
 pub fn number(text: &mut [u8], at: usize, n: usize, sep: u8) -> usize
@@ -43,5 +44,24 @@ pub fn kind(text: &mut [u8], at: usize, k: usize) -> usize
         layout::NEXT_KIND => word(text, at, b"next,"),
         layout::ALWAYS_KIND => word(text, at, b"always,"),
         _ => word(text, at, b"until,"),
+    }
+}
+
+// The word of a resource's kind, and the comma or line end after it.
+pub fn resource(text: &mut [u8], at: usize, k: usize, sep: u8) -> usize
+    requires { ⌜ (at + fieldBytes ≤ length (now text)) × (k ≤ maxKind) ⌝ }
+    ensures { λ r. ⌜ Adds (J.resourceWord k ++ sep ∷ []) (now (text .entry)) at (now (text .exit)) r × (r ≤ at + fieldBytes) ⌝ }
+{
+    let end = resource_word(text, at, k);
+    put(text, end, sep)
+}
+
+fn resource_word(text: &mut [u8], at: usize, k: usize) -> usize
+    requires { ⌜ (at + resourceBytes ≤ length (now text)) × (k ≤ maxKind) ⌝ }
+    ensures { λ r. ⌜ Adds (J.resourceWord k) (now (text .entry)) at (now (text .exit)) r × (r ≡ at + resourceBytes) ⌝ }
+{
+    match k {
+        layout::SUM_KIND => word(text, at, b"sum"),
+        _ => word(text, at, b"max"),
     }
 }

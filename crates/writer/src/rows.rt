@@ -10,8 +10,7 @@ ghost use Rattle.block.specs.Layout.{maxRows};
 ghost use Rattle.block.specs.Inner.Valid.{Valid};
 ghost use Rattle.text.specs.Job as J;
 ghost use Rattle.writer.specs.Inner.Lengths.{boundsBytes, teamBytes, operandsBytes, rowLineBytes, rowLinesBytes};
-ghost use Rattle.text.specs.Inner.Fields.{sizesOf};
-ghost use Rattle.writer.specs.Inner.Writing.{Past, Room};
+ghost use Rattle.writer.specs.Inner.Writing.{Past, Room, writtenSizes};
 
 // The bounds of row i.
 fn bounds(block: &[u8], text: &mut [u8], at: usize, i: usize) -> usize
@@ -31,7 +30,7 @@ fn bounds(block: &[u8], text: &mut [u8], at: usize, i: usize) -> usize
 fn team_fields(block: &[u8], text: &mut [u8], at: usize, i: usize, k: usize) -> usize
     requires { ⌜ Valid (now block) × Room (now text) (at + teamBytes) ⌝ }
     requires { ⌜ i < maxRows ⌝ }
-    ensures { λ r. ⌜ Past (now (block .entry)) (J.teamFields (sizesOf (now (block .entry))) i k) (now (text .entry)) at (now (text .exit)) r × (r ≤ at + teamBytes) ⌝ }
+    ensures { λ r. ⌜ Past (now (block .entry)) (J.teamFields (writtenSizes (now (block .entry))) i k) (now (text .entry)) at (now (text .exit)) r × (r ≤ at + teamBytes) ⌝ }
 {
     if strategic(k) {
         let next = number(text, at, layout::team(block, i), b',');
@@ -44,7 +43,7 @@ fn team_fields(block: &[u8], text: &mut [u8], at: usize, i: usize, k: usize) -> 
 fn operand_fields(block: &[u8], text: &mut [u8], at: usize, i: usize, k: usize) -> usize
     requires { ⌜ Valid (now block) × Room (now text) (at + operandsBytes) ⌝ }
     requires { ⌜ i < maxRows ⌝ }
-    ensures { λ r. ⌜ Past (now (block .entry)) (J.operandFields (sizesOf (now (block .entry))) i k) (now (text .entry)) at (now (text .exit)) r × (r ≤ at + operandsBytes) ⌝ }
+    ensures { λ r. ⌜ Past (now (block .entry)) (J.operandFields (writtenSizes (now (block .entry))) i k) (now (text .entry)) at (now (text .exit)) r × (r ≤ at + operandsBytes) ⌝ }
 {
     let left = layout::left(block, i);
     if binary(k) {
@@ -58,7 +57,7 @@ fn operand_fields(block: &[u8], text: &mut [u8], at: usize, i: usize, k: usize) 
 fn row_line(block: &[u8], text: &mut [u8], at: usize, i: usize) -> usize
     requires { ⌜ Valid (now block) × Room (now text) (at + rowLineBytes) ⌝ }
     requires { ⌜ i < L.rows (now block) ⌝ }
-    ensures { λ r. ⌜ Past (now (block .entry)) (J.rowLine (sizesOf (now (block .entry))) i) (now (text .entry)) at (now (text .exit)) r × (r ≤ at + rowLineBytes) ⌝ }
+    ensures { λ r. ⌜ Past (now (block .entry)) (J.rowLine (writtenSizes (now (block .entry))) i) (now (text .entry)) at (now (text .exit)) r × (r ≤ at + rowLineBytes) ⌝ }
 {
     let k = layout::kind(block, i);
     let team = output::kind(text, at, k);
@@ -69,7 +68,7 @@ fn row_line(block: &[u8], text: &mut [u8], at: usize, i: usize) -> usize
 // The lines of all rows.
 pub fn row_lines(block: &[u8], text: &mut [u8], at: usize) -> usize
     requires { ⌜ Valid (now block) × Room (now text) (at + rowLinesBytes) ⌝ }
-    ensures { λ r. ⌜ Past (now (block .entry)) (J.rowLines (sizesOf (now (block .entry))) (L.rows (now (block .entry))) 0) (now (text .entry)) at (now (text .exit)) r × (r ≤ at + rowLinesBytes) ⌝ }
+    ensures { λ r. ⌜ Past (now (block .entry)) (J.rowLines (writtenSizes (now (block .entry))) (L.rows (now (block .entry))) 0) (now (text .entry)) at (now (text .exit)) r × (r ≤ at + rowLinesBytes) ⌝ }
 {
     let rows = layout::rows(block);
     let mut next = at;

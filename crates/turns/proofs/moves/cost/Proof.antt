@@ -83,7 +83,7 @@ loop-again c =
     ⊎-elim
     (λ w. (
       w .3 ∙ w .2 .ensures ∙ member-joins (args .block .now) (pre .0) (args .team) (args .m) (args .s) (args .j) (at .a) (at .rest) (at .k) (at .total) (pre .1 .0 .0) (pre .1 .0 .1) (turn-agent t) (pre .1 .1) (at .inv .3) (at .inv .4) (at .inv .1)
-      (w .0 .taken) (w .1 .result) (c .before .before .before .before .resource-kind .result) (w .1 .ensures) (c .before .before .before .before .resource-kind .ensures),
+          (w .0 .taken) (w .1 .result) (c .before .before .before .before .resource-kind .result) (w .1 .ensures) (c .before .before .before .before .resource-kind .ensures),
       omega (arith, w .3, w .2 .ensures, combine-most (c .before .before .before .before .resource-kind .result) (at .total) (w .1 .result), turn-small t (w .0 .taken) (w .1 .result) (w .1 .ensures), at .inv .2),
     ))
     (λ w. (
