@@ -3,20 +3,26 @@
 use mathlib.Core.Bool.{Bool, true, false, cond}
 use mathlib.Core.List.{List, [], _∷_, _++_}
 use mathlib.Core.Path.{_≡_, refl, sym, ap, _∙_}
-use Prim.Native.Nat.{ℕ, _≤_, _<_}
+use Prim.Native.Nat.{ℕ, suc, _≤_, _<_}
+use native.Mathlib.Omega.{arith}
 use lib.Dec.{leb, ltb}
+use lib.ListN.{length, drop}
+use borrow.Author.Needs.{zero≤}
 use borrow.Author.Tests.{le-leb, lt-leb, lt-ltb, le-ltb}
-use Rattle.block.specs.Layout.{Block, propKind, notKind, orKind, nextKind, alwaysKind, untilKind, kinds}
+use Rattle.block.specs.Layout.{Block, sumKind, maxKind, propKind, notKind, orKind, nextKind, alwaysKind, untilKind, kinds}
 use Rattle.block.specs.declared.layout.Place.{Place}
 use Rattle.block.specs.declared.refusal.Refusal.the-variants.{Form}
+use Rattle.text.specs.declared.sizes.Edition.the-variants.{Second}
 use Rattle.text.specs.Numeral.{ascii, comma, numbers, decimal, Starts, Found, found, missing, after, search}
 use Rattle.text.specs.Format.{Spelling, Format, value, Outcome, refused, store, onFound, read}
-use Rattle.text.specs.Job.{both, infBound, emptyBound, boundSpellings, bound, boundField, kindWord, index}
-use Rattle.scan.specs.Inner.Step.{resume, resumeWith, pastValue, valueOr, Ranged, Inside, InsideWith}
+use Rattle.text.specs.Job.{both, infBound, emptyBound, boundSpellings, bound, boundField, kindWord, index, listEnd, resourceWord, resourceSpelling}
+use Rattle.scan.specs.Inner.Step.{resume, resumeWith, pastValue, valueOr, Ranged, NumberedBelow, foundAt, valueOf, storedFound, Inside, InsideWith, InsideNumeral}
 use Rattle.scan.specs.declared.step.Value.{Value}
 use Rattle.scan.specs.declared.step.Value.the-variants as value-at
+use Rattle.scan.specs.declared.step.Numeral.{Numeral}
+use Rattle.scan.specs.declared.step.Numeral.the-variants as numeral-at
 use Rattle.text.proofs.Spellings.{bound-spelled}
-use Rattle.text.proofs.Search.{after-found, after-other, search-step, search-same}
+use Rattle.text.proofs.Search.{after-found, after-other, search-step, search-same, search-inv}
 
 module _ (n : ℕ) (t : List ℕ) (f : Format) (b : Block) where
   pub index-next : (rest : List ℕ) → t ≡ (decimal n ++ comma ∷ []) ++ rest → read (index n f) b t ≡ read f b rest
@@ -71,6 +77,15 @@ pub kind-search : (t : List ℕ) → search kindWord kinds t ≡ after untilKind
 unfolding search kindWord
 kind-search t = refl
 
+pub resource-search : (left : ℕ) (t : List ℕ) → search (resourceSpelling Second left .spell) 2 t ≡ after maxKind (ascii "max" ++ listEnd left ∷ []) t (after sumKind (ascii "sum" ++ listEnd left ∷ []) t missing)
+unfolding search resourceWord
+resource-search left t = refl
+
+-- edition 1 finds sum in every text, and nothing is read
+pub silent-search : (t : List ℕ) → search (λ k. []) (suc sumKind) t ≡ found sumKind t
+unfolding search after
+silent-search t = refl
+
 -- past a value, reading goes on from the step past it
 pub past-inside : (t : List ℕ) (v : Value) → InsideWith t v → Inside t (pastValue v)
 past-inside t (value-at.At n next) h = h .1
@@ -84,3 +99,28 @@ with-law t (value-at.Refused r at) d g = refl
 pub ranged-or : (low limit d : ℕ) (v : Value) → low ≤ d → d < limit → Ranged low limit v → (low ≤ valueOr d v) × (valueOr d v < limit)
 ranged-or low limit d (value-at.At n next) l h r = r
 ranged-or low limit d (value-at.Refused x at) l h r = (l, h)
+
+-- a field each of whose spellings may stand there, and is the number of its byte
+pub record Plain (x : Spelling) : Type 0 where
+  pub any : (o : ℕ) → x .allowed o ≡ true
+  pub itself : (o : ℕ) → x .byte o ≡ o
+
+-- what was found of such a field at a place, stored
+pub record Filled (x : Spelling) (t : List ℕ) (at : ℕ) (p : Place) (b : Block) (found : Numeral) : Type 0 where
+  pub reads : (k : ℕ → Format) → read (value x p k) b (drop at t) ≡ resumeWith t (valueOf found at) (λ v rest. read (k v) (storedFound b p found) rest)
+  pub inside : InsideWith t (valueOf found at)
+  pub ranged : Ranged 0 (x .options) (valueOf found at)
+  pub below : NumberedBelow numbers found
+
+module _ (x : Spelling) (plain : Plain x) (few : x .options ≤ numbers) (t : List ℕ) (at : ℕ) (here : at ≤ length t) (p : Place) (b : Block) where
+  pub filled : (found : Numeral) → search (x .spell) (x .options) (drop at t) ≡ foundAt t found → InsideNumeral t found → Filled x t at p b found
+  filled (numeral-at.Found n next) e i =
+      let small = search-inv (x .spell) (drop at t) (x .options) n (drop next t) e .0 in
+      record {
+        reads = λ k. value-next x p k b (drop at t) n n (drop next t) (store b p n) e (plain .any n) (plain .itself n) refl;
+        inside = (omega arith, i .1);
+        ranged = (zero≤, small);
+        below = omega arith;
+      }
+  filled numeral-at.Missing e i =
+      record { reads = λ k. value-missing x p k b (drop at t) e; inside = here; ranged = tt; below = tt }
