@@ -50,7 +50,8 @@ fn go_actions(text: &[u8], at: Step, z: Sizes, s: usize, joint: usize) -> Step
     ensures { λ r. ⌜ ((f : Format) (b : Block) → resume (now (text .entry)) at (read (J.goActions z s joint f) b) ≡ resume (now (text .entry)) r (read f b)) ⌝ }
     ensures { λ r. ⌜ Inside (now (text .entry)) r ⌝ }
 {
-    match z.edition {
+    let e = z.edition;
+    match e {
         Edition::First => joint_fields(text, go_word(text, at, s), joint, z.agents),
         Edition::Second => at,
     }
@@ -62,7 +63,8 @@ fn go_state(text: &[u8], at: Step, z: Sizes, s: usize) -> Step
     ensures { λ r. ⌜ ((f : Format) (b : Block) → resume (now (text .entry)) at (read (J.goState z s f) b) ≡ resume (now (text .entry)) r (read f b)) ⌝ }
     ensures { λ r. ⌜ Inside (now (text .entry)) r ⌝ }
 {
-    match z.edition {
+    let e = z.edition;
+    match e {
         Edition::First => at,
         Edition::Second => go_word(text, at, s),
     }
@@ -84,7 +86,8 @@ fn next_field(
     ensures { λ r. ⌜ Inside (now (text .entry)) r ⌝ }
 {
     let acted = go_actions(text, at, z, s, joint);
-    let sep = next_end(z.edition, counts, joint) as usize;
+    let e = z.edition;
+    let sep = next_end(e, counts, joint) as usize;
     past_field(
         text,
         acted,

@@ -112,7 +112,8 @@ pub fn header(text: &[u8], job: &mut [u8], e: Edition) -> Opened
     let after_p = p.next;
     let sep = sizes_end(e) as usize;
     let w = size(text, after_p, job, ROWS_BYTE, sep, MAX_ROWS);
-    let next = resources(text, w.next, job, e, r.value);
+    let after_w = w.next;
+    let next = resources(text, after_w, job, e, r.value);
     let z = Sizes {
         edition: e,
         agents: n.value,

@@ -36,12 +36,12 @@ fn edition(text: &[u8]) -> Edition
 }
 
 // All lines of the text.
-fn lines(text: &[u8], job: &mut [u8], e: Edition) -> Step
+fn lines(text: &[u8], job: &mut [u8]) -> Step
     requires { ⌜ length (now job) ≡ blockBytes ⌝ }
-    ensures { λ r. ⌜ read (J.job e) (now (job .entry)) (now (text .entry)) ≡ resume (now (text .entry)) r (read end (now (job .exit))) ⌝ }
+    ensures { λ r. ⌜ read (J.job (editionOf (now (text .entry)))) (now (job .entry)) (now (text .entry)) ≡ resume (now (text .entry)) r (read end (now (job .exit))) ⌝ }
     ensures { λ r. ⌜ Inside (now (text .entry)) r ⌝ }
 {
-    let opened = header(text, job, e);
+    let opened = header(text, job, edition(text));
     let z = opened.z;
     let first = opened.next;
     let next = states(text, first, job, z);
@@ -54,7 +54,7 @@ fn read_into(text: &[u8], job: &mut [u8]) -> Step
     ensures { λ r. ⌜ read (J.job (editionOf (now (text .entry)))) (now (job .entry)) (now (text .entry)) ≡ outcomeAt (now (text .entry)) r (now (job .exit)) ⌝ }
     ensures { λ r. ⌜ Inside (now (text .entry)) r ⌝ }
 {
-    match lines(text, job, edition(text)) {
+    match lines(text, job) {
         Step::Next(at) => {
             if at < text.len() {
                 Step::Refused(Refusal::Form, at)

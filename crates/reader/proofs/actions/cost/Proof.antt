@@ -4,8 +4,8 @@ use borrow.Author.Needs.{needs}
 use Rattle.reader.proofs.actions.cost.Statement.{statement}
 use Rattle.reader.proofs.actions.cost.Tie as tie
 
-cost-end-requires : tie.Need-cost-end-requires
-cost-end-requires c κs = search needs
+list-end-requires : tie.Need-list-end-requires
+list-end-requires c κs = search needs
 
 cast-sep : tie.Need-cast-sep
 cast-sep c = omega arith
@@ -20,9 +20,9 @@ same-length : tie.Need-same-length
 same-length c = search needs
 
 returns : tie.Need-returns
-returns c = rw (← c .before .before .before .before .before .cost-end .ensures .0, ← c .before .before .before .before .cost-limit .ensures) (c .before .before .past-field .ensures)
+returns c = rw (← c .before .before .before .before .before .list-end .ensures .0, ← c .before .before .before .before .cost-limit .ensures) (c .before .before .past-field .ensures)
 
 pub cost-spec : {M : Type 1} → statement M
 cost-spec =
     tie.close
-    (tie.spec cost-end-requires cast-sep cost-limit-requires past-field-requires same-length returns)
+    (tie.spec list-end-requires cast-sep cost-limit-requires past-field-requires same-length returns)

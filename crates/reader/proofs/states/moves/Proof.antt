@@ -55,7 +55,7 @@ returns : tie.Need-returns Inv-loop μ-loop
 returns c =
     let g = c .before .before .before .before .before .before .before .before .args in (
       λ f.
-          acted-all (c .before .before .before .before .before .loop .inv .4) (c .before .before .before .before .loop-test .left) (λ counts. J.goLines (g .z) (g .s) counts maxJoint 0 f)
+          acted-all (c .before .before .before .before .before .loop .inv .4) (c .before .before .before .before .loop-test .left) (λ counts. J.goState (g .z) (g .s) (J.nextFields (g .z) (g .s) counts maxJoint 0 f))
           ∙ c .before .before .gos .ensures .0 f,
       c .before .before .gos .ensures .1,
     )

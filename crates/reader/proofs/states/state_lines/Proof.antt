@@ -20,7 +20,7 @@ unfolding J.stateLines
 returns c =
     let g = c .before .before .before .before .before .before .before .before .before .before .args in (
       λ f.
-          c .before .before .before .before .before .before .state-line .ensures .0 (J.agentLines (g .z) (g .s) (g .z .agents) 0 J.noCounts (λ counts. J.goLines (g .z) (g .s) counts maxJoint 0 f))
+          c .before .before .before .before .before .before .state-line .ensures .0 (J.agentLines (g .z) (g .s) (g .z .agents) 0 J.noCounts (λ counts. J.goState (g .z) (g .s) (J.nextFields (g .z) (g .s) counts maxJoint 0 f)))
           ∙ c .before .before .moves .ensures .0 f,
       c .before .before .moves .ensures .1,
     )

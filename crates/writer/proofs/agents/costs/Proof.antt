@@ -25,17 +25,17 @@ resources-requires c κs = omega arith
 loop-holds : tie.Need-loop-holds Inv-loop μ-loop
 loop-holds c = (omega arith, (refl, (omega arith, looped-none)))
 
-add-cost-end : tie.Need-add-cost-end Inv-loop μ-loop
-add-cost-end c = omega arith
+add-list-end : tie.Need-add-list-end Inv-loop μ-loop
+add-list-end c = omega arith
 
-sub-cost-end : tie.Need-sub-cost-end Inv-loop μ-loop
-sub-cost-end c = omega arith
+sub-list-end : tie.Need-sub-list-end Inv-loop μ-loop
+sub-list-end c = omega arith
 
-add-cost-end-2 : tie.Need-add-cost-end-2 Inv-loop μ-loop
-add-cost-end-2 c = omega arith
+add-list-end-2 : tie.Need-add-list-end-2 Inv-loop μ-loop
+add-list-end-2 c = omega arith
 
-cost-end-requires : tie.Need-cost-end-requires Inv-loop μ-loop
-cost-end-requires c κs = tt
+list-end-requires : tie.Need-list-end-requires Inv-loop μ-loop
+list-end-requires c κs = tt
 
 cost-requires : tie.Need-cost-requires Inv-loop μ-loop
 cost-requires c κs = omega arith
@@ -57,11 +57,11 @@ loop-again : tie.Need-loop-again Inv-loop μ-loop
 loop-again c =
     let g = c .before .before .before .before .before .before .before .before .before .before .before .args in
     let inv = c .before .before .before .before .before .before .before .loop .inv in
-    let cost-end = c .before .before .before .before .before .cost-end .ensures .0 in
+    let list-end = c .before .before .before .before .before .list-end .ensures .0 in
     let cost = c .before .before .before .cost .ensures in
     let number = c .before .before .number .ensures in
     let b = g .block .now in
-    (omega arith, (omega arith, (omega arith, looped-more (costs-loop (g .s) (g .a) (g .n) (g .k)) (inv .1 .1 .1) (omega arith) (λ f. rw (cost, cost-end) at (number .0 (write f b))))))
+    (omega arith, (omega arith, (omega arith, looped-more (costs-loop (g .s) (g .a) (g .n) (g .k)) (inv .1 .1 .1) (omega arith) (λ f. rw (cost, list-end) at (number .0 (write f b))))))
 
 same-length : tie.Need-same-length Inv-loop μ-loop
 same-length c = omega arith
@@ -81,10 +81,10 @@ costs-spec =
     μ-loop
     resources-requires
     loop-holds
-    add-cost-end
-    sub-cost-end
-    add-cost-end-2
-    cost-end-requires
+    add-list-end
+    sub-list-end
+    add-list-end-2
+    list-end-requires
     cost-requires
     number-requires
     add-j

@@ -1,0 +1,67 @@
+-- `resources` reads the kinds of the resources. Assumes nothing.
+use mathlib.Core.Path.{_≡_, sym, _∙_}
+use Prim.Native.Nat.{_≤_, _-_}
+use native.Mathlib.Omega.{arith}
+use lib.ListN.{length}
+use Rattle.block.specs.Layout.{blockBytes}
+use Rattle.text.specs.Job as J
+use Rattle.scan.specs.Inner.Step.{Inside}
+use Rattle.reader.proofs.Progress.{Reached, reached-none, reached-more, reached-all}
+use Rattle.text.proofs.JobLoops.{resources-loop}
+use borrow.Author.Needs.{needs}
+use Rattle.reader.proofs.header.resources.Statement.{statement}
+use Rattle.reader.proofs.header.resources.Tie as tie
+
+abbrev Inv-loop : tie.InvT-loop
+Inv-loop text job₀ e resources next₀ j₀ job next j = Inside text next × (length job ≡ blockBytes) × (j ≤ resources) × Reached (J.resourceFields e) text resources next₀ job₀ next job j
+
+abbrev μ-loop : tie.MeasureT-loop
+μ-loop text job₀ e resources next₀ j₀ job next j = resources - j
+
+loop-holds : tie.Need-loop-holds Inv-loop μ-loop
+loop-holds c = (search needs, search needs, search needs, reached-none)
+
+add-past-resource : tie.Need-add-past-resource Inv-loop μ-loop
+add-past-resource c = omega arith
+
+sub-past-resource : tie.Need-sub-past-resource Inv-loop μ-loop
+sub-past-resource c = omega arith
+
+past-resource-requires : tie.Need-past-resource-requires Inv-loop μ-loop
+past-resource-requires c κs =
+    let inv = c .before .before .loop .inv in
+    (inv .0, (inv .1, omega arith))
+
+add-j : tie.Need-add-j Inv-loop μ-loop
+add-j c = omega arith
+
+loop-less : tie.Need-loop-less Inv-loop μ-loop
+loop-less c = omega arith
+
+loop-again : tie.Need-loop-again Inv-loop μ-loop
+loop-again c =
+    let inv = c .before .before .before .before .before .loop .inv in
+    let call = c .before .before .past-resource in
+    (call .ensures .1, call .kept .1 .1 .0 ∙ inv .1, omega arith, reached-more (resources-loop _) (inv .3) (c .before .before .before .before .loop-test .taken) (call .ensures .0))
+
+same-length : tie.Need-same-length Inv-loop μ-loop
+same-length c = c .before .loop .inv .1 ∙ sym (c .before .before .before .before .pre .0 .1)
+
+returns : tie.Need-returns Inv-loop μ-loop
+returns c = (reached-all (resources-loop _) (c .before .loop .inv .3) (c .loop-test .left), c .before .loop .inv .0)
+
+pub resources-spec : {M : Type 1} → statement M
+resources-spec =
+    tie.close
+    (tie.spec
+    Inv-loop
+    μ-loop
+    loop-holds
+    add-past-resource
+    sub-past-resource
+    past-resource-requires
+    add-j
+    loop-less
+    loop-again
+    same-length
+    returns)
