@@ -4,6 +4,7 @@ use text::output::field;
 use text::output::put;
 use text::output::word;
 ghost use mathlib.Core.List.{_∷_, [], _++_};
+ghost use mathlib.Core.Path.{_≡_};
 ghost use Prim.Native.Nat.{_+_, _≤_, _<_};
 ghost use lib.ListN.{length};
 ghost use Rattle.block.specs.Layout.{kinds, maxKind};

@@ -16,9 +16,16 @@ actionBytes = 2
 abbrev pub wordBytes : ℕ
 wordBytes = 7
 
--- job, and five sizes
+-- the word of a resource, without the comma or line end after it; the words of all
+abbrev pub resourceBytes : ℕ
+resourceBytes = 3
+
+abbrev pub resourcesBytes : ℕ
+resourcesBytes = fieldBytes * maxResources
+
+-- job2, five sizes and the kinds
 abbrev pub headerLineBytes : ℕ
-headerLineBytes = 4 + 5 * fieldBytes
+headerLineBytes = 5 + 5 * fieldBytes + resourcesBytes
 
 -- the costs of an action and of an agent; acts, the state, the agent and the count before them; the acts lines of a state
 abbrev pub costsBytes : ℕ
@@ -33,22 +40,16 @@ actsLineBytes = 5 + 2 * indexBytes + fieldBytes + actionsBytes
 abbrev pub agentLinesBytes : ℕ
 agentLinesBytes = actsLineBytes * maxAgents
 
--- an action of each agent; go, the state and the next state around them; the go lines of a state
-abbrev pub jointBytes : ℕ
-jointBytes = actionBytes * maxAgents
-
+-- go, the state and the next states
 abbrev pub goLineBytes : ℕ
-goLineBytes = 3 + indexBytes + jointBytes + fieldBytes
-
-abbrev pub goLinesBytes : ℕ
-goLinesBytes = goLineBytes * maxJoint
+goLineBytes = 3 + indexBytes + fieldBytes * maxJoint
 
 -- state, its number and its mask; all lines of a state, and of the states
 abbrev pub stateLineBytes : ℕ
 stateLineBytes = 6 + indexBytes + fieldBytes
 
 abbrev pub stateLinesBytes : ℕ
-stateLinesBytes = stateLineBytes + agentLinesBytes + goLinesBytes
+stateLinesBytes = stateLineBytes + agentLinesBytes + goLineBytes
 
 abbrev pub statesBytes : ℕ
 statesBytes = stateLinesBytes * maxStates

@@ -6,6 +6,9 @@ use lib.ListN.{length, take, set}
 use Rattle.block.specs.Layout as L
 use Rattle.block.specs.Layout.{Block}
 use Rattle.text.specs.Format.{Format, write}
+use Rattle.text.specs.declared.sizes.Edition.the-variants.{Second}
+use Rattle.text.specs.declared.sizes.Sizes.{Sizes}
+use Rattle.text.specs.Inner.Fields.{sizesOf}
 use Rattle.text.specs.Job.{noCounts}
 use Rattle.text.specs.Text.{textBytes}
 
@@ -25,3 +28,7 @@ Room t n = (length t ≡ textBytes) × (n < textBytes)
 abbrev pub countsTo : Block → ℕ → ℕ → List ℕ
 countsTo b s zero = noCounts
 countsTo b s (suc a) = set (countsTo b s a) a (L.count b s a)
+
+-- what the first line of a block's text tells: the writer writes edition 2
+abbrev pub writtenSizes : Block → Sizes
+writtenSizes b = sizesOf Second b

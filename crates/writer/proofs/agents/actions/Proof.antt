@@ -5,14 +5,14 @@ use native.Mathlib.Omega.{arith}
 use lib.ListN.{length}
 use Rattle.text.specs.Job as J
 use Rattle.writer.specs.Inner.Lengths.{costsBytes}
-use Rattle.text.specs.Inner.Fields.{sizesOf}
+use Rattle.writer.specs.Inner.Writing.{writtenSizes}
 use Rattle.text.proofs.JobLoops.{actions-loop}
 use Rattle.writer.proofs.Writing.{Looped, looped-none, looped-more, looped-all}
 use Rattle.writer.proofs.agents.actions.Statement.{statement}
 use Rattle.writer.proofs.agents.actions.Tie as tie
 
 abbrev Inv-loop : tie.InvT-loop
-Inv-loop block text₀ at s a actions next₀ k₀ text next k = (k ≤ actions) × ((length text ≡ length text₀) × ((next ≤ at + costsBytes * k) × Looped (J.actions (sizesOf block) s a) actions block text₀ at text next k))
+Inv-loop block text₀ at s a actions next₀ k₀ text next k = (k ≤ actions) × ((length text ≡ length text₀) × ((next ≤ at + costsBytes * k) × Looped (J.actions (writtenSizes block) s a) actions block text₀ at text next k))
 
 abbrev μ-loop : tie.MeasureT-loop
 μ-loop block text₀ at s a actions next₀ k₀ text next k = actions - k
@@ -47,7 +47,7 @@ loop-again c =
     let g = c .before .before .before .before .before .before .before .before .before .args in
     let inv = c .before .before .before .before .before .loop .inv in
     let costs = c .before .before .costs .ensures in
-    (omega arith, (omega arith, (omega arith, looped-more (actions-loop (sizesOf (g .block .now)) (g .s) (g .a)) (inv .1 .1 .1) (omega arith) (costs .0))))
+    (omega arith, (omega arith, (omega arith, looped-more (actions-loop (writtenSizes (g .block .now)) (g .s) (g .a)) (inv .1 .1 .1) (omega arith) (costs .0))))
 
 same-length : tie.Need-same-length Inv-loop μ-loop
 same-length c = omega arith
@@ -59,7 +59,7 @@ returns c =
     let count = c .before .before .count .ensures in
     let inv = c .before .loop .inv in
     let few = pre .0 .0 .counted (g .s) (g .a) (omega arith) (omega arith) in
-    (looped-all (actions-loop (sizesOf (g .block .now)) (g .s) (g .a)) (rw count at (inv .1 .1 .1)) (omega arith), omega arith)
+    (looped-all (actions-loop (writtenSizes (g .block .now)) (g .s) (g .a)) (rw count at (inv .1 .1 .1)) (omega arith), omega arith)
 
 pub actions-spec : {M : Type 1} → statement M
 actions-spec =

@@ -4,13 +4,13 @@ use Prim.Native.Nat.{_+_, _-_, _*_, _≤_}
 use native.Mathlib.Omega.{arith}
 use lib.ListN.{length}
 use Rattle.writer.specs.Inner.Lengths.{actsLineBytes}
-use Rattle.text.specs.Inner.Fields.{sizesOf}
+use Rattle.writer.specs.Inner.Writing.{writtenSizes}
 use Rattle.writer.proofs.Writing.{Acted, acted-none, acted-more, acted-all}
 use Rattle.writer.proofs.agents.agent_lines.Statement.{statement}
 use Rattle.writer.proofs.agents.agent_lines.Tie as tie
 
 abbrev Inv-loop : tie.InvT-loop
-Inv-loop block text₀ at s agents next₀ a₀ text next a = (a ≤ agents) × ((length text ≡ length text₀) × ((next ≤ at + actsLineBytes * a) × Acted (sizesOf block) s agents block text₀ at text next a))
+Inv-loop block text₀ at s agents next₀ a₀ text next a = (a ≤ agents) × ((length text ≡ length text₀) × ((next ≤ at + actsLineBytes * a) × Acted (writtenSizes block) s agents block text₀ at text next a))
 
 abbrev μ-loop : tie.MeasureT-loop
 μ-loop block text₀ at s agents next₀ a₀ text next a = agents - a

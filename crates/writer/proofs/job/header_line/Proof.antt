@@ -1,9 +1,11 @@
--- `header_line` writes the five sizes. Assumes nothing.
+-- `header_line` writes the five sizes and the kinds. Assumes nothing.
 use mathlib.Core.Path.{_∙_}
 use native.Mathlib.Omega.{arith}
+use Rattle.block.specs.Layout as L
+use Rattle.text.specs.declared.sizes.Edition.the-variants.{Second}
 use Rattle.text.specs.Format.{write}
-use Rattle.text.specs.Job.{headerLine, size}
-use Rattle.text.specs.Inner.Fields.{sizesOf}
+use Rattle.text.specs.Job.{headerLine, size, resourceFields}
+use Rattle.writer.specs.Inner.Writing.{writtenSizes}
 use borrow.Author.Needs.{needs}
 use Rattle.writer.proofs.job.header_line.Statement.{statement}
 use Rattle.writer.proofs.job.header_line.Tie as tie
@@ -52,35 +54,28 @@ number-requires-5 c κs =
     let number = c .before .before .before .before .before .before .before .before .before .before .before .before .before .before .before .before .before .before .before .number in
     omega arith
 
+resource-fields-requires : tie.Need-resource-fields-requires
+resource-fields-requires c κs =
+    (c .before .before .before .before .before .before .before .before .before .before .before .before .before .before .before .before .before .before .before .before .before .before .before .before .before .before .before .before .before .before .before .before .before .pre .0, omega (arith, c .before .before .before .before .before .before .before .before .before .before .before .before .before .before .before .before .before .before .before .before .before .before .before .before .before .before .before .before .before .before .before .before .before .pre .1, c .before .before .before .before .before .before .before .before .before .before .before .before .before .before .before .before .before .before .before .before .before .before .before .before .before .before .before .before .word .kept .0, c .before .before .before .before .before .before .before .before .before .before .before .before .before .before .before .before .before .before .before .before .before .before .before .number .kept .0, c .before .before .before .before .before .before .before .before .before .before .before .before .before .before .before .before .before .before .number2 .kept .0, c .before .before .before .before .before .before .before .before .before .before .before .before .before .number3 .kept .0, c .before .before .before .before .before .before .before .before .number4 .kept .0, c .before .before .before .number5 .kept .0, c .before .before .before .number5 .ensures .1 .0, c .before .before .before .before .before .before .before .before .number4 .ensures .1 .0, c .before .before .before .before .before .before .before .before .before .before .before .before .before .number3 .ensures .1 .0, c .before .before .before .before .before .before .before .before .before .before .before .before .before .before .before .before .before .before .number2 .ensures .1 .0, c .before .before .before .before .before .before .before .before .before .before .before .before .before .before .before .before .before .before .before .before .before .before .before .number .ensures .1 .0, c .before .before .before .before .before .before .before .before .before .before .before .before .before .before .before .before .before .before .before .before .before .before .before .before .before .before .before .before .word .ensures .1))
+
 same-length : tie.Need-same-length
-same-length c = search needs
+same-length c = c .before .before .resource-fields .kept .1 .0 ∙ c .before .before .before .before .before .before .number5 .kept .0 ∙ c .before .before .before .before .before .before .before .before .before .before .before .number4 .kept .0 ∙ c .before .before .before .before .before .before .before .before .before .before .before .before .before .before .before .before .number3 .kept .0 ∙ c .before .before .before .before .before .before .before .before .before .before .before .before .before .before .before .before .before .before .before .before .before .number2 .kept .0 ∙ c .before .before .before .before .before .before .before .before .before .before .before .before .before .before .before .before .before .before .before .before .before .before .before .before .before .before .number .kept .0 ∙ c .before .before .before .before .before .before .before .before .before .before .before .before .before .before .before .before .before .before .before .before .before .before .before .before .before .before .before .before .before .before .before .word .kept .0
 
 returns : tie.Need-returns
 unfolding headerLine size
 returns c =
-    let g = c .before .before .before .before .before .before .before .before .before .before .before .before .before .before .before .before .before .before .before .before .before .before .before .before .before .before .before .before .before .before .before .before .args in
-    let pre = c .before .before .before .before .before .before .before .before .before .before .before .before .before .before .before .before .before .before .before .before .before .before .before .before .before .before .before .before .before .before .before .before .pre in
-    let word = c .before .before .before .before .before .before .before .before .before .before .before .before .before .before .before .before .before .before .before .before .before .before .before .before .before .before .before .word in
-    let agents = c .before .before .before .before .before .before .before .before .before .before .before .before .before .before .before .before .before .before .before .before .before .before .before .agents .ensures in
-    let number = c .before .before .before .before .before .before .before .before .before .before .before .before .before .before .before .before .before .before .before .before .before .before .number in
-    let resources = c .before .before .before .before .before .before .before .before .before .before .before .before .before .before .before .before .before .before .resources .ensures in
-    let number2 = c .before .before .before .before .before .before .before .before .before .before .before .before .before .before .before .before .before .number2 .ensures in
-    let states = c .before .before .before .before .before .before .before .before .before .before .before .before .before .states .ensures in
-    let number3 = c .before .before .before .before .before .before .before .before .before .before .before .before .number3 .ensures in
-    let propositions = c .before .before .before .before .before .before .before .before .propositions .ensures in
-    let number4 = c .before .before .before .before .before .before .before .number4 .ensures in
-    let rows = c .before .before .before .rows .ensures in
-    let number5 = c .before .before .number5 .ensures in
-    let b = g .block .now in (
+    let b = c .before .before .before .before .before .before .before .before .before .before .before .before .before .before .before .before .before .before .before .before .before .before .before .before .before .before .before .before .before .before .before .before .before .before .before .before .args .block .now in
+    let kinds = c .before .before .resource-fields .ensures in (
       λ f.
-          rw (agents, resources, states, propositions, rows) at (
-          number5 .0 (write (f (sizesOf b)) b)
-          ∙ number4 .0 _
-          ∙ number3 .0 _
-          ∙ number2 .0 _
-          ∙ number .ensures .0 _
-          ∙ word .ensures .0 _),
-      omega arith,
+          kinds .0 (f (writtenSizes b))
+          ∙ rw (c .before .before .before .before .before .before .before .before .before .before .before .before .before .before .before .before .before .before .before .before .before .before .before .before .before .before .before .agents .ensures, c .before .before .before .before .before .before .before .before .before .before .before .before .before .before .before .before .before .before .before .before .before .before .resources .ensures, c .before .before .before .before .before .before .before .before .before .before .before .before .before .before .before .before .before .states .ensures, c .before .before .before .before .before .before .before .before .before .before .before .before .propositions .ensures, c .before .before .before .before .before .before .before .rows .ensures) at (
+          c .before .before .before .before .before .before .number5 .ensures .0 (write (resourceFields Second (L.resources b) 0 (f (writtenSizes b))) b)
+          ∙ c .before .before .before .before .before .before .before .before .before .before .before .number4 .ensures .0 _
+          ∙ c .before .before .before .before .before .before .before .before .before .before .before .before .before .before .before .before .number3 .ensures .0 _
+          ∙ c .before .before .before .before .before .before .before .before .before .before .before .before .before .before .before .before .before .before .before .before .before .number2 .ensures .0 _
+          ∙ c .before .before .before .before .before .before .before .before .before .before .before .before .before .before .before .before .before .before .before .before .before .before .before .before .before .before .number .ensures .0 _
+          ∙ c .before .before .before .before .before .before .before .before .before .before .before .before .before .before .before .before .before .before .before .before .before .before .before .before .before .before .before .before .before .before .before .word .ensures .0 _),
+      omega (arith, kinds .1, c .before .before .before .before .before .before .number5 .ensures .1 .0, c .before .before .before .before .before .before .before .before .before .before .before .number4 .ensures .1 .0, c .before .before .before .before .before .before .before .before .before .before .before .before .before .before .before .before .number3 .ensures .1 .0, c .before .before .before .before .before .before .before .before .before .before .before .before .before .before .before .before .before .before .before .before .before .number2 .ensures .1 .0, c .before .before .before .before .before .before .before .before .before .before .before .before .before .before .before .before .before .before .before .before .before .before .before .before .before .before .number .ensures .1 .0, c .before .before .before .before .before .before .before .before .before .before .before .before .before .before .before .before .before .before .before .before .before .before .before .before .before .before .before .before .before .before .before .word .ensures .1),
     )
 
 pub header-line-spec : {M : Type 1} → statement M
@@ -99,5 +94,6 @@ header-line-spec =
     number-requires-4
     rows-requires
     number-requires-5
+    resource-fields-requires
     same-length
     returns)

@@ -5,7 +5,7 @@ use native.Mathlib.Omega.{arith}
 use Rattle.block.specs.Layout as L
 use Rattle.text.specs.Format.{end}
 use Rattle.text.specs.Job.{job, states, rowLines}
-use Rattle.text.specs.Inner.Fields.{sizesOf}
+use Rattle.writer.specs.Inner.Writing.{writtenSizes}
 use borrow.Author.Needs.{needs}
 use Rattle.writer.proofs.job.job.Statement.{statement}
 use Rattle.writer.proofs.job.job.Tie as tie
@@ -30,7 +30,7 @@ returns c =
     let states-call = c .before .before .before .before .before .before .states .ensures in
     let row-lines = c .before .before .row-lines .ensures in
     let b = g .block .now in
-    let z = sizesOf b in (
+    let z = writtenSizes b in (
       sym (append-nil _)
           ∙ row-lines .0 end
           ∙ states-call .0 (rowLines z (L.rows b) 0 end)

@@ -2,7 +2,7 @@
 use mathlib.Core.Path.{_∙_}
 use native.Mathlib.Omega.{arith}
 use Rattle.text.specs.Job.{operandFields, rowLine}
-use Rattle.text.specs.Inner.Fields.{sizesOf}
+use Rattle.writer.specs.Inner.Writing.{writtenSizes}
 use borrow.Author.Needs.{needs}
 use Rattle.writer.proofs.rows.row_line.Statement.{statement}
 use Rattle.writer.proofs.rows.row_line.Tie as tie
@@ -31,7 +31,7 @@ returns c =
     let team-fields = c .before .before .before .before .before .before .team-fields .ensures in
     let operand-fields = c .before .before .operand-fields .ensures in
     let k = kind in
-    (λ f. rw (k .ensures) at (operand-fields .0 f ∙ team-fields .0 (operandFields (sizesOf (g .block .now)) (g .i) (k .result) f) ∙ kind2 .0 _), omega arith)
+    (λ f. rw (k .ensures) at (operand-fields .0 f ∙ team-fields .0 (operandFields (writtenSizes (g .block .now)) (g .i) (k .result) f) ∙ kind2 .0 _), omega arith)
 
 pub row-line-spec : {M : Type 1} → statement M
 row-line-spec =

@@ -5,14 +5,14 @@ use native.Mathlib.Omega.{arith}
 use lib.ListN.{length}
 use Rattle.text.specs.Job as J
 use Rattle.writer.specs.Inner.Lengths.{rowLineBytes}
-use Rattle.text.specs.Inner.Fields.{sizesOf}
+use Rattle.writer.specs.Inner.Writing.{writtenSizes}
 use Rattle.text.proofs.JobLoops.{rows-loop}
 use Rattle.writer.proofs.Writing.{Looped, looped-none, looped-more, looped-all}
 use Rattle.writer.proofs.rows.row_lines.Statement.{statement}
 use Rattle.writer.proofs.rows.row_lines.Tie as tie
 
 abbrev Inv-loop : tie.InvT-loop
-Inv-loop block text₀ at rows next₀ i₀ text next i = (i ≤ rows) × ((length text ≡ length text₀) × ((next ≤ at + rowLineBytes * i) × Looped (J.rowLines (sizesOf block)) rows block text₀ at text next i))
+Inv-loop block text₀ at rows next₀ i₀ text next i = (i ≤ rows) × ((length text ≡ length text₀) × ((next ≤ at + rowLineBytes * i) × Looped (J.rowLines (writtenSizes block)) rows block text₀ at text next i))
 
 abbrev μ-loop : tie.MeasureT-loop
 μ-loop block text₀ at rows next₀ i₀ text next i = rows - i
@@ -37,7 +37,7 @@ loop-again c =
     let g = c .before .before .before .before .before .before .before .before .before .args in
     let inv = c .before .before .before .before .before .loop .inv in
     let row-line = c .before .before .row-line .ensures in
-    (omega arith, (omega arith, (omega arith, looped-more (rows-loop (sizesOf (g .block .now))) (inv .1 .1 .1) (omega arith) (row-line .0))))
+    (omega arith, (omega arith, (omega arith, looped-more (rows-loop (writtenSizes (g .block .now))) (inv .1 .1 .1) (omega arith) (row-line .0))))
 
 same-length : tie.Need-same-length Inv-loop μ-loop
 same-length c = omega arith
@@ -47,7 +47,7 @@ returns c =
     let g = c .before .before .before .before .before .args in
     let rows = c .before .before .rows .ensures in
     let inv = c .before .loop .inv in
-    (looped-all (rows-loop (sizesOf (g .block .now))) (rw rows at (inv .1 .1 .1)) (omega arith), omega arith)
+    (looped-all (rows-loop (writtenSizes (g .block .now))) (rw rows at (inv .1 .1 .1)) (omega arith), omega arith)
 
 pub row-lines-spec : {M : Type 1} → statement M
 row-lines-spec =

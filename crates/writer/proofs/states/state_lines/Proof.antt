@@ -3,8 +3,8 @@ use mathlib.Core.Path.{_∙_}
 use native.Mathlib.Omega.{arith}
 use Rattle.block.specs.Layout as L
 use Rattle.block.specs.Layout.{maxJoint}
-use Rattle.text.specs.Job.{noCounts, stateLines, agentLines, goLines}
-use Rattle.text.specs.Inner.Fields.{sizesOf}
+use Rattle.text.specs.Job.{noCounts, stateLines, agentLines, goState, nextFields}
+use Rattle.writer.specs.Inner.Writing.{writtenSizes}
 use borrow.Author.Needs.{needs}
 use Rattle.writer.proofs.states.state_lines.Statement.{statement}
 use Rattle.writer.proofs.states.state_lines.Tie as tie
@@ -18,8 +18,8 @@ agent-lines-requires c κs = ((c .before .before .before .before .before .before
 counts-requires : tie.Need-counts-requires
 counts-requires c κs = search needs
 
-go-lines-requires : tie.Need-go-lines-requires
-go-lines-requires c κs = ((c .before .before .before .before .before .before .before .before .before .before .before .before .pre .0 .0, omega arith), omega arith)
+go-line-requires : tie.Need-go-line-requires
+go-line-requires c κs = ((c .before .before .before .before .before .before .before .before .before .before .before .before .pre .0 .0, omega arith), omega arith)
 
 same-length : tie.Need-same-length
 same-length c = search needs
@@ -31,13 +31,13 @@ returns c =
     let state-line = c .before .before .before .before .before .before .before .before .before .before .before .state-line .ensures in
     let agent-lines = c .before .before .before .before .before .before .before .agent-lines .ensures in
     let counts-call = c .before .before .before .counts .ensures in
-    let go-lines = c .before .before .go-lines .ensures in
+    let go-line = c .before .before .go-line .ensures in
     let b = g .block .now in
-    let z = sizesOf b in (
+    let z = writtenSizes b in (
       λ f.
-          rw counts-call at (go-lines .0 f)
-          ∙ agent-lines .0 (λ counts. goLines z (g .s) counts maxJoint 0 f)
-          ∙ state-line .0 (agentLines z (g .s) (L.agents b) 0 noCounts (λ counts. goLines z (g .s) counts maxJoint 0 f)),
+          rw counts-call at (go-line .0 f)
+          ∙ agent-lines .0 (λ counts. goState z (g .s) (nextFields z (g .s) counts maxJoint 0 f))
+          ∙ state-line .0 (agentLines z (g .s) (L.agents b) 0 noCounts (λ counts. goState z (g .s) (nextFields z (g .s) counts maxJoint 0 f))),
       omega arith,
     )
 
@@ -48,6 +48,6 @@ state-lines-spec =
     state-line-requires
     agent-lines-requires
     counts-requires
-    go-lines-requires
+    go-line-requires
     same-length
     returns)
