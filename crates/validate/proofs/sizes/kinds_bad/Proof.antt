@@ -25,7 +25,7 @@ resource-kind-requires : tie.Need-resource-kind-requires Inv-loop μ-loop
 resource-kind-requires c κs = (search needs, search needs)
 
 returns : tie.Need-returns Inv-loop μ-loop
-returns c = holds (c .before .before .before .loop .j, rw (← c .before .before .before .before .resources .ensures) (c .before .before .loop-test .taken), rw (← c .before .resource-kind .ensures) (c .if1 .taken))
+returns c = holds (c .before .before .before .loop .j, rw (← c .before .before .before .before .resources .ensures) (c .before .before .loop-test .taken), omega (arith, c .before .resource-kind .ensures, c .if1 .taken))
 
 add-j : tie.Need-add-j Inv-loop μ-loop
 add-j c = omega arith
