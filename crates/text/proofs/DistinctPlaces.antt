@@ -16,7 +16,7 @@ use Rattle.text.specs.declared.sizes.Edition.the-variants.{First, Second
 use Rattle.text.specs.declared.sizes.Sizes.{Sizes}
 use Rattle.text.specs.Numeral.{comma, lineEnd}
 use Rattle.text.specs.Format.{Spelling, Format, exactly, value}
-use Rattle.text.specs.Job.{number, index, stateLine, costs, actions, actsLine, agentLines, possible, jointFields, byEdition, lastJoint, nextEnd, goWord, goActions, goState, nextField, nextFields, noCounts, stateLines, states, strategic, binary, boundFields, teamFields, operandFields, rowLine, rowLines, size, resourceFields, sizesEnd, headerLine, job}
+use Rattle.text.specs.Job.{number, index, stateLine, costs, actions, actsLine, agentLines, possible, jointFields, byEdition, lastJoint, goWord, goActions, goState, nextField, nextFields, noCounts, stateLines, states, strategic, binary, boundFields, teamFields, operandFields, rowLine, rowLines, size, resourceFields, sizesEnd, headerLine, job}
 use Rattle.text.proofs.Spellings.{Fits, Clear, number-range, number-clear, bound-clear, kind-clear, resource-clear}
 use Rattle.text.proofs.Formats.{agentTurns, nextTurn, stateTurns, stateTurn, rowTurn, turn, Proper, done, word, field, sooner}
 

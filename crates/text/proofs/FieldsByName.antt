@@ -16,7 +16,7 @@ use Rattle.text.specs.declared.sizes.Edition.{Edition}
 use Rattle.text.specs.declared.sizes.Edition.the-variants.{First, Second}
 use Rattle.text.specs.declared.sizes.Sizes.{Sizes}
 use Rattle.text.specs.Inner.Fields.{sizesOf}
-use Rattle.text.specs.Numeral.{comma, lineEnd}
+use Rattle.text.specs.Numeral.{comma}
 use Rattle.text.specs.Format.{Spelling, Format, end, value}
 use Rattle.text.specs.Job.{bound, kindSpelling, index, maskSpelling, stateLine, costSpelling, costs, actions, countSpelling, actsLine, agentLines, possible, jointFields, byEdition, nextSpelling, goWord, goActions, goState, nextField, nextFields, noCounts, stateLines, states as allStates, strategic, binary, boundFields, teamSpelling, teamFields, leftSpelling, rightSpelling, operandFields, rowLine, rowLines, sizeSpelling, size, resourceSpelling, resourceFields, sizesEnd, headerLine, job}
 use Rattle.text.proofs.Formats.{Every}

@@ -11,13 +11,13 @@ ghost use Rattle.block.specs.Layout.{kinds, maxKind};
 ghost use Rattle.text.specs.Job as J;
 ghost use Rattle.text.specs.Numeral.{numbers, decimal};
 ghost use Rattle.text.specs.Inner.Adding.{Adds};
-ghost use Rattle.writer.specs.Inner.Lengths.{fieldBytes, indexBytes, actionBytes, wordBytes, resourceBytes};
+ghost use Rattle.writer.specs.Inner.Lengths.{fieldBytes, indexBytes, wordBytes, resourceBytes};
 
 // A number and the comma or line end after it.
 pub fn number(text: &mut [u8], at: usize, n: usize, sep: u8) -> usize
     requires { ⌜ (at + fieldBytes ≤ length (now text)) × (n < numbers) ⌝ }
     ensures { λ r. ⌜ Adds (decimal n ++ sep ∷ []) (now (text .entry)) at (now (text .exit)) r ⌝ }
-    ensures { λ r. ⌜ (r ≤ at + fieldBytes) × ((n < 100 → r ≤ at + indexBytes) × (n < 10 → r ≤ at + actionBytes)) ⌝ }
+    ensures { λ r. ⌜ (r ≤ at + fieldBytes) × (n < 100 → r ≤ at + indexBytes) ⌝ }
 {
     field(text, at, n, sep)
 }

@@ -1,5 +1,5 @@
 -- `edition` looks for edition 2's first word. Assumes nothing.
-use mathlib.Core.Path.{_≡_, ap, sym}
+use mathlib.Core.Path.{ap, sym}
 use Rattle.text.specs.Text.{toldBy}
 use Rattle.text.proofs.Search.{after-found, after-other}
 use Rattle.block.proofs.Decide as D

@@ -1,5 +1,5 @@
 -- How many bytes each part of a text takes at most, as the writer's contracts count them: the letters of its words with their commas, and
--- each number with the comma or line end after it: one of the block, one below 100, and one below 10.
+-- each number with the comma or line end after it: one of the block, and one below 100.
 use Prim.Native.Nat.{ℕ, _+_, _*_}
 use Rattle.block.specs.Layout.{maxAgents, maxResources, maxStates, maxRows, maxActions, maxJoint}
 
@@ -8,9 +8,6 @@ fieldBytes = 4
 
 abbrev pub indexBytes : ℕ
 indexBytes = 3
-
-abbrev pub actionBytes : ℕ
-actionBytes = 2
 
 -- the word of a row, with its comma
 abbrev pub wordBytes : ℕ

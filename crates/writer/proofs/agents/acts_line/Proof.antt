@@ -31,7 +31,7 @@ number-requires-3 c κs =
     let known = c .before .before .before .before .before .before .before .before .before .before .before .before .before .before .before .before .shared-slice-known .given in
     let number = c .before .before .before .before .before .before .before .before .number .ensures in
     let number2 = c .before .before .before .before .number2 .ensures in
-    omega (arith, known (placeOf (Count (g .s) (g .a))), number .1 .1 .0 (omega arith), number2 .1 .1 .0 (omega arith))
+    omega (arith, known (placeOf (Count (g .s) (g .a))), number .1 .1 (omega arith), number2 .1 .1 (omega arith))
 
 actions-requires : tie.Need-actions-requires
 actions-requires c κs =
@@ -40,7 +40,7 @@ actions-requires c κs =
     let number = c .before .before .before .before .before .before .before .before .before .before .before .before .number .ensures in
     let number2 = c .before .before .before .before .before .before .before .before .number2 .ensures in
     let few = pre .0 .0 .counted (g .s) (g .a) (pre .1 .0) (pre .1 .1) in
-    ((pre .0 .0, omega (arith, number .1 .1 .0 (omega arith), number2 .1 .1 .0 (omega arith))), pre .1)
+    ((pre .0 .0, omega (arith, number .1 .1 (omega arith), number2 .1 .1 (omega arith))), pre .1)
 
 same-length : tie.Need-same-length
 same-length c = search needs
@@ -65,7 +65,7 @@ returns c =
           ∙ number2 .0 _
           ∙ number .0 _
           ∙ word .0 _),
-      omega (arith, number .1 .1 .0 (omega arith), number2 .1 .1 .0 (omega arith), number3 .1 .1 .0 (omega arith)),
+      omega (arith, number .1 .1 (omega arith), number2 .1 .1 (omega arith), number3 .1 .1 (omega arith)),
     )
 
 pub acts-line-spec : {M : Type 1} → statement M

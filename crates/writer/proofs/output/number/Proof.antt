@@ -13,7 +13,7 @@ same-length c = search needs
 returns : tie.Need-returns
 returns c =
     let call = c .before .before .field .ensures in
-    (call .0, (omega (arith, call .1 .0 3 (omega arith) (omega arith)), (λ h. omega (arith, call .1 .0 2 (omega arith) (omega arith)), λ h. omega (arith, call .1 .0 1 (omega arith) (omega arith)))))
+    (call .0, (omega (arith, call .1 .0 3 (omega arith) (omega arith)), λ h. omega (arith, call .1 .0 2 (omega arith) (omega arith))))
 
 pub number-spec : {M : Type 1} → statement M
 number-spec = tie.close (tie.spec field-requires same-length returns)

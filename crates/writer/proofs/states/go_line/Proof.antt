@@ -33,7 +33,7 @@ loop-holds c = (omega arith, (refl, (omega arith, looped-none)))
 
 -- the loop begins within the room of the line's beginning
 begins : (c : tie.After-number Inv-loop μ-loop) → c .number .result ≤ c .before .before .before .before .before .before .before .before .before .args .at + 6
-begins c = omega (arith, c .number .ensures .1 .1 .0 (omega arith), c .before .before .before .before .word .ensures)
+begins c = omega (arith, c .number .ensures .1 .1 (omega arith), c .before .before .before .before .word .ensures)
 
 next-field-if-requires : tie.Need-next-field-if-requires Inv-loop μ-loop
 next-field-if-requires c κs = ((c .before .before .before .before .before .before .before .before .before .before .before .before .before .before .pre .0 .0, omega (arith, c .before .before .loop .inv, begins (c .before .before .before .before .before))), omega arith)

@@ -26,7 +26,7 @@ number-requires-2 c κs =
     let g = c .before .before .before .before .before .before .before .before .before .before .before .before .before .args in
     let known = c .before .before .before .before .before .before .before .before .before .before .before .before .shared-slice-known .given in
     let number = c .before .before .before .before .number .ensures in
-    omega (arith, known (placeOf (Mask (g .s))), number .1 .1 .0 (omega arith))
+    omega (arith, known (placeOf (Mask (g .s))), number .1 .1 (omega arith))
 
 same-length : tie.Need-same-length
 same-length c = search needs
@@ -40,7 +40,7 @@ returns c =
     let mask = c .before .before .before .mask .ensures in
     let number2 = c .before .before .number2 .ensures in
     let b = g .block .now in
-    (λ f. rw mask at (number2 .0 (write f b) ∙ number .0 _ ∙ word .0 _), omega (arith, number .1 .1 .0 (omega arith)))
+    (λ f. rw mask at (number2 .0 (write f b) ∙ number .0 _ ∙ word .0 _), omega (arith, number .1 .1 (omega arith)))
 
 pub state-line-spec : {M : Type 1} → statement M
 state-line-spec =
