@@ -12,9 +12,10 @@ use block::layout::ROWS_BYTE;
 use block::layout::STATES_BYTE;
 use block::refusal::Refusal;
 use scan::step::Range;
+use scan::step::Spelled;
 use scan::step::Step;
 use scan::step::Valued;
-use scan::steps::past_resource;
+use scan::steps::past_spelled;
 use scan::steps::past_value;
 use scan::steps::past_word;
 use scan::steps::value_at;
@@ -84,7 +85,9 @@ fn resources(text: &[u8], at: Step, job: &mut [u8], e: Edition, resources: usize
 {
     let mut next = at;
     for j in 0..resources {
-        next = past_resource(text, next, job, j, e, resources - (j + 1));
+        let left = resources - (j + 1);
+        let kind = Spelled::Resource(e, left);
+        next = past_spelled(text, next, job, Place::ResourceKind(j), kind);
     }
     next
 }

@@ -5,11 +5,12 @@ use block::layout;
 use block::layout::Place;
 use block::refusal::Refusal;
 use scan::step::Range;
+use scan::step::Spelled;
 use scan::step::Step;
-use scan::steps::kind_at;
-use scan::steps::past_bound;
 use scan::steps::past_field;
+use scan::steps::past_spelled;
 use scan::steps::past_value;
+use scan::steps::spelled_at;
 use scan::steps::value_or;
 use text::COMMA;
 use text::LINE_END;
@@ -35,7 +36,13 @@ fn bounds(text: &[u8], at: Step, job: &mut [u8], i: usize, resources: usize) -> 
 {
     let mut next = at;
     for j in 0..resources {
-        next = past_bound(text, next, job, Place::Field(i, layout::BOUND_BYTE + j));
+        next = past_spelled(
+            text,
+            next,
+            job,
+            Place::Field(i, layout::BOUND_BYTE + j),
+            Spelled::Bound,
+        );
     }
     next
 }
@@ -140,7 +147,13 @@ fn row(text: &[u8], at: Step, job: &mut [u8], z: Sizes, i: usize) -> Step
     ensures { λ r. ⌜ ((f : Format) → resume (now (text .entry)) at (read (J.rowLine z i f) (now (job .entry))) ≡ resume (now (text .entry)) r (read f (now (job .exit)))) ⌝ }
     ensures { λ r. ⌜ Inside (now (text .entry)) r ⌝ }
 {
-    let v = kind_at(text, at, job, Place::Field(i, layout::KIND_BYTE));
+    let v = spelled_at(
+        text,
+        at,
+        job,
+        Place::Field(i, layout::KIND_BYTE),
+        Spelled::Row,
+    );
     let k = value_or(layout::PROP_KIND, v);
     let next = team(text, past_value(v), job, z, i, k);
     operands(text, next, job, z, i, k)

@@ -7,7 +7,6 @@ use Prim.Native.Nat.{ℕ, suc, _≤_, _<_}
 use native.Mathlib.Omega.{arith}
 use lib.Dec.{leb, ltb}
 use lib.ListN.{length, drop}
-use borrow.Author.Needs.{zero≤}
 use borrow.Author.Tests.{le-leb, lt-leb, lt-ltb, le-ltb}
 use Rattle.block.specs.Layout.{Block, sumKind, maxKind, propKind, notKind, orKind, nextKind, alwaysKind, untilKind, kinds}
 use Rattle.block.specs.declared.layout.Place.{Place}
@@ -109,7 +108,6 @@ pub record Plain (x : Spelling) : Type 0 where
 pub record Filled (x : Spelling) (t : List ℕ) (at : ℕ) (p : Place) (b : Block) (found : Numeral) : Type 0 where
   pub reads : (k : ℕ → Format) → read (value x p k) b (drop at t) ≡ resumeWith t (valueOf found at) (λ v rest. read (k v) (storedFound b p found) rest)
   pub inside : InsideWith t (valueOf found at)
-  pub ranged : Ranged 0 (x .options) (valueOf found at)
   pub below : NumberedBelow numbers found
 
 module _ (x : Spelling) (plain : Plain x) (few : x .options ≤ numbers) (t : List ℕ) (at : ℕ) (here : at ≤ length t) (p : Place) (b : Block) where
@@ -119,8 +117,7 @@ module _ (x : Spelling) (plain : Plain x) (few : x .options ≤ numbers) (t : Li
       record {
         reads = λ k. value-next x p k b (drop at t) n n (drop next t) (store b p n) e (plain .any n) (plain .itself n) refl;
         inside = (omega arith, i .1);
-        ranged = (zero≤, small);
         below = omega arith;
       }
   filled numeral-at.Missing e i =
-      record { reads = λ k. value-missing x p k b (drop at t) e; inside = here; ranged = tt; below = tt }
+      record { reads = λ k. value-missing x p k b (drop at t) e; inside = here; below = tt }

@@ -2,6 +2,7 @@
 use crate::numeral::number;
 use crate::step::Numeral;
 use crate::step::Range;
+use crate::step::Spelled;
 use crate::step::Step;
 use crate::step::Value;
 use crate::words::word_or;
@@ -18,7 +19,7 @@ ghost use Rattle.block.specs.Layout.{Block, blockBytes, kinds, placeOf};
 ghost use Rattle.block.specs.Inner.Places.{InLayout};
 ghost use Rattle.text.specs.Format.{Format, value, read};
 ghost use Rattle.text.specs.Job as J;
-ghost use Rattle.scan.specs.Inner.Step.{resume, resumeWith, Inside, InsideWith, InsideNumeral, Ranged, NumberedBelow, foundAt, valueOf, storedFound};
+ghost use Rattle.scan.specs.Inner.Step.{resume, resumeWith, Inside, InsideWith, InsideNumeral, Ranged, NumberedBelow, foundAt, valueOf, storedFound, spellingOf};
 ghost use Rattle.text.specs.Numeral.{numbers, search};
 ghost use Rattle.text.specs.Inner.Fields.{Ends};
 
@@ -79,8 +80,22 @@ pub fn field(text: &[u8], at: usize, job: &mut [u8], x: Place, range: Range) -> 
     }
 }
 
+// A field with spellings of its own, stored at a place of the block.
+pub fn spelled(text: &[u8], at: usize, job: &mut [u8], x: Place, what: Spelled) -> Value
+    requires { ⌜ at ≤ length (now text) ⌝ }
+    requires { ⌜ (length (now job) ≡ blockBytes) × InLayout x ⌝ }
+    ensures { λ r. ⌜ ((k : ℕ → Format) → read (value (spellingOf what) x k) (now (job .entry)) (drop at (now (text .entry))) ≡ resumeWith (now (text .entry)) r (λ v rest. read (k v) (now (job .exit)) rest)) ⌝ }
+    ensures { λ r. ⌜ InsideWith (now (text .entry)) r ⌝ }
+{
+    match what {
+        Spelled::Bound => bound(text, at, job, x),
+        Spelled::Row => kind(text, at, job, x),
+        Spelled::Resource(e, left) => resource(text, at, job, x, e, left),
+    }
+}
+
 // A bound, stored at a place of the block.
-pub fn bound(text: &[u8], at: usize, job: &mut [u8], x: Place) -> Value
+fn bound(text: &[u8], at: usize, job: &mut [u8], x: Place) -> Value
     requires { ⌜ at ≤ length (now text) ⌝ }
     requires { ⌜ (length (now job) ≡ blockBytes) × InLayout x ⌝ }
     ensures { λ r. ⌜ ((k : ℕ → Format) → read (value J.bound x k) (now (job .entry)) (drop at (now (text .entry))) ≡ resumeWith (now (text .entry)) r (λ v rest. read (k v) (now (job .exit)) rest)) ⌝ }
@@ -133,12 +148,11 @@ fn bound_at(text: &[u8], at: usize) -> Numeral
 }
 
 // The word of a row, stored as the row's kind.
-pub fn kind(text: &[u8], at: usize, job: &mut [u8], x: Place) -> Value
+fn kind(text: &[u8], at: usize, job: &mut [u8], x: Place) -> Value
     requires { ⌜ at ≤ length (now text) ⌝ }
     requires { ⌜ (length (now job) ≡ blockBytes) × InLayout x ⌝ }
     ensures { λ r. ⌜ ((k : ℕ → Format) → read (value J.kindSpelling x k) (now (job .entry)) (drop at (now (text .entry))) ≡ resumeWith (now (text .entry)) r (λ v rest. read (k v) (now (job .exit)) rest)) ⌝ }
     ensures { λ r. ⌜ InsideWith (now (text .entry)) r ⌝ }
-    ensures { λ r. ⌜ Ranged 0 kinds r ⌝ }
 {
     let found = kind_at(text, at);
     stored(found, at, job, x)

@@ -1,27 +1,25 @@
 // One step of reading after another: each goes on from the last, and a refusal stays.
-use crate::fields::bound;
 use crate::fields::field;
 use crate::fields::index;
-use crate::fields::kind;
-use crate::fields::resource;
+use crate::fields::spelled;
 use crate::step::Range;
+use crate::step::Spelled;
 use crate::step::Step;
 use crate::step::Value;
 use crate::words::stands;
 use crate::words::word;
 use block::layout::Place;
-use text::sizes::Edition;
 ghost use mathlib.Core.Path.{_≡_};
 ghost use Prim.Native.Nat.{ℕ, _<_};
 ghost use lib.ListN.{length};
-ghost use Rattle.block.specs.Layout.{Block, blockBytes, kinds, maxResources};
+ghost use Rattle.block.specs.Layout.{Block, blockBytes};
 ghost use Rattle.block.specs.Inner.Places.{InLayout};
 ghost use Rattle.text.specs.Format.{Format, exactly, value, read};
 ghost use Rattle.text.specs.Job as J;
 ghost use Rattle.block.specs.Inner.Tests.{Decides};
 ghost use Rattle.text.specs.Numeral.{numbers, Starts};
 ghost use Rattle.text.specs.Inner.Fields.{Ends};
-ghost use Rattle.scan.specs.Inner.Step.{resume, pastValue, valueOr, Ranged, Inside};
+ghost use Rattle.scan.specs.Inner.Step.{resume, pastValue, valueOr, Ranged, Inside, spellingOf};
 
 // Whether the text begins with the word.
 pub fn starts(text: &[u8], w: &[u8]) -> bool
@@ -77,51 +75,27 @@ pub fn past_field(text: &[u8], at: Step, job: &mut [u8], x: Place, range: Range)
     past_value(value_at(text, at, job, x, range))
 }
 
-// A bound, and the kind of a row by its word.
-pub fn past_bound(text: &[u8], at: Step, job: &mut [u8], x: Place) -> Step
+// A field with spellings of its own, stored at a place of the block.
+pub fn spelled_at(text: &[u8], at: Step, job: &mut [u8], x: Place, what: Spelled) -> Value
     requires { ⌜ Inside (now text) at ⌝ }
     requires { ⌜ (length (now job) ≡ blockBytes) × InLayout x ⌝ }
-    ensures { λ r. ⌜ ((f : Format) → resume (now (text .entry)) at (read (value J.bound x (λ v. f)) (now (job .entry))) ≡ resume (now (text .entry)) r (read f (now (job .exit)))) ⌝ }
-    ensures { λ r. ⌜ Inside (now (text .entry)) r ⌝ }
+    ensures { λ r. ⌜ ((d : ℕ) (k : ℕ → Format) → resume (now (text .entry)) at (read (value (spellingOf what) x k) (now (job .entry))) ≡ resume (now (text .entry)) (pastValue r) (read (k (valueOr d r)) (now (job .exit)))) ⌝ }
+    ensures { λ r. ⌜ Inside (now (text .entry)) (pastValue r) ⌝ }
 {
     match at {
-        Step::Next(next) => past_value(bound(text, next, job, x)),
-        Step::Refused(r, stop) => Step::Refused(r, stop),
-    }
-}
-
-pub fn kind_at(text: &[u8], at: Step, job: &mut [u8], x: Place) -> Value
-    requires { ⌜ Inside (now text) at ⌝ }
-    requires { ⌜ (length (now job) ≡ blockBytes) × InLayout x ⌝ }
-    ensures { λ r. ⌜ ((d : ℕ) (k : ℕ → Format) → resume (now (text .entry)) at (read (value J.kindSpelling x k) (now (job .entry))) ≡ resume (now (text .entry)) (pastValue r) (read (k (valueOr d r)) (now (job .exit)))) ⌝ }
-    ensures { λ r. ⌜ Inside (now (text .entry)) (pastValue r) × Ranged 0 kinds r ⌝ }
-{
-    match at {
-        Step::Next(next) => kind(text, next, job, x),
+        Step::Next(next) => spelled(text, next, job, x, what),
         Step::Refused(r, stop) => Value::Refused(r, stop),
     }
 }
 
-// The kind of resource j, before left further ones.
-pub fn past_resource(
-    text: &[u8],
-    at: Step,
-    job: &mut [u8],
-    j: usize,
-    e: Edition,
-    left: usize,
-) -> Step
+// Past such a field.
+pub fn past_spelled(text: &[u8], at: Step, job: &mut [u8], x: Place, what: Spelled) -> Step
     requires { ⌜ Inside (now text) at ⌝ }
-    requires { ⌜ (length (now job) ≡ blockBytes) × (j < maxResources) ⌝ }
-    ensures { λ r. ⌜ ((f : Format) → resume (now (text .entry)) at (read (value (J.resourceSpelling e left) (Place.ResourceKind j) (λ v. f)) (now (job .entry))) ≡ resume (now (text .entry)) r (read f (now (job .exit)))) ⌝ }
+    requires { ⌜ (length (now job) ≡ blockBytes) × InLayout x ⌝ }
+    ensures { λ r. ⌜ ((f : Format) → resume (now (text .entry)) at (read (value (spellingOf what) x (λ v. f)) (now (job .entry))) ≡ resume (now (text .entry)) r (read f (now (job .exit)))) ⌝ }
     ensures { λ r. ⌜ Inside (now (text .entry)) r ⌝ }
 {
-    match at {
-        Step::Next(next) => {
-            past_value(resource(text, next, job, Place::ResourceKind(j), e, left))
-        }
-        Step::Refused(r, stop) => Step::Refused(r, stop),
-    }
+    past_value(spelled_at(text, at, job, x, what))
 }
 
 // Past a value, whatever it is.

@@ -3,8 +3,8 @@ use mathlib.Core.List.{List}
 use Prim.Native.Nat.{ℕ, _≤_, _<_}
 use lib.ListN.{length, drop}
 use Rattle.text.specs.Numeral.{numbers, Found, found, missing}
-use Rattle.text.specs.Format.{Outcome, accepted, refused, store}
-use Rattle.text.specs.Job.{boundSpellings}
+use Rattle.text.specs.Format.{Spelling, Outcome, accepted, refused, store}
+use Rattle.text.specs.Job.{boundSpellings, bound, kindSpelling, resourceSpelling}
 use Rattle.block.specs.Layout.{Block, maxAgents, maxResources, maxStates, maxPropositions, maxRows}
 use Rattle.block.specs.declared.layout.Place.{Place}
 use Rattle.block.specs.declared.refusal.Refusal.the-variants.{Form}
@@ -15,6 +15,8 @@ use Rattle.scan.specs.declared.step.Value.{Value}
 use Rattle.scan.specs.declared.step.Value.the-variants as value
 use Rattle.scan.specs.declared.step.Numeral.{Numeral}
 use Rattle.scan.specs.declared.step.Numeral.the-variants as numeral
+use Rattle.scan.specs.declared.step.Spelled.{Spelled}
+use Rattle.scan.specs.declared.step.Spelled.the-variants as spelled
 
 -- reading goes on with the text from the next place, or ends at a field
 abbrev pub resume : List ℕ → Step → (List ℕ → Outcome) → Outcome
@@ -63,6 +65,12 @@ valueOf numeral.Missing at = value.Refused Form at
 abbrev pub storedFound : Block → Place → Numeral → Block
 storedFound b x (numeral.Found n next) = store b x n
 storedFound b x numeral.Missing = b
+
+-- the spellings of a field that has its own
+abbrev pub spellingOf : Spelled → Spelling
+spellingOf spelled.Bound = bound
+spellingOf spelled.Row = kindSpelling
+spellingOf (spelled.Resource e left) = resourceSpelling e left
 
 -- the next place, or that of the field where reading ended, lies within the text
 abbrev pub Inside : List ℕ → Step → Type 0

@@ -21,14 +21,14 @@ abbrev μ-loop : tie.MeasureT-loop
 loop-holds : tie.Need-loop-holds Inv-loop μ-loop
 loop-holds c = (search needs, search needs, search needs, reached-none)
 
-add-past-resource : tie.Need-add-past-resource Inv-loop μ-loop
-add-past-resource c = omega arith
+add-left : tie.Need-add-left Inv-loop μ-loop
+add-left c = omega arith
 
-sub-past-resource : tie.Need-sub-past-resource Inv-loop μ-loop
-sub-past-resource c = omega arith
+sub-left : tie.Need-sub-left Inv-loop μ-loop
+sub-left c = omega arith
 
-past-resource-requires : tie.Need-past-resource-requires Inv-loop μ-loop
-past-resource-requires c κs =
+past-spelled-requires : tie.Need-past-spelled-requires Inv-loop μ-loop
+past-spelled-requires c κs =
     let inv = c .before .before .loop .inv in
     (inv .0, (inv .1, omega arith))
 
@@ -41,7 +41,7 @@ loop-less c = omega arith
 loop-again : tie.Need-loop-again Inv-loop μ-loop
 loop-again c =
     let inv = c .before .before .before .before .before .loop .inv in
-    let call = c .before .before .past-resource in
+    let call = c .before .before .past-spelled in
     (call .ensures .1, call .kept .1 .1 .0 ∙ inv .1, omega arith, reached-more (resources-loop _) (inv .3) (c .before .before .before .before .loop-test .taken) (call .ensures .0))
 
 same-length : tie.Need-same-length Inv-loop μ-loop
@@ -57,9 +57,9 @@ resources-spec =
     Inv-loop
     μ-loop
     loop-holds
-    add-past-resource
-    sub-past-resource
-    past-resource-requires
+    add-left
+    sub-left
+    past-spelled-requires
     add-j
     loop-less
     loop-again

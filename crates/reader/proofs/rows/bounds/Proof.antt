@@ -24,8 +24,8 @@ loop-holds c = (search needs, search needs, search needs, reached-none)
 add-t11 : tie.Need-add-t11 Inv-loop μ-loop
 add-t11 c = omega arith
 
-past-bound-requires : tie.Need-past-bound-requires Inv-loop μ-loop
-past-bound-requires c κs =
+past-spelled-requires : tie.Need-past-spelled-requires Inv-loop μ-loop
+past-spelled-requires c κs =
     let inv = c .before .before .loop .inv in
     (inv .0, (inv .1, omega arith))
 
@@ -38,7 +38,7 @@ loop-less c = omega arith
 loop-again : tie.Need-loop-again Inv-loop μ-loop
 loop-again c =
     let inv = c .before .before .before .before .before .loop .inv in
-    let call = c .before .before .past-bound in
+    let call = c .before .before .past-spelled in
     (call .ensures .1, call .kept .1 .1 .0 ∙ inv .1, omega arith, reached-more (bounds-loop _) (inv .3) (c .before .before .before .before .loop-test .taken) (call .ensures .0))
 
 same-length : tie.Need-same-length Inv-loop μ-loop
@@ -55,7 +55,7 @@ bounds-spec =
     μ-loop
     loop-holds
     add-t11
-    past-bound-requires
+    past-spelled-requires
     add-j
     loop-less
     loop-again

@@ -24,7 +24,7 @@ same-length c = search needs
 returns : tie.Need-returns
 returns c =
     let f = there (c .before .before .before .before) in
-    rw (c .before .before .stored .ensures .0, c .before .before .stored .ensures .1) (f .reads, (f .inside, f .ranged))
+    rw (c .before .before .stored .ensures .0, c .before .before .stored .ensures .1) (f .reads, f .inside)
 
 pub kind-spec : {M : Type 1} → statement M
 kind-spec = tie.close (tie.spec kind-at-requires stored-requires same-length returns)
