@@ -2,7 +2,7 @@
 //! costs that a bound pays for several times, and mostly strategic rows.
 
 use crate::layout::*;
-use crate::random::{any_block, Rng};
+use crate::random::{any_block, fill_kinds, Rng};
 
 /// What the jobs of a kind have in common.
 #[derive(Clone, Copy)]
@@ -269,6 +269,7 @@ fn block(rng: &mut Rng, shape: Shape) -> Vec<u8> {
     for i in 4..shape.sizes.rows {
         fill_row(rng, &mut block, shape, i);
     }
+    fill_kinds(rng, &mut block);
     block
 }
 

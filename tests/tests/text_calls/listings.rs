@@ -7,7 +7,7 @@ use rbatl_tests::listing::{self, LISTING_BYTES};
 use rbatl_tests::model::{MOVES_BYTES, RANKS_BYTES};
 use rbatl_tests::text::TEXT_BYTES;
 use rbatl_tests::text_damage::damage;
-use rbatl_tests::{games, jobs, text};
+use rbatl_tests::{games, jobs};
 
 pub(super) const LENGTHS: [usize; 3] = [LISTING_BYTES, RANKS_BYTES, MOVES_BYTES];
 
@@ -61,9 +61,10 @@ fn the_job_files() {
 fn random_jobs() {
     let (lents, mut seen) = (lents(), [0; 8]);
     for case in 0..cases(CASES) / 100 {
-        let job = games::mixed(&mut Rng::for_case(SEED ^ 6, case));
+        let mut rng = Rng::for_case(SEED ^ 6, case);
+        let mut job = games::mixed(&mut rng);
         let lent = &lents[(case % 3) as usize];
-        let outcome = lent.list(&text::write(&job), &format!("case {case}"));
+        let outcome = lent.list(&any_text(&mut rng, &mut job), &format!("case {case}"));
         seen[number(outcome.answer)] += 1;
     }
     assert_eq!(seen[1..], [0; 7], "a whole text is listed");
@@ -74,7 +75,8 @@ fn damaged_texts() {
     let (lents, mut seen) = (lents(), [0; 8]);
     for case in 0..cases(CASES) / 20 {
         let mut rng = Rng::for_case(SEED ^ 7, case);
-        let mut text = text::write(&games::small(&mut rng));
+        let mut job = games::small(&mut rng);
+        let mut text = any_text(&mut rng, &mut job);
         let how = damage(&mut rng, &mut text);
         let lent = &lents[(case % 3) as usize];
         let outcome = lent.list(&text, &format!("case {case}: {how}"));

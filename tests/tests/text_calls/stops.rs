@@ -26,7 +26,7 @@ fn damaged_texts() {
     let mut refused = 0;
     for case in 0..cases {
         let mut rng = Rng::for_case(SEED ^ 2, case);
-        let written = text::write(&any_job(&mut rng));
+        let (_, written) = job_and_text(&mut rng);
         let (mut text, _) = empty_bounds(&mut rng, &written);
         let how = damage(&mut rng, &mut text);
         let place = stop(&text, &format!("case {case}: {how}"));

@@ -1,4 +1,4 @@
-//! The line `job`: five sizes.
+//! The first line: five sizes. What edition 2 adds stands in kinds.rs.
 
 use super::*;
 
@@ -47,7 +47,7 @@ fn sizes_in_range() {
             let text = text_of(&expected);
             let block = expect(&text, 0, &format!("sizes {sizes:?}"));
             assert!(block == expected, "sizes {sizes:?}");
-            assert_eq!(written(&block), text);
+            assert_eq!(written_back(&block, &text), text);
         }
     }
 }
