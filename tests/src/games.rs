@@ -1,8 +1,11 @@
 //! Random jobs with something to play for: states that lead on to one another,
 //! costs that a bound pays for several times, and mostly strategic rows.
 
+mod long;
+
 use crate::layout::*;
 use crate::random::{any_block, fill_kinds, Rng};
+pub use long::{maze, ring};
 
 /// What the jobs of a kind have in common.
 #[derive(Clone, Copy)]
@@ -77,6 +80,35 @@ fn punish_idling(rng: &mut Rng, block: &mut [u8], driver: u8) {
     }
 }
 
+/// Few positions, and a coalition of several that has to act together to come to
+/// the rare proposition.
+pub fn teamwork(rng: &mut Rng) -> Vec<u8> {
+    let sizes = Sizes {
+        agents: rng.within(2..=MAX_AGENTS),
+        resources: rng.within(1..=2),
+        states: rng.within(2..=6),
+        propositions: 2,
+        rows: rng.within(6..=8),
+    };
+    let drivers: &[u8] = if sizes.agents == 2 {
+        &[3]
+    } else {
+        &[3, 5, 6, 7]
+    };
+    let shape = Shape {
+        sizes,
+        actions: rng.within(2..=MAX_ACTIONS),
+        cost: rng.pick(&[1, 2, 4]),
+        bound: rng.pick(&[2, 5, 9]),
+        fixed: false,
+        driver: rng.pick(drivers),
+    };
+    let mut block = block(rng, shape);
+    side_by_side(rng, &mut block, shape);
+    block[mask(sizes.states - 1)] |= 1;
+    block
+}
+
 /// Few positions and as many rows as there can be: a row needs few of those
 /// below it, and some of these through others.
 pub fn crowd(rng: &mut Rng) -> Vec<u8> {
@@ -124,9 +156,10 @@ fn needed(block: &[u8], i: usize) -> u32 {
 
 /// A job with something to play for, or any.
 pub fn mixed(rng: &mut Rng) -> Vec<u8> {
-    match rng.below(4) {
+    match rng.below(5) {
         0 => any_block(rng),
         1 => contest(rng),
+        2 => teamwork(rng),
         _ => small(rng),
     }
 }
@@ -176,81 +209,6 @@ fn driver(rng: &mut Rng, agents: usize) -> u8 {
     }
 }
 
-/// A ring of full size that the coalition can go round once for each unit of
-/// its stock, the longest play that there can be for always. Every step is
-/// forced but one: the gate, the last state on the way, leads to the end, where
-/// proposition 1 holds and proposition 0 does not, unless an agent of the
-/// coalition pays. `rising` says whether the states come in rising order.
-pub fn ring(kind: u8, coalition: u8, rising: bool) -> Vec<u8> {
-    let mut block = full_frame(kind, coalition);
-    let (gate, end) = (MAX_STATES - 2, MAX_STATES - 1);
-    let state = |place: usize| if rising { place } else { end - place };
-    for place in 0..MAX_STATES {
-        block[mask(state(place))] = if place == end { 2 } else { 1 };
-        fill_paying_actions(&mut block, state(place));
-        for joint in 0..JOINTS {
-            let pays = |agent| coalition >> agent & 1 == 1 && actions(joint)[agent] != 0;
-            let target = match (0..MAX_AGENTS).any(pays) {
-                true if place == gate => 0,
-                _ => end.min(place + 1),
-            };
-            block[next(state(place), joint)] = state(target) as u8;
-        }
-    }
-    block
-}
-
-/// A random job of full size. A joint action leads at most `reach` states on,
-/// or, with reach 0, anywhere. Proposition 0 is common, and 1 is rare. The
-/// coalition drives, but not in always, which it would win at once.
-pub fn maze(rng: &mut Rng, kind: u8, coalition: u8, reach: usize) -> Vec<u8> {
-    let mut block = full_frame(kind, coalition);
-    let shape = Shape {
-        sizes: Sizes::of(&block),
-        actions: MAX_ACTIONS,
-        cost: 2,
-        bound: MAX_BOUND,
-        fixed: true,
-        driver: if kind == ALWAYS { 0 } else { coalition },
-    };
-    for state in 0..MAX_STATES {
-        fill_actions(rng, &mut block, shape, state);
-        fill_next(rng, &mut block, shape, state, reach);
-        block[mask(state)] = u8::from(!rng.one_in(12)) + 2 * u8::from(rng.one_in(12));
-    }
-    block
-}
-
-/// The rows of a job of full size: propositions 0 and 1, and a row of the kind
-/// over them with bounds 15 and 15.
-fn full_frame(kind: u8, coalition: u8) -> Vec<u8> {
-    let mut block = vec![0; BLOCK_BYTES];
-    let rows = 3;
-    let sizes = Sizes {
-        rows,
-        ..Sizes::FULL
-    };
-    sizes.store(&mut block);
-    block[row(1, LEFT)] = 1;
-    block[row(2, KIND)] = kind;
-    block[row(2, RIGHT)] = u8::from(kind == UNTIL);
-    block[row(2, COALITION)] = coalition;
-    block[row(2, BOUND)..row(2, PADDING)].fill(MAX_BOUND);
-    block
-}
-
-/// Actions 1, 2 and 3 take one unit of the first, the second or both resources.
-fn fill_paying_actions(block: &mut [u8], state: usize) {
-    for agent in 0..MAX_AGENTS {
-        block[count(state, agent)] = MAX_ACTIONS as u8;
-        for action in 1..MAX_ACTIONS {
-            for resource in 0..MAX_RESOURCES {
-                block[cost(state, agent, action, resource)] = (action >> resource & 1) as u8;
-            }
-        }
-    }
-}
-
 /// Rows 0 to 3 are a rare proposition, a common one, not the rare one, and
 /// true.
 fn block(rng: &mut Rng, shape: Shape) -> Vec<u8> {
@@ -262,6 +220,9 @@ fn block(rng: &mut Rng, shape: Shape) -> Vec<u8> {
         fill_next(rng, &mut block, shape, state, reach);
         block[mask(state)] = propositions(rng, shape.sizes.propositions);
     }
+    if shape.driver.count_ones() > 1 && rng.one_in(2) {
+        side_by_side(rng, &mut block, shape);
+    }
     block[row(1, LEFT)] = 1;
     block[row(2, KIND)] = NOT;
     block[row(3, KIND)] = OR;
@@ -271,6 +232,41 @@ fn block(rng: &mut Rng, shape: Shape) -> Vec<u8> {
     }
     fill_kinds(rng, &mut block);
     block
+}
+
+/// The driver leads on, and often keeps the common propositions, only where all its
+/// agents act at once, each at a cost: then the kind of a resource matters.
+fn side_by_side(rng: &mut Rng, block: &mut [u8], shape: Shape) {
+    let states = shape.sizes.states;
+    let agents = (0..MAX_AGENTS).filter(|agent| shape.driver >> agent & 1 == 1);
+    let agents: Vec<usize> = agents.collect();
+    for state in 0..states {
+        for &agent in &agents {
+            let actions = block[count(state, agent)].max(2);
+            block[count(state, agent)] = actions;
+            for action in 1..actions.into() {
+                for resource in 0..shape.sizes.resources {
+                    let spent = rng.within(0..=shape.cost.into()).max(1) as u8;
+                    block[cost(state, agent, action, resource)] = spent;
+                }
+            }
+        }
+        let idle = match rng.one_in(2) {
+            true => state,
+            false => rng.below(states),
+        };
+        let joints: Vec<usize> = joint_actions(block, state).collect();
+        for joint in joints {
+            let all_act = agents.iter().all(|&agent| actions(joint)[agent] > 0);
+            let target = match all_act {
+                true => (state + 1) % states,
+                false => idle,
+            };
+            if !rng.one_in(16) {
+                block[next(state, joint)] = target as u8;
+            }
+        }
+    }
 }
 
 /// Proposition 0 is rare, the others common.
