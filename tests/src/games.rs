@@ -31,13 +31,18 @@ pub fn tiny(rng: &mut Rng) -> Vec<u8> {
         rows: rng.within(5..=7),
     };
     let bound = rng.within(0..=if sizes.resources == 1 { 3 } else { 1 }) as u8;
+    // All agents in half of the jobs, which then often have to act together.
+    let driver = match rng.one_in(2) {
+        true => (1 << sizes.agents) - 1,
+        false => driver(rng, sizes.agents),
+    };
     let shape = Shape {
         sizes,
         actions: 2,
         cost: 2,
         bound,
         fixed: false,
-        driver: driver(rng, sizes.agents),
+        driver,
     };
     block(rng, shape)
 }
@@ -154,12 +159,19 @@ fn needed(block: &[u8], i: usize) -> u32 {
     rows.fold(named, |word, j| word | needed(block, j))
 }
 
+/// Few positions, so that all can be tried: a contest, or teamwork.
+pub fn few(rng: &mut Rng) -> Vec<u8> {
+    match rng.one_in(3) {
+        true => teamwork(rng),
+        false => contest(rng),
+    }
+}
+
 /// A job with something to play for, or any.
 pub fn mixed(rng: &mut Rng) -> Vec<u8> {
     match rng.below(5) {
         0 => any_block(rng),
-        1 => contest(rng),
-        2 => teamwork(rng),
+        1..=2 => few(rng),
         _ => small(rng),
     }
 }

@@ -154,7 +154,7 @@ fn moves_and_replies_of_random_jobs() {
     let mut answered = [0, 0];
     for case in 0..cases(150) {
         let mut rng = Rng::for_case(SEED + 3, case);
-        let block = games::contest(&mut rng);
+        let block = games::few(&mut rng);
         let model = Model::of(&block);
         for _ in 0..3 {
             let (at, mv) = any_question(&mut rng, &model);
@@ -185,7 +185,7 @@ fn sheets_of_random_jobs() {
     let (mut room, mut seen) = (vec![0; ROOM_BYTES], [0; 3]);
     for case in 0..cases(150) {
         let mut rng = Rng::for_case(SEED + 4, case);
-        let block = games::contest(&mut rng);
+        let block = games::few(&mut rng);
         let model = Model::of(&block);
         for row in model.rows() {
             let (mut line, mut due) = (format!("sheet {row}"), String::new());
