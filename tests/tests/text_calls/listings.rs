@@ -5,7 +5,7 @@ use super::*;
 use rbatl_tests::agree::{self, Outcome};
 use rbatl_tests::listing::{self, LISTING_BYTES};
 use rbatl_tests::model::{MOVES_BYTES, RANKS_BYTES};
-use rbatl_tests::text::TEXT_BYTES;
+use rbatl_tests::text::{write_as, EDITIONS, TEXT_BYTES};
 use rbatl_tests::text_damage::damage;
 use rbatl_tests::{games, jobs};
 
@@ -55,6 +55,19 @@ fn the_job_files() {
     }
     let catch = Lent::patterned(LENGTHS).list(&jobs::text("catch.job"), "Catch");
     assert_eq!(catch.answer, jobs::CATCH_LISTING.len() as i32);
+}
+
+/// A listing does not tell the edition of its text.
+#[test]
+fn both_editions() {
+    let lent = Lent::patterned(LENGTHS);
+    for name in jobs::names() {
+        let job = jobs::load(&name);
+        if job[resource_kind(0)..BLOCK_BYTES] == [SUM, SUM] {
+            let [one, two] = EDITIONS.map(|edition| lent.list(&write_as(edition, &job), &name));
+            assert!(one == two, "{name}");
+        }
+    }
 }
 
 #[test]
@@ -109,7 +122,7 @@ fn lengths() {
 #[test]
 fn long_texts() {
     let lent = Lent::patterned(LENGTHS);
-    for front in [&b""[..], b"job,2,1,25,1,6\n"] {
+    for front in [&b""[..], b"job,2,1,25,1,6\n", b"job2,2,1,25,1,6,sum\n"] {
         for (length, beyond) in [(TEXT_BYTES, false), (TEXT_BYTES + 1, true)] {
             let mut text = front.to_vec();
             text.resize(length, b'\n');
