@@ -47,15 +47,20 @@ pub fn tiny(rng: &mut Rng) -> Vec<u8> {
     block(rng, shape)
 }
 
-/// Few positions, and opponents in most rows who have to act.
-pub fn contest(rng: &mut Rng) -> Vec<u8> {
-    let sizes = Sizes {
+/// Two or three agents in few states.
+fn few_sizes(rng: &mut Rng) -> Sizes {
+    Sizes {
         agents: rng.within(2..=MAX_AGENTS),
         resources: rng.within(1..=2),
         states: rng.within(2..=6),
         propositions: 2,
         rows: rng.within(6..=8),
-    };
+    }
+}
+
+/// Few positions, and opponents in most rows who have to act.
+pub fn contest(rng: &mut Rng) -> Vec<u8> {
+    let sizes = few_sizes(rng);
     let bound = rng.within(0..=if sizes.resources == 1 { 5 } else { 2 }) as u8;
     let shape = Shape {
         sizes,
@@ -88,13 +93,7 @@ fn punish_idling(rng: &mut Rng, block: &mut [u8], driver: u8) {
 /// Few positions, and a coalition of several that has to act together to come to
 /// the rare proposition.
 pub fn teamwork(rng: &mut Rng) -> Vec<u8> {
-    let sizes = Sizes {
-        agents: rng.within(2..=MAX_AGENTS),
-        resources: rng.within(1..=2),
-        states: rng.within(2..=6),
-        propositions: 2,
-        rows: rng.within(6..=8),
-    };
+    let sizes = few_sizes(rng);
     let drivers: &[u8] = if sizes.agents == 2 {
         &[3]
     } else {

@@ -24,12 +24,7 @@ fn words() -> [(Field, usize); 3] {
 #[test]
 fn sizes_out_of_range() {
     for (marked, max) in SIZES {
-        let field = Field::of(CATCH_2, marked);
-        field.wants_a_number();
-        field.refused("0", 2);
-        for value in max + 1..=255 {
-            field.refused(&value.to_string(), 2);
-        }
+        Field::of(CATCH_2, marked).is_a_size(max);
     }
 }
 

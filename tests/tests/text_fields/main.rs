@@ -19,8 +19,26 @@ use rbatl_tests::text_damage::NO_NUMBERS;
 use rbatl_tests::{agree, ffi, jobs};
 use std::ops::RangeInclusive;
 
+/// Rows of every kind, which are alike in both editions.
+macro_rules! wide_rows {
+    () => {
+        "\
+prop,2
+not,0
+or,0,1
+next,5,15,inf,2
+always,7,0,3,3
+until,2,inf,inf,4,0
+prop,0
+or,6,5
+until,1,0,15,7,1
+"
+    };
+}
+
 /// A job with three agents, two resources and rows of every kind.
-const WIDE: &str = "\
+const WIDE: &str = concat!(
+    "\
 job,3,2,2,3,9
 state,0,5
 acts,0,0,2,0,0,15,3
@@ -35,19 +53,13 @@ acts,1,0,1,0,0
 acts,1,1,1,0,0
 acts,1,2,1,0,0
 go,1,0,0,0,1
-prop,2
-not,0
-or,0,1
-next,5,15,inf,2
-always,7,0,3,3
-until,2,inf,inf,4,0
-prop,0
-or,6,5
-until,1,0,15,7,1
-";
+",
+    wide_rows!()
+);
 
 /// The same job in edition 2, with a resource of each kind.
-const WIDE_2: &str = "\
+const WIDE_2: &str = concat!(
+    "\
 job2,3,2,2,3,9,sum,max
 state,0,5
 acts,0,0,2,0,0,15,3
@@ -59,16 +71,9 @@ acts,1,0,1,0,0
 acts,1,1,1,0,0
 acts,1,2,1,0,0
 go,1,1
-prop,2
-not,0
-or,0,1
-next,5,15,inf,2
-always,7,0,3,3
-until,2,inf,inf,4,0
-prop,0
-or,6,5
-until,1,0,15,7,1
-";
+",
+    wide_rows!()
+);
 
 /// Catch in edition 2.
 const CATCH_2: &str = "\
@@ -239,6 +244,14 @@ impl Field {
                 true => self.read(&spelling, place, value, &spelling),
                 false => self.refused(&spelling, number),
             }
+        }
+    }
+
+    /// A size from 1 up to the most. One in range may ask for other lines.
+    fn is_a_size(&self, most: usize) {
+        self.wants_a_number();
+        for value in (0..=255).filter(|value| !(1..=most).contains(value)) {
+            self.refused(&value.to_string(), 2);
         }
     }
 
