@@ -3,6 +3,8 @@
 //! documents.
 
 pub const BLOCK_BYTES: usize = 2471;
+/// Its length before there were kinds of resources, now a wrong one.
+pub const OLD_BLOCK_BYTES: usize = 2469;
 
 pub const MAX_AGENTS: usize = 3;
 pub const MAX_RESOURCES: usize = 2;

@@ -4,13 +4,12 @@ use super::*;
 use rbatl_tests::text::{self, TEXT_BYTES};
 use rbatl_tests::{agree, jobs};
 
-/// 2,469 bytes were a block before there were kinds.
 const BLOCK_LENGTHS: [usize; 10] = [
     0,
     1,
     mask(0),
     BLOCK_BYTES / 2,
-    2469,
+    OLD_BLOCK_BYTES,
     BLOCK_BYTES - 1,
     BLOCK_BYTES + 1,
     BLOCK_BYTES + ROW_BYTES,
