@@ -28,22 +28,25 @@ fn read_agrees_on_whole_texts() {
 fn read_agrees_on_damaged_texts() {
     let lent = agree::pattern(BLOCK_BYTES);
     let cases = cases(CASES);
-    let mut seen = [0; 8];
+    let mut seen = [[0; 8]; 2];
     for case in 0..cases {
         let mut rng = Rng::for_case(!SEED, case);
         let (_, written) = job_and_text(&mut rng);
+        let edition = Edition::of(&written).expect("a whole text");
         let (mut text, _) = empty_bounds(&mut rng, &written);
         let how = damage(&mut rng, &mut text);
         let outcome = agree::read(&text, &lent, || format!("case {case}: {how}"));
-        seen[number(outcome.answer)] += 1;
+        seen[edition as usize][number(outcome.answer)] += 1;
         if outcome.answer == 0 {
             assert_written_back(&outcome.buffer, &text, &format!("case {case}: {how}"));
         } else {
             assert!(outcome.buffer == lent, "case {case}: {how}");
         }
     }
-    assert_each_came(&seen, &[0, 2, 3, 4, 5, 7], cases / 50);
-    assert_eq!((seen[1], seen[6]), (0, 0), "no text of these has 1 or 6");
+    for seen in seen {
+        assert_each_came(&seen, &[0, 2, 3, 4, 5, 7], cases / 120);
+        assert_eq!((seen[1], seen[6]), (0, 0), "no text of these has 1 or 6");
+    }
 }
 
 /// Any text that was read, damaged or not, is that of a job that passes, in its
