@@ -2,10 +2,13 @@
 //! costs that a bound pays for several times, and mostly strategic rows.
 
 mod long;
+mod teamwork;
 
 use crate::layout::*;
 use crate::random::{any_block, fill_kinds, Rng};
 pub use long::{maze, ring};
+use teamwork::side_by_side;
+pub use teamwork::{teamwork, tiny_teamwork};
 
 /// What the jobs of a kind have in common.
 #[derive(Clone, Copy)]
@@ -31,18 +34,13 @@ pub fn tiny(rng: &mut Rng) -> Vec<u8> {
         rows: rng.within(5..=7),
     };
     let bound = rng.within(0..=if sizes.resources == 1 { 3 } else { 1 }) as u8;
-    // All agents in half of the jobs, which then often have to act together.
-    let driver = match rng.one_in(2) {
-        true => (1 << sizes.agents) - 1,
-        false => driver(rng, sizes.agents),
-    };
     let shape = Shape {
         sizes,
         actions: 2,
         cost: 2,
         bound,
         fixed: false,
-        driver,
+        driver: driver(rng, sizes.agents),
     };
     block(rng, shape)
 }
@@ -88,29 +86,6 @@ fn punish_idling(rng: &mut Rng, block: &mut [u8], driver: u8) {
             }
         }
     }
-}
-
-/// Few positions, and a coalition of several that has to act together to come to
-/// the rare proposition.
-pub fn teamwork(rng: &mut Rng) -> Vec<u8> {
-    let sizes = few_sizes(rng);
-    let drivers: &[u8] = if sizes.agents == 2 {
-        &[3]
-    } else {
-        &[3, 5, 6, 7]
-    };
-    let shape = Shape {
-        sizes,
-        actions: rng.within(2..=MAX_ACTIONS),
-        cost: rng.pick(&[1, 2, 4]),
-        bound: rng.pick(&[2, 5, 9]),
-        fixed: false,
-        driver: rng.pick(drivers),
-    };
-    let mut block = block(rng, shape);
-    side_by_side(rng, &mut block, shape);
-    block[mask(sizes.states - 1)] |= 1;
-    block
 }
 
 /// Few positions and as many rows as there can be: a row needs few of those
@@ -243,41 +218,6 @@ fn block(rng: &mut Rng, shape: Shape) -> Vec<u8> {
     }
     fill_kinds(rng, &mut block);
     block
-}
-
-/// The driver leads on, and often keeps the common propositions, only where all its
-/// agents act at once, each at a cost: then the kind of a resource matters.
-fn side_by_side(rng: &mut Rng, block: &mut [u8], shape: Shape) {
-    let states = shape.sizes.states;
-    let agents = (0..MAX_AGENTS).filter(|agent| shape.driver >> agent & 1 == 1);
-    let agents: Vec<usize> = agents.collect();
-    for state in 0..states {
-        for &agent in &agents {
-            let actions = block[count(state, agent)].max(2);
-            block[count(state, agent)] = actions;
-            for action in 1..actions.into() {
-                for resource in 0..shape.sizes.resources {
-                    let spent = rng.within(0..=shape.cost.into()).max(1) as u8;
-                    block[cost(state, agent, action, resource)] = spent;
-                }
-            }
-        }
-        let idle = match rng.one_in(2) {
-            true => state,
-            false => rng.below(states),
-        };
-        let joints: Vec<usize> = joint_actions(block, state).collect();
-        for joint in joints {
-            let all_act = agents.iter().all(|&agent| actions(joint)[agent] > 0);
-            let target = match all_act {
-                true => (state + 1) % states,
-                false => idle,
-            };
-            if !rng.one_in(16) {
-                block[next(state, joint)] = target as u8;
-            }
-        }
-    }
 }
 
 /// Proposition 0 is rare, the others common.
