@@ -32,9 +32,9 @@
  * buffers. A buffer that all of them only read may be the same.
  *
  * Stack: any call takes at most RBATL_STACK_BYTES, and none allocates. As
- * bench/run measures it, in bytes: check 135, states_refusal 183, write 351, read
- * and read_at 2999, table 5920, label 6000, move and reply 6096, states 6112,
- * worksheet 6128, list 8720.
+ * bench/run measures it, in bytes: check 191, states_refusal 239, write 383, read
+ * and read_at 3015, table 5936, label 6016, move and reply 6112, states 6128,
+ * worksheet 6144, list 8736.
  *
  * Cost: rbatl_move and rbatl_reply solve the row anew at each call. For the moves
  * of up to 64 positions ask rbatl_worksheet, which solves it once; for those of all

@@ -26,20 +26,24 @@ impl Scan<'_> {
         Some(())
     }
 
-    /// A number up to the most, and the byte after it.
+    fn digit(&self, place: usize) -> Option<usize> {
+        let digit = self.0.get(place)?.wrapping_sub(b'0');
+        (digit < 10).then_some(digit.into())
+    }
+
+    /// A number up to the most, which is at most 255, and the byte after it.
     fn number(&mut self, most: usize, end: u8) -> Option<u8> {
-        let (mut value, mut digits) = (0, 0);
-        while let Some(digit @ b'0'..=b'9') = self.0.get(digits) {
-            value = 10 * value + usize::from(digit - b'0');
-            digits += 1;
-            if value > 255 || digits > 1 && value < 10 {
-                return None;
-            }
-        }
-        if digits == 0 || self.0.get(digits) != Some(&end) || value > most {
+        let first = self.digit(0)?;
+        let (value, length) = match (self.digit(1), self.digit(2)) {
+            (None, _) => (first, 1),
+            (Some(_), _) if first == 0 => return None,
+            (Some(second), None) => (10 * first + second, 2),
+            (Some(second), Some(third)) => (100 * first + 10 * second + third, 3),
+        };
+        if value > most || self.0.get(length) != Some(&end) {
             return None;
         }
-        self.0 = &self.0[digits + 1..];
+        self.0 = &self.0[length + 1..];
         Some(value as u8)
     }
 
@@ -138,23 +142,20 @@ fn read_nexts(
     state: usize,
     edition: Edition,
 ) -> Option<()> {
-    let [first, second, third] = counts(block, sizes, state);
-    for joint in joints(first, second, third) {
-        let [a, b, c] = actions(joint);
-        let last = [a + 1, b + 1, c + 1] == [first, second, third];
+    each_joint(counts(block, sizes, state), |joint, last| {
         if joint == 0 || edition == Edition::One {
             scan.field(b"go", b',')?;
             scan.index(state)?;
         }
         if edition == Edition::One {
-            for action in &[a, b, c][..sizes.agents] {
+            for action in &actions(joint)[..sizes.agents] {
                 scan.index(*action)?;
             }
         }
         let end = end_of(last || edition == Edition::One);
         block[next(state, joint)] = scan.number(sizes.states - 1, end)?;
-    }
-    Some(())
+        Some(())
+    })
 }
 
 /// Each agent's number of actions, 1 for one that does not exist.
@@ -165,10 +166,20 @@ fn counts(block: &[u8], sizes: Sizes, state: usize) -> [usize; MAX_AGENTS] {
     })
 }
 
-fn joints(first: usize, second: usize, third: usize) -> impl Iterator<Item = usize> {
-    (0..third).flat_map(move |c| {
-        (0..second).flat_map(move |b| (0..first).map(move |a| a + 4 * b + 16 * c))
-    })
+/// Each joint action in rising number, and whether it is the last.
+fn each_joint(
+    counts: [usize; MAX_AGENTS],
+    mut each: impl FnMut(usize, bool) -> Option<()>,
+) -> Option<()> {
+    let [first, second, third] = counts;
+    for c in 0..third {
+        for b in 0..second {
+            for a in 0..first {
+                each(a + 4 * b + 16 * c, [a + 1, b + 1, c + 1] == counts)?;
+            }
+        }
+    }
+    Some(())
 }
 
 fn read_row(scan: &mut Scan, block: &mut [u8], sizes: Sizes, i: usize) -> Option<()> {
@@ -263,10 +274,10 @@ fn write_state(out: &mut Out, block: &[u8], sizes: Sizes, state: usize) {
     }
     out.word(b"\ngo");
     out.number(state as u8);
-    let [first, second, third] = counts(block, sizes, state);
-    for joint in joints(first, second, third) {
+    each_joint(counts(block, sizes, state), |joint, _| {
         out.number(block[next(state, joint)]);
-    }
+        Some(())
+    });
     out.word(b"\n");
 }
 
