@@ -19,13 +19,13 @@ fn with(text: &str, old: &str, new: &str) -> (Vec<u8>, i32) {
     (text.replacen(old, new, 1).into_bytes(), place as i32)
 }
 
-/// The same of the first job.
-fn first_with(old: &str, new: &str) -> (Vec<u8>, i32) {
-    with(
-        &String::from_utf8(jobs::text("first.job")).unwrap(),
-        old,
-        new,
-    )
+/// Each change of a job file stops reading so much further than it begins.
+fn expect_stops(name: &str, changes: &[(&str, &str, i32)]) {
+    let job = String::from_utf8(jobs::text(name)).expect("plain text");
+    for (old, new, further) in changes {
+        let (text, place) = with(&job, old, new);
+        assert_eq!(stop(&text, new), place + further, "{old} to {new}");
+    }
 }
 
 #[test]
@@ -85,16 +85,12 @@ fn fields() {
         ("until,1,2", "until,1,255", 8),
         ("until,1,2", "until,1,  ", 8),
     ];
-    for (old, new, further) in changes {
-        let (text, place) = first_with(old, new);
-        assert_eq!(stop(&text, new), place + further, "{old} to {new}");
-    }
+    expect_stops("first.job", &changes);
 }
 
 /// What edition 2 has of its own, on both sides of each border.
 #[test]
 fn fields_of_edition_2() {
-    let job = String::from_utf8(jobs::text("minutes.job")).unwrap();
     let changes = [
         ("job2,", "job3,", 0),
         ("job2,3,2,5,1,7,", "job,3,2,5,1,7,", 12),
@@ -113,10 +109,7 @@ fn fields_of_edition_2() {
         ("go,4,4", "go,4,5", 5),
         ("go,4,4", "go,4,4,4", 5),
     ];
-    for (old, new, further) in changes {
-        let (text, place) = with(&job, old, new);
-        assert_eq!(stop(&text, new), place + further, "{old} to {new}");
-    }
+    expect_stops("minutes.job", &changes);
 }
 
 /// Bytes after the last line stop reading where they begin.
