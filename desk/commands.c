@@ -21,12 +21,14 @@ const struct command commands[] = {
         .name = "check",
         .run_on_text = check,
         .words = "",
-        .summary = "that the job passes, and its sizes",
-        .does = "Says that the job passes, with its sizes. Of a text that is refused it shows the\n"
-                "line where reading stopped on standard error, with a mark under the field.\n",
+        .summary = "that the job passes; its sizes and kinds of resources",
+        .does = "Says that the job passes, with its sizes, and for each resource whether a move\n"
+                "takes the sum of its agents' costs or the largest (max). Of a text that is\n"
+                "refused it shows the line where reading stopped on standard error, with a mark\n"
+                "under the field.\n",
         .takes = NOTHING,
         .prints = "Output: one line, as in\n"
-                  "  passes: 2 agents, 1 resource, 3 states, 1 proposition, 6 rows\n",
+                  "  passes: 2 agents, 1 resource (sum), 3 states, 1 proposition, 6 rows\n",
     },
     {
         .name = "list",
@@ -116,7 +118,8 @@ const struct command commands[] = {
         .words = " [ROW]",
         .summary = "a drawing of the job for a row",
         .does = "Draws the job in the language of Graphviz: the states, filled where the row is\n"
-                "true, and the joint actions that lead from one to another.\n",
+                "true, and the joint actions that lead from one to another. The title has the row\n"
+                "and the kind of each resource.\n",
         .takes = "Arguments:\n"
                  "  ROW    a row of any kind; it may be left out where the job has exactly one of\n"
                  "         kind next, always or until, which is then drawn\n",

@@ -43,6 +43,8 @@ static void draw_head(const struct drawing *drawing)
     printf("  graph [rankdir=LR, nodesep=0.5, ranksep=0.7, fontname=\"Helvetica\", labelloc=t,\n");
     printf("    label=\"row %u: ", drawing->row);
     print_row(drawing->block, drawing->row);
+    printf("\\nresources: ");
+    print_kinds(drawing->block);
     printf("\\nfilled: true there; edges: the agents' actions");
     if (drawing->strategic)
         printf("; bold: the move at full stock");

@@ -30,8 +30,13 @@ unsigned part_of(unsigned joint, unsigned agents)
 /* Agents outside the coalition have action 0 in its move, which costs nothing. */
 unsigned move_cost(const uint8_t *block, unsigned state, unsigned move, unsigned resource)
 {
-    unsigned sum = 0;
-    for (unsigned agent = 0; agent < rbatl_job_agents(block); agent++)
-        sum += rbatl_action_cost(block, state, agent, rbatl_action_of(move, agent), resource);
-    return sum;
+    unsigned sum = 0, largest = 0;
+    for (unsigned agent = 0; agent < rbatl_job_agents(block); agent++) {
+        unsigned action = rbatl_action_of(move, agent);
+        unsigned cost = rbatl_action_cost(block, state, agent, action, resource);
+        sum += cost;
+        if (cost > largest)
+            largest = cost;
+    }
+    return rbatl_resource_kind(block, resource) == RBATL_MAX ? largest : sum;
 }

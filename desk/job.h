@@ -15,7 +15,7 @@ bool has_joint(const uint8_t *block, unsigned state, unsigned joint);
 /* The part of a joint action that the agents of the mask take. */
 unsigned part_of(unsigned joint, unsigned agents);
 
-/* What a coalition's move takes of a resource. */
+/* What a coalition's move takes of a resource, by its kind. */
 unsigned move_cost(const uint8_t *block, unsigned state, unsigned move, unsigned resource);
 
 #endif

@@ -1,5 +1,6 @@
 /* The job's sizes, and the listing of its rows. */
 #include "desk.h"
+#include "words.h"
 
 #include <stdio.h>
 
@@ -19,6 +20,9 @@ enum status check(const struct text *text)
     }
     print_count("passes: ", rbatl_job_agents(block), "agent");
     print_count(", ", rbatl_job_resources(block), "resource");
+    printf(" (");
+    print_kinds(block);
+    printf(")");
     print_count(", ", rbatl_job_states(block), "state");
     print_count(", ", rbatl_job_propositions(block), "proposition");
     print_count(", ", rbatl_job_rows(block), "row");

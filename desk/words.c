@@ -59,6 +59,16 @@ void print_row(const uint8_t *block, unsigned row)
     }
 }
 
+void print_kinds(const uint8_t *block)
+{
+    const char *before = "";
+    for (unsigned resource = 0; resource < rbatl_job_resources(block); resource++) {
+        bool largest = rbatl_resource_kind(block, resource) == RBATL_MAX;
+        printf("%s%s", before, largest ? "max" : "sum");
+        before = ", ";
+    }
+}
+
 void print_actions(unsigned joint, unsigned agents)
 {
     const char *before = "";

@@ -32,9 +32,9 @@
  * buffers. A buffer that all of them only read may be the same.
  *
  * Stack: any call takes at most RBATL_STACK_BYTES, and none allocates. As
- * bench/run measures it, in bytes: check 135, states_refusal 183, write 351, read
- * and read_at 2999, table 5920, label 6000, move and reply 6096, states 6112,
- * worksheet 6128, list 8720.
+ * bench/run measures it, in bytes: check 191, states_refusal 239, write 383, read
+ * and read_at 3015, table 5936, label 6016, move and reply 6112, states 6128,
+ * worksheet 6144, list 8736.
  *
  * Cost: rbatl_move and rbatl_reply solve the row anew at each call. For the moves
  * of up to 64 positions ask rbatl_worksheet, which solves it once; for those of all
@@ -63,14 +63,15 @@ extern "C" {
 #endif
 
 /* The version of this header: major * 10000 + minor * 100 + patch, to compare
- * when a host is compiled, as in `#if RBATL_VERSION_NUMBER < 20000`, and the
- * same as a string. */
-#define RBATL_VERSION_NUMBER 20000
-#define RBATL_VERSION "2.0.0"
+ * when a host is compiled, as in `#if RBATL_VERSION_NUMBER < 30000`, and the
+ * same as a string. Before 3.0.0 a block had 2469 bytes, without kinds of
+ * resources, and rbatl_write wrote edition 1. */
+#define RBATL_VERSION_NUMBER 30000
+#define RBATL_VERSION "3.0.0"
 
 /* Length of a block; the longest text that is read, and the length of the
  * buffer that a text is written to. */
-#define RBATL_BLOCK_BYTES 2469
+#define RBATL_BLOCK_BYTES 2471
 #define RBATL_TEXT_BYTES 32768
 
 /* The most positions of a row: 24 states with 16 stocks of each resource. */
@@ -121,6 +122,14 @@ extern "C" {
 #define RBATL_MAX_BOUND 15
 #define RBATL_UNLIMITED 255
 
+/* The kinds of a resource: what a coalition's move takes of it is the sum of its
+ * agents' costs, as for charge, or the largest of them, as for minutes that run
+ * side by side. The costs of successive moves add up in both. */
+enum rbatl_cost_kind {
+    RBATL_SUM = 0,
+    RBATL_MAX
+};
+
 /* The kinds of a row; those from RBATL_NEXT on have a table. */
 enum rbatl_kind {
     RBATL_PROP = 0,
@@ -137,7 +146,7 @@ enum rbatl_refusal {
      * long. */
     RBATL_E_LENGTH = 1,
     /* The number of agents, resources, states, propositions or rows is out of
-     * range. */
+     * range, or the kind of a resource is unknown (in a text RBATL_E_FORM). */
     RBATL_E_SIZES = 2,
     /* A state has a proposition that does not exist, a count of actions that
      * is not 1 to 4, a cost above 15, or an idle action with a cost. */
@@ -176,19 +185,24 @@ enum rbatl_refusal {
  * - 677 + 64s + a0 + 4 * a1 + 16 * a2: the next state by the agents' actions;
  * - 2213 + 8i on: row i as kind (enum rbatl_kind), left, right, coalition,
  *   bound of each of two resources, 0, 0; left and right are lower rows, or left
- *   the proposition; the coalition has bit a for agent a.
+ *   the proposition; the coalition has bit a for agent a;
+ * - 2469 + j: the kind of resource j (enum rbatl_cost_kind).
  * Every place that the job does not use is 0. Action 0 is idle. */
 int32_t rbatl_check(const uint8_t *block, size_t block_len);
 
-/* Reads a text into a block of RBATL_BLOCK_BYTES: 0, and the block is the job
- * of the text; -RBATL_E_LENGTH for a block of any other length or a text above
+/* Reads a text of either edition into a block of RBATL_BLOCK_BYTES: 0, and the
+ * block is the job of the text; -RBATL_E_LENGTH for a block of any other length or a text above
  * RBATL_TEXT_BYTES; else minus the first refusal that the fields meet from
  * left to right and line by line, each tried for its form (RBATL_E_FORM), the
  * comma or line end after it included, and then for its value (RBATL_E_SIZES,
- * RBATL_E_STATE, RBATL_E_NEXT, RBATL_E_ROW). A bound is a number, `inf`, which
- * is unlimited, or empty, which is 0 (unlimited before version 2.0.0). The text
- * needs no byte 0 at its end, and has none. A refused call leaves the block as it
- * was. */
+ * RBATL_E_STATE, RBATL_E_NEXT, RBATL_E_ROW). The first word tells the edition:
+ * - `job`: all resources are of kind RBATL_SUM, and each joint action of a state
+ *   has a `go` line with its actions and its next state;
+ * - `job2`: after the sizes the first line has a word for each resource, `sum` or
+ *   `max`, and a state has one `go` line, with all its next states.
+ * A bound is a number, `inf`, which is unlimited, or empty, which is 0 (unlimited
+ * before version 2.0.0). The text needs no byte 0 at its end, and has none. A
+ * refused call leaves the block as it was. */
 int32_t rbatl_read(const uint8_t *text, size_t text_len, uint8_t *block, size_t block_len);
 
 /* Where reading stops: the offset of the field that a text is refused for, or of
@@ -196,8 +210,8 @@ int32_t rbatl_read(const uint8_t *text, size_t text_len, uint8_t *block, size_t 
  * -RBATL_E_LENGTH for a text above RBATL_TEXT_BYTES. */
 int32_t rbatl_read_at(const uint8_t *text, size_t text_len);
 
-/* Writes the text of a block into a buffer of RBATL_TEXT_BYTES: the length of
- * the text, and zeros stand after it; -RBATL_E_LENGTH for a block or a buffer
+/* Writes the text of a block, in edition 2, into a buffer of RBATL_TEXT_BYTES: the
+ * length of the text, and zeros stand after it; -RBATL_E_LENGTH for a block or a buffer
  * of any other length; else what rbatl_check answers on the block. An unlimited
  * bound is written `inf`, and any other as a number. A refused call leaves the
  * buffer as it was. */

@@ -36,7 +36,8 @@ enum rbatl_field {
 #define RBATL_ROW_BYTES 8
 
 /* The places of the sizes; then the first place of the masks, counts of actions,
- * costs, next states and rows. Each sort has room for the largest sizes. */
+ * costs, next states, rows and kinds of resources. Each sort has room for the
+ * largest sizes. */
 enum rbatl_place {
     RBATL_PLACE_AGENTS,
     RBATL_PLACE_RESOURCES,
@@ -48,7 +49,8 @@ enum rbatl_place {
     RBATL_FIRST_COST = RBATL_FIRST_COUNT + RBATL_MAX_STATES * RBATL_MAX_AGENTS,
     RBATL_FIRST_NEXT = RBATL_FIRST_COST + RBATL_MAX_STATES * RBATL_MAX_AGENTS * RBATL_MAX_ACTIONS *
                                               RBATL_MAX_RESOURCES,
-    RBATL_FIRST_ROW = RBATL_FIRST_NEXT + RBATL_MAX_STATES * RBATL_JOINT_ACTIONS
+    RBATL_FIRST_ROW = RBATL_FIRST_NEXT + RBATL_MAX_STATES * RBATL_JOINT_ACTIONS,
+    RBATL_FIRST_RESOURCE_KIND = RBATL_FIRST_ROW + RBATL_MAX_ROWS * RBATL_ROW_BYTES
 };
 
 static inline size_t rbatl_place_of_mask(unsigned state)
@@ -78,6 +80,11 @@ static inline size_t rbatl_place_of_field(unsigned row, unsigned field)
     return RBATL_FIRST_ROW + RBATL_ROW_BYTES * row + field;
 }
 
+static inline size_t rbatl_place_of_resource_kind(unsigned resource)
+{
+    return RBATL_FIRST_RESOURCE_KIND + resource;
+}
+
 /* The sizes of the job. */
 static inline unsigned rbatl_job_agents(const uint8_t *block)
 {
@@ -102,6 +109,12 @@ static inline unsigned rbatl_job_propositions(const uint8_t *block)
 static inline unsigned rbatl_job_rows(const uint8_t *block)
 {
     return block[RBATL_PLACE_ROWS];
+}
+
+/* The kind of a resource, one of enum rbatl_cost_kind. */
+static inline unsigned rbatl_resource_kind(const uint8_t *block, unsigned resource)
+{
+    return block[rbatl_place_of_resource_kind(resource)];
 }
 
 /* The propositions that are true in a state, bit k for proposition k. */
@@ -275,7 +288,8 @@ static inline const char *rbatl_refusal_text(int32_t number)
     case RBATL_E_LENGTH:
         return "the text is longer than 32768 bytes, or a buffer has a wrong length";
     case RBATL_E_SIZES:
-        return "the number of agents, resources, states, propositions or rows is out of range";
+        return "the number of agents, resources, states, propositions or rows is out of range, "
+               "or the kind of a resource is unknown";
     case RBATL_E_STATE:
         return "a state has an absent proposition, a count of actions that is not 1 to 4, "
                "a cost above 15, or an idle action with a cost";

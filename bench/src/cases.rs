@@ -1,7 +1,7 @@
 //! The jobs that are timed. Each has one strategic row, over two propositions.
 
 use rbatl_tests::games;
-use rbatl_tests::layout::{row, ALWAYS, MAX_ROWS, NEXT, ROWS, UNTIL};
+use rbatl_tests::layout::{resource_kind, row, ALWAYS, MAX, MAX_ROWS, NEXT, ROWS, UNTIL};
 use rbatl_tests::random::Rng;
 
 /// The strategic row.
@@ -15,7 +15,9 @@ pub struct Case {
 }
 
 /// Short plays go anywhere, steps lead to near states, and in a ring the play
-/// is as long as it can be, along the sweep's order of states or against it.
+/// is as long as it can be, along the sweep's order of states or against it. Max
+/// is the steps, or of next the short plays, with resource 1 of that kind; to one
+/// agent it would make no difference.
 pub fn all() -> Vec<Case> {
     let mut cases = Vec::new();
     for (kind, word) in [(UNTIL, "until"), (ALWAYS, "always"), (NEXT, "next")] {
@@ -25,11 +27,17 @@ pub fn all() -> Vec<Case> {
                 cases.push(Case { name, job });
             };
             let mut rng = Rng::for_case(SEED, coalition.into());
-            add("short", games::maze(&mut rng, kind, coalition, 0));
+            let mut job = games::maze(&mut rng, kind, coalition, 0);
+            add("short", job.clone());
             if kind != NEXT {
-                add("steps", games::maze(&mut rng, kind, coalition, 2));
+                job = games::maze(&mut rng, kind, coalition, 2);
+                add("steps", job.clone());
                 add("long", games::ring(kind, coalition, true));
                 add("long back", games::ring(kind, coalition, false));
+            }
+            if coalition > 1 {
+                job[resource_kind(1)] = MAX;
+                add("max", job);
             }
         }
     }

@@ -2,23 +2,25 @@
 //! states, three agents with four actions, bounds 15 and 15), as ratios to a
 //! Rust program that does the same sweeps, to plain sweeps and to section 4 of
 //! document 003; how long a worksheet takes beside one move; what rows cost that
-//! the asked one does not need; and how much stack every call uses.
+//! the asked one does not need; how long a text of each edition takes to read and
+//! write; and how much stack every call uses.
 
 mod cases;
 mod sheet;
 mod stack;
 mod sweeps;
+mod texts;
 mod timing;
 
 use cases::{Case, ROW};
 use rbatl_tests::checker::splits;
 use rbatl_tests::checker::structure::Structure;
 use rbatl_tests::ffi;
-use rbatl_tests::layout::{row, BLOCK_BYTES, KIND, MAX_ROWS, NEXT};
+use rbatl_tests::layout::{resource_kind, row, BLOCK_BYTES, KIND, MAX_ROWS, NEXT, SUM};
 use rbatl_tests::listing::LISTING_BYTES;
 use rbatl_tests::model::{At, MOVES_BYTES, RANKS_BYTES, ROOM_BYTES, SETS_BYTES};
 use rbatl_tests::model::{SHEET_POSITIONS, STATES_BYTES};
-use rbatl_tests::text;
+use rbatl_tests::text::{self, EDITIONS};
 use std::hint::black_box;
 use sweeps::{Order, Sweeper};
 
@@ -234,6 +236,7 @@ fn main() {
     }
     println!("largest ratio of a sheet to one move: {largest_sheet:.2}");
     print_crowd();
+    texts::print();
     print_stack();
 }
 
@@ -273,6 +276,14 @@ fn print_sheet(case: &Case) -> f64 {
     ratio
 }
 
+/// The texts of a job: in both editions, if it has no resource of kind max.
+fn texts_of(job: &[u8]) -> Vec<Vec<u8>> {
+    match job[resource_kind(0)..BLOCK_BYTES] == [SUM, SUM] {
+        true => EDITIONS.map(|edition| text::write_as(edition, job)).into(),
+        false => vec![text::write(job)],
+    }
+}
+
 /// The most that each call takes over all jobs.
 fn print_stack() {
     let names = [
@@ -293,11 +304,15 @@ fn print_stack() {
     let list = sheet::list();
     for case in cases::all() {
         let mut buffers = Buffers::new();
-        let (job, text) = (&case.job, text::write(&case.job));
+        let (job, texts) = (&case.job, texts_of(&case.job));
+        let of_texts = |call: &mut dyn FnMut(&[u8])| {
+            let used = texts.iter().map(|text| stack::used(|| call(text)));
+            used.max().unwrap_or(0)
+        };
         let used = [
             stack::used(|| consume(ffi::check(job))),
-            stack::used(|| buffers.read(&text)),
-            stack::used(|| consume(ffi::read_at(&text))),
+            of_texts(&mut |text| buffers.read(text)),
+            of_texts(&mut |text| consume(ffi::read_at(text))),
             stack::used(|| buffers.write(job)),
             stack::used(|| buffers.label(job)),
             stack::used(|| buffers.table(job)),
@@ -306,7 +321,7 @@ fn print_stack() {
             stack::used(|| buffers.worksheet(job, &list)),
             stack::used(|| buffers.states(job)),
             stack::used(|| buffers.states_refusal(job)),
-            stack::used(|| buffers.list(&text)),
+            of_texts(&mut |text| buffers.list(text)),
         ];
         largest = std::array::from_fn(|k| largest[k].max(used[k]));
     }

@@ -316,8 +316,13 @@ fn moves(block: &[u8], state: usize, coalition: u8) -> Vec<Move> {
         for agent in agents {
             let action = actions(joint)[agent];
             number += action << (2 * agent);
-            spent[0] += usize::from(block[cost(state, agent, action, 0)]);
-            spent[1] += usize::from(block[cost(state, agent, action, 1)]);
+            for (resource, spent) in spent.iter_mut().enumerate() {
+                let more = usize::from(block[cost(state, agent, action, resource)]);
+                *spent = match block[resource_kind(resource)] {
+                    MAX => more.max(*spent),
+                    _ => more + *spent,
+                };
+            }
         }
         // The first joint action of a move is the one whose opponents idle.
         if number == joint {

@@ -5,6 +5,12 @@
 #include "../../desk/job.h"
 #include "random.h"
 
+/* The longest text, one byte more, and what an edit puts in. */
+#define TEXT_ROOM (RBATL_TEXT_BYTES + 64)
+
+/* The editions of a text. */
+enum edition { FIRST, SECOND };
+
 /* The calls of the library. */
 enum entry {
     CHECK,
@@ -90,6 +96,20 @@ int32_t ask_block(struct run *run, enum entry entry, const uint8_t *block, unsig
                   struct outcome *outcome);
 int32_t ask_text(struct run *run, enum entry entry, const uint8_t *text, size_t length,
                  struct outcome *outcome);
+
+/* The text of a passing block in an edition; its length. */
+size_t write_text(const uint8_t *block, enum edition edition, uint8_t *bytes);
+
+/* Whether the block is the meaning of a text of edition 1. */
+bool has_first_edition(const uint8_t *block);
+
+/* A passing block is written as it should be, and its text, in either edition and
+ * also with empty bounds, is read back as it. The length of that text, which is
+ * handed on. */
+size_t try_text(struct run *run, const uint8_t *block, uint8_t *text);
+
+/* A text that is damaged; if it is read all the same, it is the text of its block. */
+void try_damaged_text(struct run *run, uint8_t *text, size_t length);
 
 /* Lists the text of a passing block. */
 void try_listing(struct run *run, const uint8_t *block, const uint8_t *text, size_t length);

@@ -8,6 +8,9 @@ static const uint8_t borders[] = {
     0, 1, 2, 3, 4, 5, 6, 7, 8, 9, 14, 15, 16, 17, 23, 24, 25, 31, 32, 33, 127, 128, 253, 254, 255,
 };
 
+/* How the next states of a job come about. */
+enum play { FREE, CONTEST, TEAMWORK, PLAYS };
+
 /* Mostly few states, since large tables take long. */
 static void random_sizes(struct random *random, uint8_t *block)
 {
@@ -63,18 +66,43 @@ static unsigned random_mask(struct random *random, unsigned state, bool contest)
     return draw_byte(random) & draw_byte(random);
 }
 
-static void random_state(struct random *random, uint8_t *block, unsigned state, bool contest)
+/* Only where all agents act who can do they lead on, so that the kind of a
+ * resource matters. */
+static unsigned shared_target(struct random *random, const uint8_t *block, unsigned state,
+                              unsigned joint)
+{
+    bool all = true;
+    if (one_in(random, 16))
+        return (unsigned)below(random, rbatl_job_states(block));
+    for (unsigned agent = 0; agent < rbatl_job_agents(block); agent++)
+        all &= rbatl_action_of(joint, agent) > 0 || rbatl_action_count(block, state, agent) == 1;
+    return all ? (state + 1) % rbatl_job_states(block) : state;
+}
+
+static unsigned target_of(struct random *random, const uint8_t *block, enum play play,
+                          unsigned state, unsigned joint)
+{
+    switch (play) {
+    case CONTEST:
+        return contested_target(random, block, joint);
+    case TEAMWORK:
+        return shared_target(random, block, state, joint);
+    default:
+        return random_target(random, block, state, joint);
+    }
+}
+
+static void random_state(struct random *random, uint8_t *block, unsigned state, enum play play)
 {
     unsigned masks = 1u << rbatl_job_propositions(block);
     block[rbatl_place_of_mask(state)] =
-        (uint8_t)(random_mask(random, state, contest) & (masks - 1));
+        (uint8_t)(random_mask(random, state, play != FREE) & (masks - 1));
     for (unsigned agent = 0; agent < rbatl_job_agents(block); agent++)
         random_actions(random, block, state, agent);
     for (unsigned joint = 0; joint < RBATL_JOINT_ACTIONS; joint++)
         if (has_joint(block, state, joint))
             block[rbatl_place_of_next(state, joint)] =
-                (uint8_t)(contest ? contested_target(random, block, joint)
-                                  : random_target(random, block, state, joint));
+                (uint8_t)target_of(random, block, play, state, joint);
 }
 
 static uint8_t random_bound(struct random *random, unsigned most)
@@ -106,11 +134,13 @@ void random_job(struct random *random, uint8_t *block)
     memset(block, 0, RBATL_BLOCK_BYTES);
     random_sizes(random, block);
     unsigned most = bounds[below(random, sizeof bounds / sizeof bounds[0])];
-    bool contest = one_in(random, 2);
+    enum play play = (enum play)below(random, PLAYS);
     for (unsigned state = 0; state < rbatl_job_states(block); state++)
-        random_state(random, block, state, contest);
+        random_state(random, block, state, play);
     for (unsigned row = 0; row < rbatl_job_rows(block); row++)
         random_row(random, block, row, most);
+    for (unsigned resource = 0; resource < rbatl_job_resources(block); resource++)
+        block[rbatl_place_of_resource_kind(resource)] = one_in(random, 2) ? RBATL_MAX : RBATL_SUM;
 }
 
 /* A place that the job may use, sort by sort, or any place. */
@@ -120,7 +150,7 @@ static size_t random_place(struct random *random, const uint8_t *block)
     unsigned agent = (unsigned)below(random, RBATL_MAX_AGENTS);
     unsigned resource = (unsigned)below(random, RBATL_MAX_RESOURCES);
 
-    switch (below(random, 7)) {
+    switch (below(random, 8)) {
     case 0:
         return below(random, RBATL_PLACE_ROWS + 1);
     case 1:
@@ -135,6 +165,8 @@ static size_t random_place(struct random *random, const uint8_t *block)
     case 5:
         return rbatl_place_of_field((unsigned)below(random, rbatl_job_rows(block)),
                                     (unsigned)below(random, RBATL_ROW_BYTES));
+    case 6:
+        return rbatl_place_of_resource_kind(resource);
     default:
         return below(random, RBATL_BLOCK_BYTES);
     }

@@ -1,13 +1,14 @@
-/* Damage to the texts of jobs. A text's buffer has room for one byte more than
+/* Damage to the texts of jobs, of either edition. A text's buffer has room for one byte more than
  * the longest text and for what an edit puts in. */
 #include "fuzz.h"
 
 #include <string.h>
 
 static const char *const spellings[] = {
-    "",   "0",  "1",  "2",   "3",   "4",   "5",   "6",    "8",   "9",  "15", "16",  "24",
-    "25", "32", "33", "254", "255", "256", "999", "1000", "inf", "in", "00", "01",  "-1",
-    "+1", " 0", "0 ", "x",   "1x",  "go",  "or",  "not",  "job", "\n", ",",  "1,1", "\r",
+    "",   "0",  "1",    "2",   "3",   "4",   "5",   "6",    "8",   "9",  "15", "16",  "24",
+    "25", "32", "33",   "254", "255", "256", "999", "1000", "inf", "in", "00", "01",  "-1",
+    "+1", " 0", "0 ",   "x",   "1x",  "go",  "or",  "not",  "job", "\n", ",",  "1,1", "\r",
+    "su", "+",  "job2", "sum", "max", "min", "Sum", "sum,", "max\n",
 };
 
 /* Puts a word in the place of some bytes; the new length. */
@@ -19,14 +20,18 @@ static size_t splice(uint8_t *text, size_t length, size_t at, size_t old, const 
     return length - old + new;
 }
 
+/* About the bytes of a first line, with the kinds in it. */
+#define FIRST_LINE 24
+
 static bool is_end(uint8_t byte)
 {
     return byte == ',' || byte == '\n';
 }
 
-static size_t respell(struct random *random, uint8_t *text, size_t length)
+/* Spells a field in another way that is among the first bytes of a text. */
+static size_t respell(struct random *random, uint8_t *text, size_t length, size_t first)
 {
-    size_t at = below(random, length), end;
+    size_t at = below(random, first < length ? first : length), end;
 
     while (at > 0 && !is_end(text[at - 1]))
         at--;
@@ -93,15 +98,18 @@ size_t damage_text(struct random *random, uint8_t *text, size_t length)
         return edit_line(random, text, length);
     case 4:
     case 5:
-        length = respell(random, text, length);
+        length = respell(random, text, length, length);
         return length == 0 ? 0 : edit_byte(random, text, length);
     case 6:
     case 7:
     case 8:
     case 9:
         return edit_byte(random, text, length);
+    case 10:
+    case 11:
+        return respell(random, text, length, FIRST_LINE);
     default:
-        return respell(random, text, length);
+        return respell(random, text, length, length);
     }
 }
 

@@ -3,71 +3,8 @@
 
 #include <string.h>
 
-/* The longest text, one byte more, and what an edit puts in. */
-#define TEXT_ROOM (RBATL_TEXT_BYTES + 64)
-
 /* How many bytes too many a buffer has at most. */
 #define MAX_SKEW 4096
-
-/* A passing block is written as a text that is read back as it, also with
- * empty bounds. The length of the text, which is handed on. */
-static size_t try_text(struct run *run, const uint8_t *block, uint8_t *text)
-{
-    static struct outcome outcome;
-    int32_t length = ask_block(run, WRITE, block, 0, &outcome);
-
-    expect(run, length > 0, "write", "a passing block is refused");
-    memcpy(text, outcome.bytes[0], RBATL_TEXT_BYTES);
-    for (size_t i = (size_t)length; i < RBATL_TEXT_BYTES; i++)
-        expect(run, text[i] == 0, "write", "no zeros after the text");
-    expect(run, ask_text(run, READ, text, (size_t)length, &outcome) == 0, "read",
-           "a written text");
-    expect(run, memcmp(outcome.bytes[0], block, RBATL_BLOCK_BYTES) == 0, "read", "another block");
-    size_t emptied =
-        empty_bounds(&run->random, rbatl_job_resources(block), text, (size_t)length);
-    expect(run, ask_text(run, READ, text, emptied, &outcome) == 0, "read",
-           "a text with empty bounds");
-    expect(run, memcmp(outcome.bytes[0], block, RBATL_BLOCK_BYTES) == 0, "read",
-           "another block by empty bounds");
-    return emptied;
-}
-
-/* Reading stops at the end of a text that is accepted; what stands before the
- * place where it stops, read alone, stops there too. */
-static void try_stop(struct run *run, const uint8_t *text, size_t length, bool accepted)
-{
-    static struct outcome outcome;
-    int32_t stop = ask_text(run, READ_AT, text, length, &outcome);
-
-    if (stop < 0)
-        return;
-    expect(run, (size_t)stop <= length, "read_at", "a place past the end");
-    expect(run, !accepted || (size_t)stop == length, "read_at", "not the end of an accepted text");
-    expect(run, ask_text(run, READ_AT, text, (size_t)stop, &outcome) == stop, "read_at",
-           "another place without what follows");
-}
-
-/* A text that is read is the text of its block, but for empty bounds. */
-static void try_damaged_text(struct run *run, uint8_t *text, size_t length)
-{
-    static struct outcome read, listed, written;
-    static uint8_t filled[2 * TEXT_ROOM];
-
-    length = damage_text(&run->random, text, length);
-    int32_t refused = ask_text(run, READ, text, length, &read);
-    try_stop(run, text, length, refused == 0);
-    if (refused < 0) {
-        expect(run, ask_text(run, LIST, text, length, &listed) == read.answer, "list",
-               "another refusal than of reading");
-        return;
-    }
-    expect(run, ask_block(run, CHECK, read.bytes[0], 0, &written) == 0, "check", "a read block");
-    int32_t answer = ask_block(run, WRITE, read.bytes[0], 0, &written);
-    size_t due = fill_bounds(text, length, filled);
-    expect(run, answer >= 0 && (size_t)answer == due, "write", "another length than was read");
-    expect(run, memcmp(written.bytes[0], filled, due) == 0, "write", "another text than was read");
-    try_listing(run, read.bytes[0], text, length);
-}
 
 /* The set of a row that is not strategic, by the sets of lower rows. */
 static uint32_t plain_set(const uint8_t *block, unsigned row, const uint8_t *sets)

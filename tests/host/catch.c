@@ -65,7 +65,11 @@ struct damage fill_damaged(uint8_t *block, size_t i)
         {"bound 16", {rbatl_place_of_field(3, RBATL_FIELD_BOUND), 16}, -RBATL_E_ROW},
         {"bound unlimited", {rbatl_place_of_field(3, RBATL_FIELD_BOUND), RBATL_UNLIMITED}, 0},
         {"byte 28", {rbatl_place_of_mask(RBATL_MAX_STATES - 1), 1}, -RBATL_E_UNUSED},
-        {"last byte", {RBATL_BLOCK_BYTES - 1, 1}, -RBATL_E_UNUSED},
+        {"last byte of the rows", {RBATL_FIRST_RESOURCE_KIND - 1, 1}, -RBATL_E_UNUSED},
+        {"kind max", {rbatl_place_of_resource_kind(0), RBATL_MAX}, 0},
+        {"kind 2", {rbatl_place_of_resource_kind(0), 2}, -RBATL_E_SIZES},
+        {"kind 255", {rbatl_place_of_resource_kind(0), 255}, -RBATL_E_SIZES},
+        {"kind of no resource", {rbatl_place_of_resource_kind(1), RBATL_MAX}, -RBATL_E_UNUSED},
     };
 
     fill_catch(block);

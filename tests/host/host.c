@@ -5,7 +5,7 @@
 #include <stdio.h>
 #include <string.h>
 
-/* The text of Catch before its last line, and that line. */
+/* The text of Catch before its last line, in each edition, and that line. */
 #define FRONT \
     "job,2,1,3,1,6\n" \
     "state,0,0\n" \
@@ -18,9 +18,25 @@
     "acts,2,0,1,0\nacts,2,1,1,0\n" \
     "go,2,0,0,2\n" \
     "prop,0\nnot,0\nor,0,1\nuntil,1,5,2,0\nuntil,3,5,2,0\n"
+#define FRONT_2 \
+    "job2,2,1,3,1,6,sum\n" \
+    "state,0,0\n" \
+    "acts,0,0,2,0,2\nacts,0,1,2,0,0\n" \
+    "go,0,0,1,0,0\n" \
+    "state,1,0\n" \
+    "acts,1,0,2,0,3\nacts,1,1,1,0\n" \
+    "go,1,1,2\n" \
+    "state,2,1\n" \
+    "acts,2,0,1,0\nacts,2,1,1,0\n" \
+    "go,2,2\n" \
+    "prop,0\nnot,0\nor,0,1\nuntil,1,5,2,0\nuntil,3,5,2,0\n"
 #define LAST "until,3,4,2,0\n"
 
+/* The first lines of a smallest job of edition 2. */
+#define SMALL_2 "job2,1,1,1,1,1,sum\nstate,0,0\nacts,0,0,1,0\n"
+
 const char catch_text[] = FRONT LAST;
+const char catch_text_2[] = FRONT_2 LAST;
 
 const struct refused_text refused_texts[] = {
     {"", -RBATL_E_FORM},
@@ -39,6 +55,19 @@ const struct refused_text refused_texts[] = {
     {FRONT "until,3,256,2,0\n", -RBATL_E_FORM},
     {FRONT "until,,4,2,0\n", -RBATL_E_FORM},
     {FRONT "until,3, ,2,0\n", -RBATL_E_FORM},
+    {"job3,2,1,3,1,6,sum\n", -RBATL_E_FORM},
+    {"job2,9,1,3,1,6,min\n", -RBATL_E_SIZES},
+    {"job2,2,1,3,1,6\n", -RBATL_E_FORM},
+    {"job2,2,1,3,1,6,min\n", -RBATL_E_FORM},
+    {"job2,2,1,3,1,6,sum,sum\n", -RBATL_E_FORM},
+    {"job2,2,2,3,1,6,sum\n", -RBATL_E_FORM},
+    {SMALL_2 "go,0,1\n", -RBATL_E_NEXT},
+    {SMALL_2 "go,0,0,0\n", -RBATL_E_FORM},
+    {SMALL_2 "go,0\n", -RBATL_E_FORM},
+    {SMALL_2 "go,0,0\nnot,0\n", -RBATL_E_ROW},
+    {FRONT_2, -RBATL_E_FORM},
+    {FRONT_2 "until,3,4,2,0", -RBATL_E_FORM},
+    {FRONT_2 LAST "\n", -RBATL_E_FORM},
 };
 const size_t refused_count = sizeof refused_texts / sizeof refused_texts[0];
 
@@ -95,7 +124,7 @@ static void expect(const char *name, const uint8_t *block, size_t length, int32_
 static void check_lengths(void)
 {
     static const size_t lengths[] = {
-        0, 1, RBATL_BLOCK_BYTES - 1, RBATL_BLOCK_BYTES + 1, 2 * RBATL_BLOCK_BYTES,
+        0, 1, 2469, 2470, 2472, 2 * RBATL_BLOCK_BYTES,
     };
     static uint8_t bytes[2 * RBATL_BLOCK_BYTES];
 
@@ -144,6 +173,7 @@ static void check_read(void)
 
     fill_catch(job);
     expect_read("Catch", catch_text, length, sizeof job, 0, job);
+    expect_read("Catch in edition 2", catch_text_2, strlen(catch_text_2), sizeof job, 0, job);
     expect_read("a short block", catch_text, length, sizeof job - 1, -RBATL_E_LENGTH, NULL);
     expect_read("a long block", catch_text, length, sizeof job + 1, -RBATL_E_LENGTH, NULL);
     expect_read("no block", catch_text, length, 0, -RBATL_E_LENGTH, NULL);
@@ -185,15 +215,15 @@ static void expect_write(const char *name, const uint8_t *block, size_t length, 
 
 static void check_write(void)
 {
-    static const char inf[] = FRONT "until,3,inf,2,0\n";
+    static const char inf[] = FRONT_2 "until,3,inf,2,0\n";
     static const size_t lengths[] = {
-        0, sizeof catch_text - 1, RBATL_TEXT_BYTES - 1, RBATL_TEXT_BYTES + 1, 2 * RBATL_TEXT_BYTES,
+        0, sizeof catch_text_2 - 1, RBATL_TEXT_BYTES - 1, RBATL_TEXT_BYTES + 1, 2 * RBATL_TEXT_BYTES,
     };
     static uint8_t bytes[2 * RBATL_BLOCK_BYTES];
     const size_t size = RBATL_BLOCK_BYTES;
 
     fill_catch(bytes);
-    expect_write("Catch", bytes, size, RBATL_TEXT_BYTES, sizeof catch_text - 1, catch_text);
+    expect_write("Catch", bytes, size, RBATL_TEXT_BYTES, sizeof catch_text_2 - 1, catch_text_2);
     expect_write("a short block", bytes, size - 1, RBATL_TEXT_BYTES, -RBATL_E_LENGTH, NULL);
     expect_write("a long block", bytes, size + 1, RBATL_TEXT_BYTES, -RBATL_E_LENGTH, NULL);
     for (size_t i = 0; i < sizeof lengths / sizeof lengths[0]; i++)
@@ -214,6 +244,7 @@ int main(void)
     check_read();
     check_write();
     check_job();
+    check_kinds();
     check_label();
     check_table();
     check_states();

@@ -23,8 +23,9 @@ struct damage {
     int32_t answer;
 };
 
-/* The text of Catch. */
+/* The text of Catch, in edition 1 and in edition 2. */
 extern const char catch_text[];
+extern const char catch_text_2[];
 
 /* A text that is refused, and the answer that it must get. */
 struct refused_text {
@@ -36,7 +37,7 @@ extern const struct refused_text refused_texts[];
 extern const size_t refused_count;
 
 /* How many damages there are. Some leave a job that passes, with answer 0. */
-#define DAMAGES 18
+#define DAMAGES 22
 
 /* The block of Catch, a row in a block, and Catch with the i-th damage. */
 void fill_catch(uint8_t *block);
@@ -49,6 +50,7 @@ void count_room(const char *name, const uint8_t *room, int32_t expected);
 int all(const uint8_t *bytes, size_t length, uint8_t value);
 
 void check_job(void);
+void check_kinds(void);
 void check_label(void);
 void check_table(void);
 void check_states(void);

@@ -25,7 +25,9 @@ static void check_places(void)
     same("first next", rbatl_place_of_next(0, 0), 677);
     same("last next", rbatl_place_of_next(23, 63), 2212);
     same("first field", rbatl_place_of_field(0, 0), 2213);
-    same("last field", rbatl_place_of_field(31, 7), RBATL_BLOCK_BYTES - 1);
+    same("last field", rbatl_place_of_field(31, 7), 2468);
+    same("first kind", rbatl_place_of_resource_kind(0), 2469);
+    same("last kind", rbatl_place_of_resource_kind(1), RBATL_BLOCK_BYTES - 1);
 }
 
 static void check_structure(const uint8_t *block)
@@ -35,6 +37,7 @@ static void check_structure(const uint8_t *block)
     same("states", rbatl_job_states(block), 3);
     same("propositions", rbatl_job_propositions(block), 1);
     same("rows", rbatl_job_rows(block), 6);
+    same("kind of resource 0", rbatl_resource_kind(block, 0), RBATL_SUM);
     same("mask of state 1", rbatl_state_mask(block, 1), 0);
     same("mask of state 2", rbatl_state_mask(block, 2), 1);
     same("actions of agent 0", rbatl_action_count(block, 1, 0), 2);

@@ -72,6 +72,8 @@ void check_list(void)
     const size_t length = strlen(catch_text);
 
     expect_list("Catch", catch_text, length, right, sizeof catch_listing - 1);
+    expect_list("Catch in edition 2", catch_text_2, strlen(catch_text_2), right,
+                sizeof catch_listing - 1);
     check_lent(catch_text, length);
     check_lent("", 0);
     memcpy(longest, catch_text, length);

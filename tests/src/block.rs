@@ -1,4 +1,4 @@
-//! The block check, made from document 01 alone: the refusal number, or 0.
+//! The block check, made from documents 01 and 02 alone: the refusal number, or 0.
 
 use crate::layout::*;
 use crate::refusal;
@@ -30,6 +30,7 @@ fn bad_sizes(block: &[u8]) -> bool {
         || !(1..=MAX_STATES).contains(&sizes.states)
         || !(1..=MAX_PROPOSITIONS).contains(&sizes.propositions)
         || !(1..=MAX_ROWS).contains(&sizes.rows)
+        || (0..sizes.resources).any(|resource| block[resource_kind(resource)] > MAX)
 }
 
 fn bad_states(block: &[u8]) -> bool {
@@ -112,6 +113,7 @@ pub fn used_places(block: &[u8]) -> Vec<bool> {
     let sizes = Sizes::of(block);
     let mut used = vec![false; BLOCK_BYTES];
     used[AGENTS..=ROWS].fill(true);
+    used[resource_kind(0)..resource_kind(sizes.resources)].fill(true);
     for state in 0..sizes.states {
         use_state(block, state, &mut used);
     }

@@ -12,11 +12,12 @@ pub const BORDERS: [u8; 25] = [
 ];
 
 /// Lengths near the only right one, and far from it.
-const LENGTHS: [usize; 8] = [
+const LENGTHS: [usize; 9] = [
     0,
     1,
     mask(0),
     row(0, 0),
+    resource_kind(0),
     BLOCK_BYTES - 1,
     BLOCK_BYTES + 1,
     2 * BLOCK_BYTES,
@@ -24,20 +25,23 @@ const LENGTHS: [usize; 8] = [
 ];
 
 /// Damage for each number of the block, in Catch.
-const DAMAGES: [(u8, usize, u8); 5] = [
+const DAMAGES: [(u8, usize, u8); 7] = [
     (2, STATES, 25),
+    (2, resource_kind(0), 2),
     (3, count(0, 0), 5),
     (4, next(0, 0), 3),
     (5, row(5, KIND), 6),
     (6, mask(23), 1),
+    (6, resource_kind(1), MAX),
 ];
 
 /// Chooses a place of one sort in a job.
 type Target = fn(&mut Rng, &[u8]) -> usize;
 
-const TARGETS: [(&str, Target); 9] = [
+const TARGETS: [(&str, Target); 10] = [
     ("any place", any_place),
     ("size", size_place),
+    ("kind of a resource", resource_kind_place),
     ("mask", mask_place),
     ("count", count_place),
     ("cost", cost_place),
@@ -111,6 +115,11 @@ fn any_place(rng: &mut Rng, _: &[u8]) -> usize {
 
 fn size_place(rng: &mut Rng, _: &[u8]) -> usize {
     rng.within(AGENTS..=ROWS)
+}
+
+/// Also that of a resource that does not exist.
+fn resource_kind_place(rng: &mut Rng, _: &[u8]) -> usize {
+    resource_kind(rng.below(MAX_RESOURCES))
 }
 
 fn mask_place(rng: &mut Rng, block: &[u8]) -> usize {

@@ -2,7 +2,7 @@
 
 use crate::layout::*;
 use crate::random::Rng;
-use crate::text;
+use crate::text::{self, Edition};
 
 const SEED: u64 = 24;
 
@@ -50,7 +50,7 @@ pub fn text() -> Vec<u8> {
     for state in 0..MAX_STATES {
         fill_state(&mut rng, &mut block, state);
     }
-    let mut text = text::write_structure(&block);
+    let mut text = text::write_structure(Edition::One, &block);
     text.extend(ROWS_TEXT.as_bytes());
     text
 }

@@ -1,8 +1,14 @@
 //! Random jobs with something to play for: states that lead on to one another,
 //! costs that a bound pays for several times, and mostly strategic rows.
 
+mod long;
+mod teamwork;
+
 use crate::layout::*;
-use crate::random::{any_block, Rng};
+use crate::random::{any_block, fill_kinds, Rng};
+pub use long::{maze, ring};
+use teamwork::side_by_side;
+pub use teamwork::{teamwork, tiny_teamwork};
 
 /// What the jobs of a kind have in common.
 #[derive(Clone, Copy)]
@@ -39,15 +45,20 @@ pub fn tiny(rng: &mut Rng) -> Vec<u8> {
     block(rng, shape)
 }
 
-/// Few positions, and opponents in most rows who have to act.
-pub fn contest(rng: &mut Rng) -> Vec<u8> {
-    let sizes = Sizes {
+/// Two or three agents in few states.
+fn few_sizes(rng: &mut Rng) -> Sizes {
+    Sizes {
         agents: rng.within(2..=MAX_AGENTS),
         resources: rng.within(1..=2),
         states: rng.within(2..=6),
         propositions: 2,
         rows: rng.within(6..=8),
-    };
+    }
+}
+
+/// Few positions, and opponents in most rows who have to act.
+pub fn contest(rng: &mut Rng) -> Vec<u8> {
+    let sizes = few_sizes(rng);
     let bound = rng.within(0..=if sizes.resources == 1 { 5 } else { 2 }) as u8;
     let shape = Shape {
         sizes,
@@ -122,11 +133,19 @@ fn needed(block: &[u8], i: usize) -> u32 {
     rows.fold(named, |word, j| word | needed(block, j))
 }
 
+/// Few positions, so that all can be tried: a contest, or teamwork.
+pub fn few(rng: &mut Rng) -> Vec<u8> {
+    match rng.one_in(3) {
+        true => teamwork(rng),
+        false => contest(rng),
+    }
+}
+
 /// A job with something to play for, or any.
 pub fn mixed(rng: &mut Rng) -> Vec<u8> {
-    match rng.below(4) {
+    match rng.below(5) {
         0 => any_block(rng),
-        1 => contest(rng),
+        1..=2 => few(rng),
         _ => small(rng),
     }
 }
@@ -176,81 +195,6 @@ fn driver(rng: &mut Rng, agents: usize) -> u8 {
     }
 }
 
-/// A ring of full size that the coalition can go round once for each unit of
-/// its stock, the longest play that there can be for always. Every step is
-/// forced but one: the gate, the last state on the way, leads to the end, where
-/// proposition 1 holds and proposition 0 does not, unless an agent of the
-/// coalition pays. `rising` says whether the states come in rising order.
-pub fn ring(kind: u8, coalition: u8, rising: bool) -> Vec<u8> {
-    let mut block = full_frame(kind, coalition);
-    let (gate, end) = (MAX_STATES - 2, MAX_STATES - 1);
-    let state = |place: usize| if rising { place } else { end - place };
-    for place in 0..MAX_STATES {
-        block[mask(state(place))] = if place == end { 2 } else { 1 };
-        fill_paying_actions(&mut block, state(place));
-        for joint in 0..JOINTS {
-            let pays = |agent| coalition >> agent & 1 == 1 && actions(joint)[agent] != 0;
-            let target = match (0..MAX_AGENTS).any(pays) {
-                true if place == gate => 0,
-                _ => end.min(place + 1),
-            };
-            block[next(state(place), joint)] = state(target) as u8;
-        }
-    }
-    block
-}
-
-/// A random job of full size. A joint action leads at most `reach` states on,
-/// or, with reach 0, anywhere. Proposition 0 is common, and 1 is rare. The
-/// coalition drives, but not in always, which it would win at once.
-pub fn maze(rng: &mut Rng, kind: u8, coalition: u8, reach: usize) -> Vec<u8> {
-    let mut block = full_frame(kind, coalition);
-    let shape = Shape {
-        sizes: Sizes::of(&block),
-        actions: MAX_ACTIONS,
-        cost: 2,
-        bound: MAX_BOUND,
-        fixed: true,
-        driver: if kind == ALWAYS { 0 } else { coalition },
-    };
-    for state in 0..MAX_STATES {
-        fill_actions(rng, &mut block, shape, state);
-        fill_next(rng, &mut block, shape, state, reach);
-        block[mask(state)] = u8::from(!rng.one_in(12)) + 2 * u8::from(rng.one_in(12));
-    }
-    block
-}
-
-/// The rows of a job of full size: propositions 0 and 1, and a row of the kind
-/// over them with bounds 15 and 15.
-fn full_frame(kind: u8, coalition: u8) -> Vec<u8> {
-    let mut block = vec![0; BLOCK_BYTES];
-    let rows = 3;
-    let sizes = Sizes {
-        rows,
-        ..Sizes::FULL
-    };
-    sizes.store(&mut block);
-    block[row(1, LEFT)] = 1;
-    block[row(2, KIND)] = kind;
-    block[row(2, RIGHT)] = u8::from(kind == UNTIL);
-    block[row(2, COALITION)] = coalition;
-    block[row(2, BOUND)..row(2, PADDING)].fill(MAX_BOUND);
-    block
-}
-
-/// Actions 1, 2 and 3 take one unit of the first, the second or both resources.
-fn fill_paying_actions(block: &mut [u8], state: usize) {
-    for agent in 0..MAX_AGENTS {
-        block[count(state, agent)] = MAX_ACTIONS as u8;
-        for action in 1..MAX_ACTIONS {
-            for resource in 0..MAX_RESOURCES {
-                block[cost(state, agent, action, resource)] = (action >> resource & 1) as u8;
-            }
-        }
-    }
-}
-
 /// Rows 0 to 3 are a rare proposition, a common one, not the rare one, and
 /// true.
 fn block(rng: &mut Rng, shape: Shape) -> Vec<u8> {
@@ -262,6 +206,9 @@ fn block(rng: &mut Rng, shape: Shape) -> Vec<u8> {
         fill_next(rng, &mut block, shape, state, reach);
         block[mask(state)] = propositions(rng, shape.sizes.propositions);
     }
+    if shape.driver.count_ones() > 1 && rng.one_in(2) {
+        side_by_side(rng, &mut block, shape);
+    }
     block[row(1, LEFT)] = 1;
     block[row(2, KIND)] = NOT;
     block[row(3, KIND)] = OR;
@@ -269,6 +216,7 @@ fn block(rng: &mut Rng, shape: Shape) -> Vec<u8> {
     for i in 4..shape.sizes.rows {
         fill_row(rng, &mut block, shape, i);
     }
+    fill_kinds(rng, &mut block);
     block
 }
 

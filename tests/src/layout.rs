@@ -1,7 +1,10 @@
-//! Where each byte of a block stands (document 01, "The job"). No other file
-//! writes an offset, but tests/jobs.rs: those of Catch, read off the document.
+//! Where each byte of a block stands (document 01, "The job"; document 02, R-3).
+//! No other file writes an offset, but tests/jobs.rs: those of Catch, read off the
+//! documents.
 
-pub const BLOCK_BYTES: usize = 2469;
+pub const BLOCK_BYTES: usize = 2471;
+/// Its length before there were kinds of resources, now a wrong one.
+pub const OLD_BLOCK_BYTES: usize = 2469;
 
 pub const MAX_AGENTS: usize = 3;
 pub const MAX_RESOURCES: usize = 2;
@@ -21,6 +24,10 @@ pub const RESOURCES: usize = 1;
 pub const STATES: usize = 2;
 pub const PROPOSITIONS: usize = 3;
 pub const ROWS: usize = 4;
+
+/// Kinds of a resource: what a move of several agents costs of it.
+pub const SUM: u8 = 0;
+pub const MAX: u8 = 1;
 
 /// Kinds of a row.
 pub const PROP: u8 = 0;
@@ -58,6 +65,11 @@ pub const fn next(state: usize, joint: usize) -> usize {
 
 pub const fn row(row: usize, field: usize) -> usize {
     2213 + 8 * row + field
+}
+
+/// The kind of a resource; the two are the block's last bytes.
+pub const fn resource_kind(resource: usize) -> usize {
+    2469 + resource
 }
 
 /// N, R, M, P and F.

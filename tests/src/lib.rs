@@ -1,4 +1,4 @@
-//! A second implementation, made from documents 01 and 003 alone, to compare
+//! A second implementation, made from documents 01, 02 and 003 alone, to compare
 //! the library with, and the means to make many jobs and to damage them.
 
 pub mod agree;

@@ -4,7 +4,7 @@
 use crate::checker::search;
 use crate::checker::structure::{contains, Structure};
 use crate::model::{MOVES_BYTES, RANKS_BYTES};
-use crate::random::{cases, Rng};
+use crate::random::{any_text, cases, Rng};
 use crate::text::TEXT_BYTES;
 use crate::{games, jobs, refusal, text, text_damage};
 
@@ -71,7 +71,9 @@ pub fn try_job_files(agree: impl Fn(&[u8], &str) -> bool) {
 /// The same on random jobs.
 pub fn try_random_jobs(seed: u64, agree: impl Fn(&[u8], &str) -> bool) {
     for case in 0..cases(500) {
-        let text = text::write(&games::mixed(&mut Rng::for_case(seed, case)));
+        let mut rng = Rng::for_case(seed, case);
+        let mut job = games::mixed(&mut rng);
+        let text = any_text(&mut rng, &mut job);
         assert!(agree(&text, &format!("case {case}")));
     }
 }
@@ -81,7 +83,8 @@ pub fn try_damaged_texts(seed: u64, agree: impl Fn(&[u8], &str) -> bool) {
     let mut refused = 0;
     for case in 0..cases(500) {
         let mut rng = Rng::for_case(seed, case);
-        let mut text = text::write(&games::small(&mut rng));
+        let mut job = games::small(&mut rng);
+        let mut text = any_text(&mut rng, &mut job);
         let how = text_damage::damage(&mut rng, &mut text);
         refused += u64::from(!agree(&text, &format!("case {case}, {how}")));
     }

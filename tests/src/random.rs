@@ -1,6 +1,7 @@
 //! Random jobs from a fixed seed.
 
 use crate::layout::*;
+use crate::text::{self, Edition};
 use std::ops::RangeInclusive;
 
 /// splitmix64: the same numbers on every machine.
@@ -97,7 +98,25 @@ pub fn block(rng: &mut Rng, sizes: Sizes) -> Vec<u8> {
     for i in 0..sizes.rows {
         fill_row(rng, &mut block, i);
     }
+    fill_kinds(rng, &mut block);
     block
+}
+
+/// Each resource of either kind.
+pub fn fill_kinds(rng: &mut Rng, block: &mut [u8]) {
+    for resource in 0..Sizes::of(block).resources {
+        block[resource_kind(resource)] = rng.pick(&[SUM, MAX]);
+    }
+}
+
+/// The text of a job in either edition. In edition 1 every resource is of kind
+/// sum, and the job becomes such a one.
+pub fn any_text(rng: &mut Rng, block: &mut [u8]) -> Vec<u8> {
+    if rng.one_in(2) {
+        return text::write(block);
+    }
+    block[resource_kind(0)..BLOCK_BYTES].fill(SUM);
+    text::write_as(Edition::One, block)
 }
 
 /// Mask, actions and next states of one state.

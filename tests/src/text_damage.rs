@@ -1,9 +1,11 @@
-//! Texts that differ from the text of a job in some bytes, fields or lines.
+//! Texts that differ from the text of a job, of either edition, in some bytes,
+//! fields or lines.
 
 use crate::random::Rng;
+use crate::text::{Edition, EDITIONS, KIND_WORDS};
 
 /// The bytes of texts, and some that stand next to them or look like them.
-const BYTES: &[u8] = b"0123456789,\ninfjobstaecgprlwuyd -+.;/:\r\t\0IN\x7f\x80\xff";
+const BYTES: &[u8] = b"0123456789,\ninfjobstaecgprlwuydmx -+.;/:\r\t\0IN\x7f\x80\xff";
 
 /// Numbers at both sides of every border in document 01, well formed.
 const NUMBERS: [&str; 26] = [
@@ -19,7 +21,16 @@ pub const NO_NUMBERS: [&str; 38] = [
     "1\r", "\r", "1\0", "/", ":", "x", "1x", "0x1", "1.0", "1e0", "Inf", "in", "infi",
 ];
 
-const WORDS: [&str; 6] = ["inf", "until", "or", "not", "go", "acts"];
+const WORDS: [&str; 10] = [
+    "inf", "until", "or", "not", "go", "acts", "sum", "max", "job", "job2",
+];
+
+/// Words that are no kind of a resource.
+#[rustfmt::skip]
+pub const NO_KINDS: [&str; 20] = [
+    "", " ", "Sum", "SUM", "Max", "maX", "sum ", " max", "su", "ax", "summ", "max0", "min", "add",
+    "inf", "0", "1", "sum\r", "max\0", "sum;max",
+];
 
 /// A sort of places, by the byte there.
 type Places = (&'static str, fn(u8) -> bool);
@@ -51,7 +62,7 @@ const EDITS: [Edit; 5] = [
 
 /// Damages the text of a job, or leaves it whole, and says how.
 pub fn damage(rng: &mut Rng, text: &mut Vec<u8>) -> String {
-    match rng.below(20) {
+    match rng.below(21) {
         0 => "whole".to_string(),
         1 => cut(rng, text),
         2..=5 => edit(rng, text),
@@ -60,7 +71,8 @@ pub fn damage(rng: &mut Rng, text: &mut Vec<u8>) -> String {
             edits.join(", ")
         }
         7..=15 => respell(rng, text),
-        16 => {
+        16 => exchange(rng, text),
+        17 => {
             let fields: Vec<String> = (0..2).map(|_| respell(rng, text)).collect();
             fields.join(", ")
         }
@@ -137,8 +149,33 @@ fn edit(rng: &mut Rng, text: &mut Vec<u8>) -> String {
     format!("{sort} {place} {name}")
 }
 
-/// The words before the rows.
-const STRUCTURE: [&[u8]; 4] = [b"job,", b"state,", b"acts,", b"go,"];
+/// Gives a text the first word of the other edition, and perhaps the rest of the
+/// line; the other lines stay.
+fn exchange(rng: &mut Rng, text: &mut Vec<u8>) -> String {
+    let Some(edition) = Edition::of(text) else {
+        return "no edition".to_string();
+    };
+    let other = EDITIONS[usize::from(edition == Edition::One)].word();
+    text.splice(..edition.word().len(), other.bytes());
+    if !rng.one_in(2) {
+        return format!("opens with {other}");
+    }
+    let line = lines(text)[0];
+    let fields: Vec<&[u8]> = line[..line.len() - 1].split(|&byte| byte == b',').collect();
+    let end = fields[..fields.len().min(6)].join(&b',').len();
+    let kinds = match edition {
+        Edition::One => rng.within(0..=3),
+        Edition::Two => 0,
+    };
+    let kinds: String = (0..kinds)
+        .map(|_| format!(",{}", rng.pick(&KIND_WORDS)))
+        .collect();
+    text.splice(end..line.len() - 1, kinds.into_bytes());
+    format!("the line of {other}")
+}
+
+/// The words before the rows, of either edition.
+const STRUCTURE: [&[u8]; 4] = [b"job", b"state,", b"acts,", b"go,"];
 
 /// Where a line starts and ends. Its sort is chosen first, else most would be
 /// `go` lines; the last sort is that of the rows.
@@ -186,6 +223,10 @@ fn respell(rng: &mut Rng, text: &mut Vec<u8>) -> String {
 
 fn spelling(rng: &mut Rng, old: &str) -> String {
     match (rng.below(12), old.parse::<u16>()) {
+        (0..=5, Err(_)) if KIND_WORDS.contains(&old) => match rng.one_in(2) {
+            true => rng.pick(&KIND_WORDS).to_string(),
+            false => rng.pick(&NO_KINDS).to_string(),
+        },
         (0, _) => rng.pick(&NO_NUMBERS).to_string(),
         (1, _) => rng.pick(&WORDS).to_string(),
         (2, _) => format!("0{old}"),

@@ -1,7 +1,8 @@
 //! The files of jobs/ are what they are said to be, and pass.
 
 use rbatl_tests::layout::*;
-use rbatl_tests::{block, ffi, full, jobs, text};
+use rbatl_tests::text::{self, Edition};
+use rbatl_tests::{block, ffi, full, jobs};
 
 /// The bytes of Catch that are not 0, read off document 01 by hand.
 #[rustfmt::skip]
@@ -21,7 +22,15 @@ const CATCH: [(usize, u8); 33] = [
 #[test]
 fn every_job_passes() {
     let names = jobs::names();
-    assert_eq!(names, ["catch.job", "first.job", "full.job", "sensor.job"]);
+    let expected = [
+        "catch.job",
+        "first.job",
+        "full.job",
+        "minutes-sum.job",
+        "minutes.job",
+        "sensor.job",
+    ];
+    assert_eq!(names, expected);
     for name in names {
         let block = jobs::load(&name);
         assert_eq!(block::check(&block), 0, "{name}");
@@ -30,10 +39,14 @@ fn every_job_passes() {
 }
 
 #[test]
-fn every_job_is_written_back() {
+fn every_job_is_written_back_in_its_edition() {
     for name in jobs::names() {
+        let text = jobs::text(&name);
+        let edition = Edition::of(&text).expect("a first word");
+        let second = name.starts_with("minutes");
+        assert_eq!(edition == Edition::Two, second, "{name}");
         assert!(
-            text::write(&jobs::load(&name)) == jobs::text(&name),
+            text::write_as(edition, &jobs::load(&name)) == text,
             "{name}"
         );
     }
@@ -54,6 +67,16 @@ fn catch_with_byte_28_set_is_refused() {
     block[28] = 1;
     assert_eq!(block::check(&block), 6);
     assert_eq!(ffi::check(&block), -6);
+}
+
+/// The two jobs differ in the kind of resource 1 alone.
+#[test]
+fn minutes_have_their_kinds() {
+    let (job, mut other) = (jobs::load("minutes.job"), jobs::load("minutes-sum.job"));
+    assert_eq!(job[2469..], [0, 1]);
+    assert_eq!(other[2469..], [0, 0]);
+    other[2470] = 1;
+    assert!(job == other);
 }
 
 #[test]

@@ -1,5 +1,7 @@
 //! Document 003, sections 2.1 and 2.2: a block that passes, decoded into a
-//! structure (definition 1), a coalition's moves (definition 2) and formulas.
+//! structure (definition 1), a coalition's moves (definition 2) and formulas. Of
+//! a resource of kind max a move takes the largest of its agents' costs, and not
+//! their sum (document 02, R-3).
 
 use crate::layout::{self, Sizes, MAX_RESOURCES};
 use std::collections::BTreeMap;
@@ -18,6 +20,7 @@ pub struct Structure {
     pub states: usize,
     pub formulas: Vec<Formula>,
     propositions: Vec<u8>,
+    kinds: [u8; MAX_RESOURCES],
     transitions: Vec<Vec<Transition>>,
 }
 
@@ -68,6 +71,7 @@ impl Structure {
             states: sizes.states,
             formulas: (0..sizes.rows).map(|row| formula(block, row)).collect(),
             propositions: states.clone().map(|s| block[layout::mask(s)]).collect(),
+            kinds: std::array::from_fn(|j| block[layout::resource_kind(j)]),
             transitions: states.map(|s| transitions(block, s)).collect(),
         }
     }
@@ -90,7 +94,9 @@ impl Structure {
     /// D_A(q) for each state q: the coalition's moves in rising number.
     pub fn moves(&self, coalition: u8) -> Vec<Vec<Move>> {
         let states = self.transitions.iter();
-        states.map(|all| moves(all, coalition)).collect()
+        states
+            .map(|all| moves(all, coalition, self.kinds))
+            .collect()
     }
 }
 
@@ -117,7 +123,7 @@ fn transitions(block: &[u8], state: usize) -> Vec<Transition> {
 }
 
 /// Joint actions come in rising number, and so do the replies to one move.
-fn moves(transitions: &[Transition], coalition: u8) -> Vec<Move> {
+fn moves(transitions: &[Transition], coalition: u8, kinds: [u8; MAX_RESOURCES]) -> Vec<Move> {
     let mut moves: BTreeMap<u8, Move> = BTreeMap::new();
     for transition in transitions {
         let (mut number, mut reply, mut cost) = (0, 0, [0; MAX_RESOURCES]);
@@ -125,7 +131,7 @@ fn moves(transitions: &[Transition], coalition: u8) -> Vec<Move> {
             let digit = (action << (2 * agent)) as u8;
             if coalition >> agent & 1 == 1 {
                 number += digit;
-                cost = sum(cost, transition.costs[agent]);
+                cost = together(kinds, cost, transition.costs[agent]);
             } else {
                 reply += digit;
             }
@@ -171,6 +177,15 @@ pub fn contains(set: Set, state: usize) -> bool {
     set >> state & 1 == 1
 }
 
+/// What two agents' actions cost in one move, by the kinds of the resources.
+fn together(kinds: [u8; MAX_RESOURCES], a: Amounts, b: Amounts) -> Amounts {
+    std::array::from_fn(|resource| match kinds[resource] {
+        layout::MAX => a[resource].max(b[resource]),
+        _ => a[resource] + b[resource],
+    })
+}
+
+/// What successive moves cost.
 pub fn sum(a: Amounts, b: Amounts) -> Amounts {
     std::array::from_fn(|resource| a[resource] + b[resource])
 }

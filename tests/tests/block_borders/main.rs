@@ -1,5 +1,7 @@
-//! Each clause of numbers 1 to 6 of document 01, on both sides of its border.
+//! Each clause of numbers 1 to 6 of documents 01 and 02, on both sides of its
+//! border.
 
+mod kinds;
 mod next;
 mod order;
 mod rows;

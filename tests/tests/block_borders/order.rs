@@ -32,6 +32,14 @@ fn falling() -> Damage {
     ]
 }
 
+/// Number 2 by a kind, which stands behind all else, and 6 by another.
+fn with_kinds() -> Damage {
+    let mut damage = rising();
+    damage[0] = (2, (resource_kind(0), 2));
+    damage[4] = (6, (resource_kind(1), MAX));
+    damage
+}
+
 /// Every choice of the five changes gives the lowest number chosen.
 fn every_choice(name: &str, damage: Damage) {
     let mut cases = Cases::default();
@@ -51,6 +59,7 @@ fn every_choice(name: &str, damage: Damage) {
 fn lowest_number_first() {
     every_choice("rising", rising());
     every_choice("falling", falling());
+    every_choice("with kinds", with_kinds());
 }
 
 #[test]

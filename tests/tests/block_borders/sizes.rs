@@ -6,7 +6,7 @@ use super::*;
 fn length() {
     let mut cases = Cases::default();
     let right = BLOCK_BYTES;
-    let near = [(right - 1, 1), (right, 0), (right + 1, 1)];
+    let near = [(OLD_BLOCK_BYTES, 1), (2470, 1), (2471, 0), (2472, 1)];
     for (length, number) in near.into_iter().chain([(0, 1), (1, 1), (2 * right, 1)]) {
         let mut block = smallest(1, 1, 1, 1, 1);
         block.resize(length, 0);

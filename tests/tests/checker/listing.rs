@@ -2,7 +2,7 @@
 
 use rbatl_tests::layout::Sizes;
 use rbatl_tests::listing::listing;
-use rbatl_tests::random::Rng;
+use rbatl_tests::random::{any_text, Rng};
 use rbatl_tests::{games, jobs, text, text_damage};
 
 fn printed(text: &[u8]) -> String {
@@ -50,7 +50,8 @@ fn damaged_texts_have_a_listing_or_a_number() {
     let (mut listed, mut refused) = (0, 0);
     for case in 0..2000 {
         let mut rng = Rng::for_case(31, case);
-        let mut text = text::write(&games::small(&mut rng));
+        let mut job = games::small(&mut rng);
+        let mut text = any_text(&mut rng, &mut job);
         let how = text_damage::damage(&mut rng, &mut text);
         let printed = printed(&text);
         match text::read(&text) {

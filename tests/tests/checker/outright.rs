@@ -5,7 +5,7 @@ use rbatl_tests::checker::splits;
 use rbatl_tests::checker::structure::{Amounts, INFINITE};
 use rbatl_tests::checker::verdict::{self, Verdict};
 use rbatl_tests::checker::NEVER;
-use rbatl_tests::layout::{row, ROWS};
+use rbatl_tests::layout::{resource_kind, row, Sizes, MAX, ROWS, SUM};
 use rbatl_tests::random::{cases, Rng};
 use rbatl_tests::{block, games, jobs, text};
 
@@ -24,6 +24,8 @@ struct Seen {
     replies: usize,
     /// The largest finite rank.
     longest: u16,
+    /// Jobs that are others with a resource of the other kind.
+    by_kind: u64,
 }
 
 fn compare(job: &[u8], limit: usize, seen: &mut Seen, what: &str) {
@@ -33,6 +35,7 @@ fn compare(job: &[u8], limit: usize, seen: &mut Seen, what: &str) {
         return;
     };
     seen.jobs += 1;
+    seen.by_kind += u64::from(depends_on_kinds(job, &solved));
     let sets: Vec<Set> = verdicts.iter().map(|verdict| verdict.set).collect();
     assert_eq!(sets, solved.sets, "{what}: sets");
     assert_eq!(splits::label(&solved.structure), sets, "{what}: splits");
@@ -46,6 +49,17 @@ fn compare(job: &[u8], limit: usize, seen: &mut Seen, what: &str) {
             seen.rules += u64::from(wins == Some(true));
         }
     }
+}
+
+/// Whether a table differs in the job with a resource of the other kind.
+fn depends_on_kinds(job: &[u8], solved: &Solved) -> bool {
+    let mut other = job.to_vec();
+    (0..Sizes::of(job).resources).any(|resource| {
+        other[resource_kind(resource)] ^= SUM ^ MAX;
+        let other = Solved::of(&other);
+        let ranks = |solved: &Solved, row| solved.table(row).map(|table| table.ranks);
+        (0..solved.sets.len()).any(|row| ranks(solved, row) != ranks(&other, row))
+    })
 }
 
 /// The number of a position; the stock of an unlimited resource is 0.
@@ -93,6 +107,20 @@ fn all_three_agree_on_tiny_jobs() {
     assert!(seen.jobs * 2 > cases, "only {} of {cases} jobs", seen.jobs);
     assert!(seen.rules > seen.jobs, "only {} rules", seen.rules);
     assert!(seen.longest >= 3);
+}
+
+/// Where agents have to act together, the kind of a resource often decides.
+#[test]
+fn all_three_agree_on_tiny_teamwork() {
+    let cases = cases(CASES) / 2;
+    let mut seen = Seen::default();
+    for case in 0..cases {
+        let job = games::tiny_teamwork(&mut Rng::for_case(SEED ^ 1, case));
+        compare(&job, LIMIT, &mut seen, &format!("case {case}"));
+    }
+    println!("{} of {} jobs depend on kinds", seen.by_kind, seen.jobs);
+    assert!(seen.jobs * 2 > cases, "only {} of {cases} jobs", seen.jobs);
+    assert!(seen.by_kind * 20 > seen.jobs, "only {}", seen.by_kind);
 }
 
 /// The rows of Catch whose coalition has one free move; with more of them there

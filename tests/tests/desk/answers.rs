@@ -2,7 +2,9 @@
 //! and for the sensor network.
 
 use super::{changed, desk, Says};
-use rbatl_tests::{jobs, text};
+use rbatl_tests::jobs;
+use rbatl_tests::layout::{resource_kind, MAX, SUM};
+use rbatl_tests::text::{self, EDITIONS};
 
 fn catch(line: &str) -> String {
     desk(line, &jobs::text("catch.job")).answer()
@@ -14,16 +16,54 @@ fn sensor(line: &str) -> String {
 
 #[test]
 fn check_says_the_sizes() {
-    let sizes = "passes: 2 agents, 1 resource, 3 states, 1 proposition, 6 rows\n";
+    let sizes = "passes: 2 agents, 1 resource (sum), 3 states, 1 proposition, 6 rows\n";
     assert_eq!(catch("check"), sizes);
-    let sizes = "passes: 2 agents, 2 resources, 8 states, 1 proposition, 8 rows\n";
+    let sizes = "passes: 2 agents, 2 resources (sum, sum), 8 states, 1 proposition, 8 rows\n";
     assert_eq!(sensor("check"), sizes);
     let full = desk("check", &jobs::text("full.job")).answer();
-    let sizes = "passes: 3 agents, 2 resources, 24 states, 8 propositions, 32 rows\n";
+    let sizes = "passes: 3 agents, 2 resources (sum, sum), 24 states, 8 propositions, 32 rows\n";
     assert_eq!(full, sizes);
-    let smallest = text::write(&jobs::smallest(1, 1, 1, 1, 1));
-    let sizes = "passes: 1 agent, 1 resource, 1 state, 1 proposition, 1 row\n";
-    assert_eq!(desk("check", &smallest).answer(), sizes);
+    for edition in EDITIONS {
+        let smallest = text::write_as(edition, &jobs::smallest(1, 1, 1, 1, 1));
+        let sizes = "passes: 1 agent, 1 resource (sum), 1 state, 1 proposition, 1 row\n";
+        assert_eq!(desk("check", &smallest).answer(), sizes);
+    }
+}
+
+/// Every choice of kinds, of one resource and of two.
+#[test]
+fn check_says_the_kinds() {
+    for (resources, kinds, words) in [
+        (1, [SUM, 0], "1 resource (sum)"),
+        (1, [MAX, 0], "1 resource (max)"),
+        (2, [SUM, SUM], "2 resources (sum, sum)"),
+        (2, [SUM, MAX], "2 resources (sum, max)"),
+        (2, [MAX, SUM], "2 resources (max, sum)"),
+        (2, [MAX, MAX], "2 resources (max, max)"),
+    ] {
+        let mut job = jobs::smallest(1, resources, 1, 1, 1);
+        job[resource_kind(0)..].copy_from_slice(&kinds);
+        let said = desk("check", &text::write(&job)).answer();
+        let due = format!("passes: 1 agent, {words}, 1 state, 1 proposition, 1 row\n");
+        assert_eq!(said, due);
+    }
+}
+
+/// The two jobs whose minutes are of different kinds.
+#[test]
+fn minutes_side_by_side() {
+    let minutes = |name: &str, line: &str| desk(line, &jobs::text(name));
+    let table = minutes("minutes.job", "table 3").answer();
+    let head = "row 3: coalition 0, 1 within 5, 5: row 2 until row 0\nstates: 0 3 4\n";
+    assert!(table.starts_with(head), "{table}");
+    let table = minutes("minutes-sum.job", "table 3").answer();
+    let head = "row 3: coalition 0, 1 within 5, 5: row 2 until row 0\nstates: 3 4\n";
+    assert!(table.starts_with(head), "{table}");
+    let played = minutes("minutes.job", "move 3 0 5 5").answer();
+    assert_eq!(played, "move 5: agent 0 action 1, agent 1 action 1\n");
+    assert!(minutes("minutes-sum.job", "move 3 0 5 5").refused(10));
+    let played = minutes("minutes-sum.job", "move 4 0 5 8").answer();
+    assert_eq!(played, "move 5: agent 0 action 1, agent 1 action 1\n");
 }
 
 #[test]

@@ -28,7 +28,9 @@ fn catch_has_its_drawing() {
     let printed = desk("dot 4", &jobs::text("catch.job")).answer();
     assert!(printed.starts_with("digraph row_4 {\n"), "{printed}");
     assert!(
-        printed.contains("label=\"row 4: coalition 0, 1 within 5: row 2 until row 0\\n"),
+        printed.contains(
+            "label=\"row 4: coalition 0, 1 within 5: row 2 until row 0\\nresources: sum\\n"
+        ),
         "{printed}"
     );
     assert!(printed.ends_with(CATCH_4), "{printed}");
@@ -38,7 +40,7 @@ fn catch_has_its_drawing() {
 #[test]
 fn a_proposition_has_its_states_alone() {
     let printed = desk("dot 0", &jobs::text("catch.job")).answer();
-    assert!(printed.contains("label=\"row 0: proposition 0\\n"));
+    assert!(printed.contains("label=\"row 0: proposition 0\\nresources: sum\\n"));
     assert!(printed.contains("  s0 [label=\"state 0\"];\n"));
     assert!(printed.contains("  s2 [label=\"state 2\\np0\", fillcolor="));
     assert!(!printed.contains("penwidth") && !printed.contains("move"));
@@ -49,6 +51,24 @@ fn sensor_has_costs_of_two_resources() {
     let printed = desk("dot 3", &jobs::text("sensor.job")).answer();
     let first = "  s0 [label=\"state 0\\nmove (1,0), cost 2 and 0\\nrank 3\", fillcolor=";
     assert!(printed.contains(first), "{printed}");
+}
+
+/// The title tells the kinds, and a move's cost goes by them.
+#[test]
+fn minutes_have_their_kinds() {
+    let (first, second) = (
+        "row 3: coalition 0, 1 within 5, 5: row 2 until row 0",
+        "filled: ",
+    );
+    let max = desk("dot 3", &jobs::text("minutes.job")).answer();
+    let title = format!("label=\"{first}\\nresources: sum, max\\n{second}");
+    assert!(max.contains(&title), "{max}");
+    assert!(max.contains("move (1,1,*), cost 4 and 3\\n"), "{max}");
+    let sum = desk("dot 4", &jobs::text("minutes-sum.job")).answer();
+    assert!(sum.contains("\\nresources: sum, sum\\n"), "{sum}");
+    assert!(sum.contains("move (1,1,*), cost 4 and 6\\n"), "{sum}");
+    let plain = desk("dot 0", &jobs::text("minutes.job")).answer();
+    assert!(plain.contains("label=\"row 0: proposition 0\\nresources: sum, max\\n"));
 }
 
 /// An edge as it is drawn.
@@ -152,6 +172,23 @@ impl Drawn<'_> {
         })
     }
 
+    /// What a move takes of each resource, by its kind, as it is drawn.
+    fn cost(&self, state: usize, number: u8) -> String {
+        let agents = 0..Sizes::of(self.block).agents;
+        let costs = (0..Sizes::of(self.block).resources).map(|resource| {
+            let action = |agent| actions(number.into())[agent];
+            let costs = agents
+                .clone()
+                .map(|agent| self.block[cost(state, agent, action(agent), resource)]);
+            match self.block[resource_kind(resource)] {
+                MAX => costs.max().unwrap_or(0),
+                _ => costs.sum(),
+            }
+        });
+        let costs: Vec<String> = costs.map(|cost| cost.to_string()).collect();
+        costs.join(" and ")
+    }
+
     /// Whether the coalition's move can lead from the state to the target.
     fn is_bold(&self, state: usize, target: usize) -> bool {
         let coalition = self.block[row(self.row, COALITION)];
@@ -176,6 +213,13 @@ impl Drawn<'_> {
             assert_eq!(filled, contains(self.set, state), "{what}: {node}");
             let moves = node.contains("\\nmove ");
             assert_eq!(moves, self.moves[state].is_some(), "{what}: {node}");
+            let cost = self.moves[state].map(|number| self.cost(state, number));
+            let told = |cost: String| {
+                let (_, rest) = node.split_once(", cost ").expect("a cost");
+                rest.starts_with(&format!("{cost}\\n")) || rest.starts_with(&format!("{cost}\""))
+            };
+            let told = cost.is_none_or(told);
+            assert!(told, "{what}: {node}");
             let leads = |joint| usize::from(self.block[next(state, joint)]);
             let targets = joint_actions(self.block, state).map(leads);
             let targets: BTreeSet<usize> = targets.collect();
@@ -194,9 +238,10 @@ impl Drawn<'_> {
 fn drawings_of_random_jobs() {
     for case in 0..cases(120) {
         let mut rng = Rng::for_case(91, case);
-        let block = match rng.one_in(6) {
-            true => any_block(&mut rng),
-            false => games::small(&mut rng),
+        let block = match rng.below(6) {
+            0 => any_block(&mut rng),
+            1..=2 => games::teamwork(&mut rng),
+            _ => games::small(&mut rng),
         };
         let row = rng.below(Sizes::of(&block).rows);
         Drawn::of(&block, row).check(&format!("case {case}, row {row}"));

@@ -4,7 +4,7 @@ use super::{desk, Says, LOST, OUTSIDE};
 use rbatl_tests::layout::*;
 use rbatl_tests::listing::{listing, try_damaged_texts, try_job_files, try_random_jobs};
 use rbatl_tests::model::{At, Model, ROOM_BYTES};
-use rbatl_tests::random::{cases, Rng};
+use rbatl_tests::random::{any_text, cases, Rng};
 use rbatl_tests::{games, text};
 
 const SEED: u64 = 57;
@@ -80,8 +80,9 @@ fn tables_of_random_jobs() {
     let mut compared = 0;
     for case in 0..cases(100) {
         let mut rng = Rng::for_case(SEED + 2, case);
-        let block = games::small(&mut rng);
-        let (model, text) = (Model::of(&block), text::write(&block));
+        let mut block = games::mixed(&mut rng);
+        let text = any_text(&mut rng, &mut block);
+        let model = Model::of(&block);
         for row in model.rows() {
             let printed = desk(&format!("table {row}"), &text).answer();
             let found: Vec<&str> = printed.lines().skip(2).collect();
@@ -154,7 +155,7 @@ fn moves_and_replies_of_random_jobs() {
     let mut answered = [0, 0];
     for case in 0..cases(150) {
         let mut rng = Rng::for_case(SEED + 3, case);
-        let block = games::contest(&mut rng);
+        let block = games::few(&mut rng);
         let model = Model::of(&block);
         for _ in 0..3 {
             let (at, mv) = any_question(&mut rng, &model);
@@ -185,7 +186,7 @@ fn sheets_of_random_jobs() {
     let (mut room, mut seen) = (vec![0; ROOM_BYTES], [0; 3]);
     for case in 0..cases(150) {
         let mut rng = Rng::for_case(SEED + 4, case);
-        let block = games::contest(&mut rng);
+        let block = games::few(&mut rng);
         let model = Model::of(&block);
         for row in model.rows() {
             let (mut line, mut due) = (format!("sheet {row}"), String::new());

@@ -56,6 +56,23 @@ fn sizes() {
     }
 }
 
+/// The kind words of edition 2, and its `go` line.
+#[test]
+fn edition_2() {
+    let job = String::from_utf8(jobs::text("minutes.job")).unwrap();
+    let with = |old: &str, new: &str| job.replacen(old, new, 1).into_bytes();
+    assert!(passes(&with("sum,max", "max,sum")));
+    all_refuse(&with("sum,max", "sum,min"), 7);
+    all_refuse(&with("sum,max", "sum"), 7);
+    all_refuse(&with("sum,max", "sum,max,sum"), 7);
+    all_refuse(&with("job2,3,", "job2,9,"), 2);
+    all_refuse(&with("job2,", "job3,"), 7);
+    assert!(passes(&with("go,0,0,1,2,3", "go,0,0,1,2,4")));
+    all_refuse(&with("go,0,0,1,2,3", "go,0,0,1,2,5"), 4);
+    all_refuse(&with("go,0,0,1,2,3", "go,0,0,1,2"), 7);
+    all_refuse(&with("go,0,0,1,2,3", "go,0,0,1,2,3,4"), 7);
+}
+
 #[test]
 fn states() {
     assert!(passes(&changed("state,0,0", "state,0,1")));

@@ -37,6 +37,36 @@ fn the_line_and_the_field() {
     }
 }
 
+/// A kind word, the last size before it, and a next state.
+#[test]
+fn edition_2() {
+    let job = String::from_utf8(jobs::text("minutes.job")).unwrap();
+    let cases = [
+        (
+            "sum,max",
+            "sum,min",
+            "line 1, column 20:\njob2,3,2,5,1,7,sum,min\n                   ^\n",
+        ),
+        (
+            "7,sum,max",
+            "7",
+            "line 1, column 14:\njob2,3,2,5,1,7\n             ^\n",
+        ),
+        (
+            "go,0,0,1,2,3",
+            "go,0,0,1,5,3",
+            "line 6, column 10:\ngo,0,0,1,5,3\n         ^\n",
+        ),
+    ];
+    for (from, to, expected) in cases {
+        assert_eq!(
+            shown(job.replacen(from, to, 1).as_bytes()),
+            expected,
+            "{to:?}"
+        );
+    }
+}
+
 /// A text that ends too soon, one that goes on, and none.
 #[test]
 fn ends() {

@@ -1,9 +1,9 @@
 //! Listings beside those of the second implementation.
 
 use super::printed;
+use rbatl_tests::games;
 use rbatl_tests::listing::{listing, try_damaged_texts, try_job_files, try_random_jobs};
-use rbatl_tests::random::{cases, Rng};
-use rbatl_tests::{games, text};
+use rbatl_tests::random::{any_text, cases, Rng};
 
 const SEED: u64 = 71;
 
@@ -27,8 +27,12 @@ fn jobs_of_every_size() {
 #[test]
 fn jobs_of_full_size() {
     for case in 0..cases(10) {
-        let block = games::full(&mut Rng::for_case(SEED + 1, case));
-        assert!(agree(&text::write(&block), &format!("case {case}")));
+        let mut rng = Rng::for_case(SEED + 1, case);
+        let mut block = games::full(&mut rng);
+        assert!(agree(
+            &any_text(&mut rng, &mut block),
+            &format!("case {case}")
+        ));
     }
 }
 

@@ -68,7 +68,7 @@ fn room_lengths() {
 fn block_lengths() {
     for (block, number) in whole_and_damaged() {
         let near = [BLOCK_BYTES - 1, BLOCK_BYTES + 1, 2 * BLOCK_BYTES];
-        let far = [0, 1, mask(0), row(0, 0), ROOM_BYTES];
+        let far = [0, 1, mask(0), row(0, 0), OLD_BLOCK_BYTES, ROOM_BYTES];
         for length in near.into_iter().chain(far) {
             let mut block = block.clone();
             block.resize(length, 0);

@@ -101,7 +101,7 @@ impl Plays {
 fn every_play_ends_as_the_library_says() {
     let (mut all, mut longest) = (0, 0);
     for case in 0..cases(CASES) {
-        let job = games::contest(&mut Rng::for_case(SEED, case));
+        let job = games::few(&mut Rng::for_case(SEED, case));
         let model = Model::of(&job);
         for row in model.rows() {
             let positions = model.positions(row);

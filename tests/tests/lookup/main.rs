@@ -133,7 +133,7 @@ fn job_file(_: &mut Rng, case: u64) -> Named {
 
 /// A job with damage, or whole.
 fn damaged(rng: &mut Rng, case: u64) -> Named {
-    let mut job = games::contest(rng);
+    let mut job = games::few(rng);
     let how = damage(rng, &mut job);
     (job, format!("case {case}, damage: {how}"))
 }

@@ -211,7 +211,7 @@ fn none_is_lost() {
     let mut seen = Seen::default();
     for case in 0..cases(CASES) {
         let rng = &mut Rng::for_case(SEED, case);
-        let job = games::contest(rng);
+        let job = games::few(rng);
         let model = Model::of(&job);
         for row in model.rows() {
             let positions = model.positions(row);

@@ -61,7 +61,7 @@ fn numbers(rng: &mut Rng, model: &Model, at: At) -> Vec<u8> {
 #[test]
 fn every_position() {
     let mut seen = Seen::default();
-    ask_each(SEED, cases(CASES), whole(games::contest), |rng, asked| {
+    ask_each(SEED, cases(CASES), whole(games::few), |rng, asked| {
         for row in asked.model.rows() {
             for at in asked.model.positions(row) {
                 seen.move_and_replies(rng, asked, at);
@@ -79,7 +79,7 @@ fn every_position() {
 fn every_number() {
     let mut seen = Seen::default();
     let jobs = cases(CASES) / 20;
-    ask_each(SEED ^ 1, jobs, whole(games::contest), |rng, asked| {
+    ask_each(SEED ^ 1, jobs, whole(games::few), |rng, asked| {
         for row in asked.model.rows() {
             let positions = asked.model.positions(row);
             let at = rng.pick(&positions);

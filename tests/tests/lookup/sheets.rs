@@ -116,7 +116,7 @@ fn whole_jobs() {
     let mut seen = Seen::default();
     let make = |rng: &mut Rng, case: u64| match case % 20 {
         0 => whole(any_block)(rng, case),
-        1..=10 => whole(games::contest)(rng, case),
+        1..=10 => whole(games::few)(rng, case),
         _ => whole(games::small)(rng, case),
     };
     ask_each(SEED, cases(CASES), make, |rng, asked| {
@@ -132,7 +132,7 @@ fn every_count() {
     let mut seen = Seen::default();
     let mut counts = 0..=SHEET_POSITIONS;
     let jobs = SHEET_POSITIONS as u64 + 1;
-    ask_each(SEED ^ 1, jobs, whole(games::contest), |rng, asked| {
+    ask_each(SEED ^ 1, jobs, whole(games::few), |rng, asked| {
         let count = counts.next().expect("one for each job");
         for row in asked.model.rows() {
             let list: Vec<_> = (0..count).map(|_| any_position(rng, asked, row)).collect();
@@ -148,7 +148,7 @@ fn damaged_jobs() {
     ask_each(SEED ^ 2, cases(CASES), damaged, |rng, asked| {
         try_any(rng, asked, &mut seen)
     });
-    assert_each_came(&seen.answers, &[0, 1, 2, 3, 4, 5, 6, 8], cases(CASES) / 100);
+    assert_each_came(&seen.answers, &[0, 1, 2, 3, 4, 5, 6, 8], cases(CASES) / 200);
     assert_eq!(seen.answers[7], 0, "no call on a block answers 7");
     assert_eq!(seen.answers[9..], [0; 3], "9 and 10 stand in words");
 }

@@ -17,7 +17,16 @@ pub fn other_lengths(right: usize) -> Vec<usize> {
         ROOM_BYTES,
     ];
     let near = rights.map(|length| [length - 1, length, length + 1]);
-    let far = [0, 1, 2, 32, 64, 256, 2 * ROOM_BYTES, TEXT_BYTES];
+    let far = [
+        0,
+        1,
+        2,
+        64,
+        256,
+        OLD_BLOCK_BYTES,
+        2 * ROOM_BYTES,
+        TEXT_BYTES,
+    ];
     let lengths = near.into_iter().flatten().chain(far);
     lengths.filter(|&length| length != right).collect()
 }

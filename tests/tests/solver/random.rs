@@ -11,13 +11,16 @@ const CASES: u64 = 20_000;
 const FULL_CASES: u64 = 50;
 const CROWDED_CASES: u64 = 200;
 
-/// Some jobs with something to play for, some with rows of every shape.
+/// Some jobs with something to play for, some where kinds of resources matter, some
+/// with rows of every shape.
 fn small_job(rng: &mut Rng) -> Vec<u8> {
-    if rng.one_in(4) {
-        let sizes = small_sizes(rng);
-        block(rng, sizes)
-    } else {
-        games::small(rng)
+    match rng.below(4) {
+        0 => {
+            let sizes = small_sizes(rng);
+            block(rng, sizes)
+        }
+        1 => games::teamwork(rng),
+        _ => games::small(rng),
     }
 }
 

@@ -32,6 +32,27 @@ next,1,,,1
 always,1,,,1
 ";
 
+/// What is written of it: in edition 2, with 0 for each empty bound.
+const WRITTEN: &str = "\
+job2,1,2,2,1,10,sum,sum
+state,0,0
+acts,0,0,3,0,0,2,0,0,1
+go,0,0,1,1
+state,1,1
+acts,1,0,1,0,0
+go,1,1
+prop,0
+not,0
+or,0,1
+until,1,0,0,2,0
+until,1,2,0,2,0
+until,1,inf,0,2,0
+until,1,0,1,2,0
+next,1,0,0,0
+next,1,0,0,1
+always,1,0,0,1
+";
+
 const ROWS_OF_EMPTY: [[u8; 8]; 10] = [
     [PROP, 0, 0, 0, 0, 0, 0, 0],
     [NOT, 0, 0, 0, 0, 0, 0, 0],
@@ -100,7 +121,12 @@ fn the_text_comes_back_with_0_there() {
     let lent = agree::pattern(TEXT_BYTES);
     let Outcome { answer, buffer } = agree::write(&block_of(EMPTY), &lent, || EMPTY.to_string());
     let length = usize::try_from(answer).expect("the block is written");
-    assert_eq!(buffer[..length], *filled("0").as_bytes());
+    assert_eq!(buffer[..length], *WRITTEN.as_bytes());
+    let second = WRITTEN.replace("until,1,0,0,2,0", "until,1,,,2,0");
+    assert!(
+        block_of(&second) == block_of(EMPTY),
+        "edition 2 has empty bounds too"
+    );
 }
 
 #[test]

@@ -2,10 +2,10 @@
 
 use super::*;
 use rbatl_tests::text_damage::lines;
-use rbatl_tests::{agree, jobs, text};
+use rbatl_tests::{agree, jobs};
 
 /// The texts that are small enough for every change of a byte.
-const SMALL: [&str; 2] = ["catch.job", "sensor.job"];
+const SMALL: [&str; 3] = ["catch.job", "minutes.job", "sensor.job"];
 
 /// The texts of jobs/, and of some small random jobs.
 fn many_texts() -> Vec<Vec<u8>> {
@@ -13,7 +13,8 @@ fn many_texts() -> Vec<Vec<u8>> {
     for case in 0..40 {
         let mut rng = Rng::for_case(SEED ^ 2, case);
         let sizes = small_sizes(&mut rng);
-        texts.push(text::write(&block(&mut rng, sizes)));
+        let mut job = block(&mut rng, sizes);
+        texts.push(any_text(&mut rng, &mut job));
     }
     texts
 }

@@ -4,11 +4,12 @@ use super::*;
 use rbatl_tests::text::{self, TEXT_BYTES};
 use rbatl_tests::{agree, jobs};
 
-const BLOCK_LENGTHS: [usize; 9] = [
+const BLOCK_LENGTHS: [usize; 10] = [
     0,
     1,
     mask(0),
     BLOCK_BYTES / 2,
+    OLD_BLOCK_BYTES,
     BLOCK_BYTES - 1,
     BLOCK_BYTES + 1,
     BLOCK_BYTES + ROW_BYTES,
@@ -74,7 +75,14 @@ fn long_texts() {
 fn long_fields_and_lines() {
     let catch = jobs::text("catch.job");
     for part in ["0", "1", "\n", ",", "inf,", "prop,0\n"] {
-        for front in ["", "job,", "job,2,1,3,1,6\nstate,0,"] {
+        for front in [
+            "",
+            "job,",
+            "job,2,1,3,1,6\nstate,0,",
+            "job2,",
+            "job2,2,1,3,1,6,sum\nstate,0,",
+            "job2,1,1,1,1,1,sum\nstate,0,0\nacts,0,0,1,0\ngo,0,",
+        ] {
             let mut text = front.as_bytes().to_vec();
             while text.len() + part.len() <= TEXT_BYTES {
                 text.extend(part.as_bytes());
@@ -92,14 +100,16 @@ fn long_fields_and_lines() {
 /// A refused value answers before what follows it, but not before number 1.
 #[test]
 fn a_refused_value_in_a_long_text() {
-    let text = |length| {
-        let mut text = b"job,2,1,25,1,6\n".to_vec();
-        text.resize(length, b'\n');
-        text
-    };
-    assert_eq!(read(&text(TEXT_BYTES), BLOCK_BYTES), -2);
-    assert_eq!(read(&text(TEXT_BYTES + 1), BLOCK_BYTES), -1);
-    assert_eq!(read(&text(TEXT_BYTES), BLOCK_BYTES - 1), -1);
+    for front in ["job,2,1,25,1,6\n", "job2,2,1,25,1,6,sum\n"] {
+        let text = |length| {
+            let mut text = front.as_bytes().to_vec();
+            text.resize(length, b'\n');
+            text
+        };
+        assert_eq!(read(&text(TEXT_BYTES), BLOCK_BYTES), -2);
+        assert_eq!(read(&text(TEXT_BYTES + 1), BLOCK_BYTES), -1);
+        assert_eq!(read(&text(TEXT_BYTES), BLOCK_BYTES - 1), -1);
+    }
 }
 
 #[test]
@@ -111,6 +121,8 @@ fn read_into_blocks_of_other_lengths() {
         assert_eq!(read(&[], length), -1);
         assert_eq!(read(b"job,0", length), -1);
         assert_eq!(read(b"job,0,", length), -1);
+        assert_eq!(read(b"job2,0,", length), -1);
+        assert_eq!(read(&jobs::text("minutes.job"), length), -1);
         assert_eq!(read(&jobs::text("full.job"), length), -1);
         assert_eq!(read(&padded("catch.job", 0, TEXT_BYTES + 1), length), -1);
     }
@@ -146,10 +158,12 @@ fn write_blocks_of_other_lengths_and_damaged_ones() {
     }
     let damages = [
         (2, STATES, 25),
+        (2, resource_kind(0), 2),
         (3, count(0, 0), 5),
         (4, next(0, 0), 3),
         (5, row(5, BOUND), 16),
         (6, mask(23), 1),
+        (6, resource_kind(1), MAX),
     ];
     for (number, place, value) in damages {
         let mut other = job.clone();

@@ -5,9 +5,9 @@ use super::*;
 use rbatl_tests::agree::{self, Outcome};
 use rbatl_tests::listing::{self, LISTING_BYTES};
 use rbatl_tests::model::{MOVES_BYTES, RANKS_BYTES};
-use rbatl_tests::text::TEXT_BYTES;
+use rbatl_tests::text::{write_as, EDITIONS, TEXT_BYTES};
 use rbatl_tests::text_damage::damage;
-use rbatl_tests::{games, jobs, text};
+use rbatl_tests::{games, jobs};
 
 pub(super) const LENGTHS: [usize; 3] = [LISTING_BYTES, RANKS_BYTES, MOVES_BYTES];
 
@@ -57,13 +57,27 @@ fn the_job_files() {
     assert_eq!(catch.answer, jobs::CATCH_LISTING.len() as i32);
 }
 
+/// A listing does not tell the edition of its text.
+#[test]
+fn both_editions() {
+    let lent = Lent::patterned(LENGTHS);
+    for name in jobs::names() {
+        let job = jobs::load(&name);
+        if job[resource_kind(0)..BLOCK_BYTES] == [SUM, SUM] {
+            let [one, two] = EDITIONS.map(|edition| lent.list(&write_as(edition, &job), &name));
+            assert!(one == two, "{name}");
+        }
+    }
+}
+
 #[test]
 fn random_jobs() {
     let (lents, mut seen) = (lents(), [0; 8]);
     for case in 0..cases(CASES) / 100 {
-        let job = games::mixed(&mut Rng::for_case(SEED ^ 6, case));
+        let mut rng = Rng::for_case(SEED ^ 6, case);
+        let mut job = games::mixed(&mut rng);
         let lent = &lents[(case % 3) as usize];
-        let outcome = lent.list(&text::write(&job), &format!("case {case}"));
+        let outcome = lent.list(&any_text(&mut rng, &mut job), &format!("case {case}"));
         seen[number(outcome.answer)] += 1;
     }
     assert_eq!(seen[1..], [0; 7], "a whole text is listed");
@@ -74,7 +88,8 @@ fn damaged_texts() {
     let (lents, mut seen) = (lents(), [0; 8]);
     for case in 0..cases(CASES) / 20 {
         let mut rng = Rng::for_case(SEED ^ 7, case);
-        let mut text = text::write(&games::small(&mut rng));
+        let mut job = games::small(&mut rng);
+        let mut text = any_text(&mut rng, &mut job);
         let how = damage(&mut rng, &mut text);
         let lent = &lents[(case % 3) as usize];
         let outcome = lent.list(&text, &format!("case {case}: {how}"));
@@ -107,7 +122,7 @@ fn lengths() {
 #[test]
 fn long_texts() {
     let lent = Lent::patterned(LENGTHS);
-    for front in [&b""[..], b"job,2,1,25,1,6\n"] {
+    for front in [&b""[..], b"job,2,1,25,1,6\n", b"job2,2,1,25,1,6,sum\n"] {
         for (length, beyond) in [(TEXT_BYTES, false), (TEXT_BYTES + 1, true)] {
             let mut text = front.to_vec();
             text.resize(length, b'\n');

@@ -1,6 +1,6 @@
 //! `rbatl_read`, `rbatl_read_at`, `rbatl_write` and `rbatl_list` beside the reader,
-//! the writer and the listing made from document 01: the same answers and the same
-//! lent buffers afterwards, on many texts and blocks.
+//! the writer and the listing made from documents 01 and 02: the same answers and
+//! the same lent buffers afterwards, on many blocks and on texts of both editions.
 
 mod empty;
 mod every;
@@ -12,7 +12,7 @@ mod stops;
 
 use rbatl_tests::answers::{assert_each_came, number};
 use rbatl_tests::layout::*;
-use rbatl_tests::random::{any_sizes, block, cases, small_sizes, Rng};
+use rbatl_tests::random::{any_sizes, any_text, block, cases, small_sizes, Rng};
 
 const SEED: u64 = 0x7465_7874;
 /// Damaged texts; the other tests take a share of this number.
@@ -26,4 +26,11 @@ fn any_job(rng: &mut Rng) -> Vec<u8> {
         _ => small_sizes(rng),
     };
     block(rng, sizes)
+}
+
+/// Such a job, and its text in either edition.
+fn job_and_text(rng: &mut Rng) -> (Vec<u8>, Vec<u8>) {
+    let mut job = any_job(rng);
+    let text = any_text(rng, &mut job);
+    (job, text)
 }

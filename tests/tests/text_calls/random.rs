@@ -1,7 +1,7 @@
 //! Random texts and blocks, whole and damaged.
 
 use super::*;
-use rbatl_tests::text::{self, TEXT_BYTES};
+use rbatl_tests::text::{self, Edition, TEXT_BYTES};
 use rbatl_tests::text_damage::{damage, empty_bounds, filled_bounds};
 use rbatl_tests::{agree, block, damage as block_damage, ffi};
 
@@ -11,8 +11,7 @@ fn read_agrees_on_whole_texts() {
     let mut emptied = 0;
     for case in 0..cases(CASES) / 10 {
         let mut rng = Rng::for_case(SEED, case);
-        let job = any_job(&mut rng);
-        let written = text::write(&job);
+        let (job, written) = job_and_text(&mut rng);
         let (other, count) = empty_bounds(&mut rng, &written);
         for text in [&written, &other] {
             let outcome = agree::read(text, &lent, || format!("case {case}"));
@@ -29,32 +28,38 @@ fn read_agrees_on_whole_texts() {
 fn read_agrees_on_damaged_texts() {
     let lent = agree::pattern(BLOCK_BYTES);
     let cases = cases(CASES);
-    let mut seen = [0; 8];
+    let mut seen = [[0; 8]; 2];
     for case in 0..cases {
         let mut rng = Rng::for_case(!SEED, case);
-        let written = text::write(&any_job(&mut rng));
+        let (_, written) = job_and_text(&mut rng);
+        let edition = Edition::of(&written).expect("a whole text");
         let (mut text, _) = empty_bounds(&mut rng, &written);
         let how = damage(&mut rng, &mut text);
         let outcome = agree::read(&text, &lent, || format!("case {case}: {how}"));
-        seen[number(outcome.answer)] += 1;
+        seen[edition as usize][number(outcome.answer)] += 1;
         if outcome.answer == 0 {
             assert_written_back(&outcome.buffer, &text, &format!("case {case}: {how}"));
         } else {
             assert!(outcome.buffer == lent, "case {case}: {how}");
         }
     }
-    assert_each_came(&seen, &[0, 2, 3, 4, 5, 7], cases / 50);
-    assert_eq!((seen[1], seen[6]), (0, 0), "no text of these has 1 or 6");
+    for seen in seen {
+        assert_each_came(&seen, &[0, 2, 3, 4, 5, 7], cases / 120);
+        assert_eq!((seen[1], seen[6]), (0, 0), "no text of these has 1 or 6");
+    }
 }
 
-/// Any text that was read, damaged or not, is that of a job that passes, up to
-/// its empty bounds.
+/// Any text that was read, damaged or not, is that of a job that passes, in its
+/// edition and up to its empty bounds; the library writes edition 2 of it.
 fn assert_written_back(job: &[u8], text: &[u8], what: &str) {
     assert_eq!(block::check(job), 0, "{what}");
     assert_eq!(ffi::check(job), 0, "{what}");
+    let edition = Edition::of(text).expect("a text that is read");
+    let same = text::write_as(edition, job) == filled_bounds(text, b"0");
+    assert!(same, "{what}");
     let mut written = vec![b'#'; TEXT_BYTES];
     let length = ffi::write(job, &mut written);
-    let expected = filled_bounds(text, b"0");
+    let expected = text::write(job);
     assert_eq!(usize::try_from(length), Ok(expected.len()), "{what}");
     assert!(written[..expected.len()] == expected, "{what}");
 }

@@ -1,7 +1,7 @@
 //! What is written and read again, and what is read and written back.
 
 use super::*;
-use rbatl_tests::text::{self, TEXT_BYTES};
+use rbatl_tests::text::{self, Edition, EDITIONS, KIND_WORDS, TEXT_BYTES};
 use rbatl_tests::text_damage::empty_bounds;
 use rbatl_tests::{ffi, jobs};
 
@@ -22,33 +22,98 @@ fn read(text: &[u8], what: &str) -> Vec<u8> {
     block
 }
 
+/// The same job with other kinds, bit j for a resource j of kind max.
+fn with_kinds(job: &[u8], kinds: u8) -> Vec<u8> {
+    let mut job = job.to_vec();
+    for resource in 0..Sizes::of(&job).resources {
+        job[resource_kind(resource)] = kinds >> resource & 1;
+    }
+    job
+}
+
 #[test]
 fn a_written_job_is_read_as_the_same_job() {
     for case in 0..cases(CASES) / 12 {
         let what = format!("case {case}");
         let job = any_job(&mut Rng::for_case(SEED ^ 3, case));
-        assert!(read(&written(&job, &what), &what) == job, "{what}");
+        let text = written(&job, &what);
+        assert!(text == text::write(&job), "{what}");
+        assert!(read(&text, &what) == job, "{what}");
     }
 }
 
-/// An empty bound comes back as 0, and every other byte as it was.
+/// A job of kind sum throughout has a text of each edition.
+#[test]
+fn both_editions_are_read_as_the_same_job() {
+    for case in 0..cases(CASES) / 24 {
+        let what = format!("case {case}");
+        let job = with_kinds(&any_job(&mut Rng::for_case(SEED ^ 8, case)), 0);
+        for edition in EDITIONS {
+            let text = text::write_as(edition, &job);
+            assert_eq!(Edition::of(&text), Some(edition), "{what}");
+            assert!(read(&text, &what) == job, "{what}, {edition:?}");
+            let back = written(&read(&text, &what), &what);
+            assert!(back == text::write(&job), "{what}, {edition:?}");
+        }
+    }
+}
+
+/// Jobs that differ in kinds alone have texts that differ in the first line's words
+/// alone.
+#[test]
+fn the_kinds_are_the_words_of_the_first_line() {
+    for case in 0..cases(CASES) / 100 {
+        let what = format!("case {case}");
+        let job = any_job(&mut Rng::for_case(SEED ^ 9, case));
+        let resources = Sizes::of(&job).resources;
+        let all_sum = written(&with_kinds(&job, 0), &what);
+        let line = all_sum
+            .iter()
+            .position(|&byte| byte == b'\n')
+            .expect("a line");
+        let sizes = line - resources * ",sum".len();
+        for kinds in 0..1 << resources {
+            let words = (0..resources).map(|j| KIND_WORDS[usize::from(kinds >> j & 1)]);
+            let words: String = words.map(|word| format!(",{word}")).collect();
+            let text = [&all_sum[..sizes], words.as_bytes(), &all_sum[line..]].concat();
+            assert!(
+                written(&with_kinds(&job, kinds), &what) == text,
+                "{what}{words}"
+            );
+            assert!(
+                read(&text, &what) == with_kinds(&job, kinds),
+                "{what}{words}"
+            );
+        }
+    }
+}
+
+/// An empty bound comes back as 0; every other byte as it was, in edition 2.
 #[test]
 fn a_text_is_written_back_with_0_for_empty_bounds() {
     for case in 0..cases(CASES) / 12 {
         let what = format!("case {case}");
         let mut rng = Rng::for_case(SEED ^ 4, case);
-        let whole = text::write(&any_job(&mut rng));
+        let (job, whole) = job_and_text(&mut rng);
         let (emptied, _) = empty_bounds(&mut rng, &whole);
-        assert!(written(&read(&whole, &what), &what) == whole, "{what}");
-        assert!(written(&read(&emptied, &what), &what) == whole, "{what}");
+        for text in [&whole, &emptied] {
+            assert!(
+                written(&read(text, &what), &what) == text::write(&job),
+                "{what}"
+            );
+        }
     }
 }
 
+/// A file of edition 2 is written back, and one of edition 1 in edition 2.
 #[test]
 fn the_files_of_jobs_are_written_back() {
     for name in jobs::names() {
         let text = jobs::text(&name);
-        assert!(written(&read(&text, &name), &name) == text, "{name}");
+        let back = written(&read(&text, &name), &name);
+        assert!(back == text::write(&jobs::load(&name)), "{name}");
+        let second = Edition::of(&text) == Some(Edition::Two);
+        assert_eq!(back == text, second, "{name}");
     }
 }
 
@@ -71,10 +136,14 @@ fn the_longest_text_fits() {
         let longest = [UNTIL, i as u8 - 1, i as u8 - 1, 7, UNLIMITED, UNLIMITED];
         job[row(i, KIND)..row(i, PADDING)].copy_from_slice(&longest);
     }
+    for edition in EDITIONS {
+        let text = text::write_as(edition, &job);
+        println!("the longest text, {edition:?}, has {} bytes", text.len());
+        assert!(text.len() <= TEXT_BYTES, "{edition:?}");
+        assert!(read(&text, "the longest text") == job, "{edition:?}");
+    }
     let text = written(&job, "the longest text");
-    println!("the longest text has {} bytes", text.len());
     assert!(text == text::write(&job));
-    assert!(read(&text, "the longest text") == job);
     for case in 0..1000 {
         let other = block(&mut Rng::for_case(SEED ^ 5, case), Sizes::FULL);
         assert!(text::write(&other).len() <= text.len(), "case {case}");

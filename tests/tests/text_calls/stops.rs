@@ -12,12 +12,20 @@ fn stop(text: &[u8], what: &str) -> i32 {
     place
 }
 
-/// The first job with one text in the place of another, and the place where the
-/// change begins.
-fn first_with(old: &str, new: &str) -> (Vec<u8>, i32) {
-    let first = String::from_utf8(jobs::text("first.job")).unwrap();
-    let place = first.find(old).unwrap();
-    (first.replacen(old, new, 1).into_bytes(), place as i32)
+/// A text with one text in the place of another, and the place where the change
+/// begins.
+fn with(text: &str, old: &str, new: &str) -> (Vec<u8>, i32) {
+    let place = text.find(old).unwrap_or_else(|| panic!("{old} in {text}"));
+    (text.replacen(old, new, 1).into_bytes(), place as i32)
+}
+
+/// Each change of a job file stops reading so much further than it begins.
+fn expect_stops(name: &str, changes: &[(&str, &str, i32)]) {
+    let job = String::from_utf8(jobs::text(name)).expect("plain text");
+    for (old, new, further) in changes {
+        let (text, place) = with(&job, old, new);
+        assert_eq!(stop(&text, new), place + further, "{old} to {new}");
+    }
 }
 
 #[test]
@@ -26,7 +34,7 @@ fn damaged_texts() {
     let mut refused = 0;
     for case in 0..cases {
         let mut rng = Rng::for_case(SEED ^ 2, case);
-        let written = text::write(&any_job(&mut rng));
+        let (_, written) = job_and_text(&mut rng);
         let (mut text, _) = empty_bounds(&mut rng, &written);
         let how = damage(&mut rng, &mut text);
         let place = stop(&text, &format!("case {case}: {how}"));
@@ -41,7 +49,7 @@ fn damaged_texts() {
 /// Each beginning of a text stops at the field that it cuts off.
 #[test]
 fn cut_texts() {
-    for name in ["first.job", "catch.job"] {
+    for name in ["first.job", "catch.job", "minutes.job"] {
         let text = jobs::text(name);
         for length in 0..=text.len() {
             let place = stop(&text[..length], &format!("{length} bytes of {name}"));
@@ -77,10 +85,31 @@ fn fields() {
         ("until,1,2", "until,1,255", 8),
         ("until,1,2", "until,1,  ", 8),
     ];
-    for (old, new, further) in changes {
-        let (text, place) = first_with(old, new);
-        assert_eq!(stop(&text, new), place + further, "{old} to {new}");
-    }
+    expect_stops("first.job", &changes);
+}
+
+/// What edition 2 has of its own, on both sides of each border.
+#[test]
+fn fields_of_edition_2() {
+    let changes = [
+        ("job2,", "job3,", 0),
+        ("job2,3,2,5,1,7,", "job,3,2,5,1,7,", 12),
+        ("3,2,5,1,7,sum", "4,2,5,1,7,min", 0),
+        ("7,sum", "33,min", 0),
+        ("7,sum,max", "7", 0),
+        ("sum,max", "min,max", 0),
+        ("sum,max", "sum", 0),
+        ("max\n", "maxi\n", 0),
+        ("max\n", "max,sum\n", 0),
+        ("go,0,0", "go,1,0", 3),
+        ("go,0,0,1,2,3", "go,0,5,1,2,3", 5),
+        ("go,0,0,1,2,3", "go,0,0,1,2,5", 11),
+        ("go,0,0,1,2,3", "go,0,0,1,2", 9),
+        ("go,0,0,1,2,3", "go,0,0,1,2,3,0", 11),
+        ("go,4,4", "go,4,5", 5),
+        ("go,4,4", "go,4,4,4", 5),
+    ];
+    expect_stops("minutes.job", &changes);
 }
 
 /// Bytes after the last line stop reading where they begin.

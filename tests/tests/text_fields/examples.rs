@@ -6,8 +6,9 @@ use super::*;
 fn catch_is_read() {
     let block = expect(&catch(), 0, "Catch");
     assert!(block == jobs::load("catch.job"));
-    assert_eq!(written(&block), catch());
+    assert_eq!(written(&block), CATCH_2);
     assert_eq!(catch().len(), 267);
+    assert!(expect(CATCH_2, 0, "Catch in edition 2") == block);
 }
 
 #[test]
@@ -60,5 +61,5 @@ fn catch_with_a_seventh_row() {
     let text = catch().replace("job,2,1,3,1,6\n", "job,2,1,3,1,7\n") + "always,2,0,1\n";
     let block = expect(&text, 0, "Catch with a seventh row");
     assert_eq!(block[row(6, KIND)..row(7, KIND)], [4, 1, 0, 2, 0, 0, 0, 0]);
-    assert_eq!(written(&block), text);
+    assert_eq!(written_back(&block, &text), text);
 }

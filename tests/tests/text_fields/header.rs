@@ -1,4 +1,4 @@
-//! The line `job`: five sizes.
+//! The first line: five sizes. What edition 2 adds stands in kinds.rs.
 
 use super::*;
 
@@ -26,12 +26,7 @@ fn field(size: usize) -> Field {
 #[test]
 fn sizes_out_of_range() {
     for (size, max) in MAXIMA.into_iter().enumerate() {
-        let field = field(size);
-        field.wants_a_number();
-        field.refused("0", 2);
-        for value in max + 1..=255 {
-            field.refused(&value.to_string(), 2);
-        }
+        field(size).is_a_size(max);
     }
 }
 
@@ -47,7 +42,7 @@ fn sizes_in_range() {
             let text = text_of(&expected);
             let block = expect(&text, 0, &format!("sizes {sizes:?}"));
             assert!(block == expected, "sizes {sizes:?}");
-            assert_eq!(written(&block), text);
+            assert_eq!(written_back(&block, &text), text);
         }
     }
 }

@@ -3,9 +3,11 @@
 
 use super::*;
 
-/// Faults of Catch in the order of their fields: the field, its spelling and
-/// the number.
-const FAULTS: [(&str, &str, u8); 24] = [
+/// A field, another spelling of it and the number that this gets.
+type Fault = (&'static str, &'static str, u8);
+
+/// Faults of Catch in the order of their fields.
+const FAULTS: [Fault; 24] = [
     ("[job],2,1,3,1,6", "jo", 7),
     ("job,[2],1,3,1,6", "4", 2),
     ("job,2,1,[3],1,6", "25", 2),
@@ -32,12 +34,35 @@ const FAULTS: [(&str, &str, u8); 24] = [
     ("until,3,4,2,[0]", "5", 5),
 ];
 
-/// Catch with these faults. From the last one on: a fault leaves the places
+/// Faults of Catch in edition 2, where they are others.
+const FAULTS_2: [Fault; 14] = [
+    ("[job2],2,1,3,1,6,sum", "job1", 7),
+    ("job2,[2],1,3,1,6,sum", "9", 2),
+    ("job2,2,[1],3,1,6,sum", "3", 2),
+    ("job2,2,1,3,1,[6],sum", "33", 2),
+    ("job2,2,1,3,1,6,[sum]", "min", 7),
+    ("state,0,[0]", "2", 3),
+    ("acts,0,0,2,0,[2]", "16", 3),
+    ("go,[0],0,1,0,0", "1", 7),
+    ("go,0,[0],1,0,0", "3", 4),
+    ("go,0,0,[1],0,0", "01", 7),
+    ("go,0,0,1,0,[0]", "255", 4),
+    ("[go],1,1,2", "gos", 7),
+    ("go,2,[2]", "3", 4),
+    ("until,3,4,2,[0]", "5", 5),
+];
+
+/// Each edition of Catch with its faults.
+fn editions() -> [(String, &'static [Fault]); 2] {
+    [(catch(), &FAULTS), (CATCH_2.to_string(), &FAULTS_2)]
+}
+
+/// The text with these faults. From the last one on: a fault leaves the places
 /// before it as they were.
-fn faulty(faults: &[(&str, &str, u8)]) -> String {
-    let mut text = catch();
+fn faulty(whole: &str, faults: &[Fault]) -> String {
+    let mut text = whole.to_string();
     for (marked, spelling, _) in faults.iter().rev() {
-        let field = Field::of(&catch(), marked);
+        let field = Field::of(whole, marked);
         let start = field.before.len();
         text.replace_range(start..start + field.now.len(), spelling);
     }
@@ -46,17 +71,21 @@ fn faulty(faults: &[(&str, &str, u8)]) -> String {
 
 #[test]
 fn each_fault_alone() {
-    for fault in FAULTS {
-        expect(&faulty(&[fault]), fault.2, fault.0);
+    for (whole, faults) in editions() {
+        for &fault in faults {
+            expect(&faulty(&whole, &[fault]), fault.2, fault.0);
+        }
     }
 }
 
 #[test]
 fn the_first_of_two_faults_answers() {
-    for (i, first) in FAULTS.into_iter().enumerate() {
-        for second in &FAULTS[i + 1..] {
-            let name = format!("{} and {}", first.0, second.0);
-            expect(&faulty(&[first, *second]), first.2, &name);
+    for (whole, faults) in editions() {
+        for (i, &first) in faults.iter().enumerate() {
+            for &second in &faults[i + 1..] {
+                let name = format!("{} and {}", first.0, second.0);
+                expect(&faulty(&whole, &[first, second]), first.2, &name);
+            }
         }
     }
 }
@@ -64,14 +93,16 @@ fn the_first_of_two_faults_answers() {
 /// A refused value answers before anything wrong behind the byte after it.
 #[test]
 fn value_before_what_follows() {
-    for (marked, spelling, number) in FAULTS.into_iter().filter(|fault| fault.2 != 7) {
-        let field = Field::of(&catch(), marked);
-        let (end, rest) = field.after.split_at(1);
-        for rest in ["", "x", ",", "\n", "\0", &rest.replace(',', ";")] {
-            let text = format!("{}{spelling}{end}{rest}", field.before);
-            expect(&text, number, &format!("{marked}, then {rest:?}"));
+    for (whole, faults) in editions() {
+        for (marked, spelling, number) in faults.iter().filter(|fault| fault.2 != 7) {
+            let field = Field::of(&whole, marked);
+            let (end, rest) = field.after.split_at(1);
+            for rest in ["", "x", ",", "\n", "\0", &rest.replace(',', ";")] {
+                let text = format!("{}{spelling}{end}{rest}", field.before);
+                expect(&text, *number, &format!("{marked}, then {rest:?}"));
+            }
+            expect(&format!("{}{spelling}", field.before), 7, marked);
         }
-        expect(&format!("{}{spelling}", field.before), 7, marked);
     }
 }
 

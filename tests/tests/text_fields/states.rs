@@ -76,7 +76,7 @@ fn count_in_range() {
                 let text = text_of(&expected);
                 let block = expect(&text, 0, &name);
                 assert!(block == expected, "{name}");
-                assert_eq!(written(&block), text, "{name}");
+                assert_eq!(written_back(&block, &text), text, "{name}");
             }
         }
     }
