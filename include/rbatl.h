@@ -191,11 +191,12 @@ enum rbatl_refusal {
 int32_t rbatl_check(const uint8_t *block, size_t block_len);
 
 /* Reads a text of either edition into a block of RBATL_BLOCK_BYTES: 0, and the
- * block is the job of the text; -RBATL_E_LENGTH for a block of any other length or a text above
- * RBATL_TEXT_BYTES; else minus the first refusal that the fields meet from
- * left to right and line by line, each tried for its form (RBATL_E_FORM), the
- * comma or line end after it included, and then for its value (RBATL_E_SIZES,
- * RBATL_E_STATE, RBATL_E_NEXT, RBATL_E_ROW). The first word tells the edition:
+ * block is the job of the text; -RBATL_E_LENGTH for a block of any other length
+ * or a text above RBATL_TEXT_BYTES; else minus the first refusal that the fields
+ * meet from left to right and line by line, each tried for its form
+ * (RBATL_E_FORM), the comma or line end after it included, and then for its value
+ * (RBATL_E_SIZES, RBATL_E_STATE, RBATL_E_NEXT, RBATL_E_ROW). The first word tells
+ * the edition:
  * - `job`: all resources are of kind RBATL_SUM, and each joint action of a state
  *   has a `go` line with its actions and its next state;
  * - `job2`: after the sizes the first line has a word for each resource, `sum` or
@@ -211,8 +212,8 @@ int32_t rbatl_read(const uint8_t *text, size_t text_len, uint8_t *block, size_t 
 int32_t rbatl_read_at(const uint8_t *text, size_t text_len);
 
 /* Writes the text of a block, in edition 2, into a buffer of RBATL_TEXT_BYTES: the
- * length of the text, and zeros stand after it; -RBATL_E_LENGTH for a block or a buffer
- * of any other length; else what rbatl_check answers on the block. An unlimited
+ * length of the text, and zeros stand after it; -RBATL_E_LENGTH for a block or a
+ * buffer of any other length; else what rbatl_check answers on the block. An unlimited
  * bound is written `inf`, and any other as a number. A refused call leaves the
  * buffer as it was. */
 int32_t rbatl_write(const uint8_t *block, size_t block_len, uint8_t *text, size_t text_len);
