@@ -33,7 +33,7 @@
  *
  * Stack: any call takes at most RBATL_STACK_BYTES, and none allocates. As
  * bench/run measures it, in bytes: check 191, states_refusal 239, write 383, read
- * and read_at 3015, table 5936, label 6016, move and reply 6112, states 6128,
+ * and read_at 3111, table 5936, label 6016, move and reply 6112, states 6128,
  * worksheet 6144, list 8736.
  *
  * Cost: rbatl_move and rbatl_reply solve the row anew at each call. For the moves
