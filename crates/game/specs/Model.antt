@@ -17,8 +17,11 @@ abbrev pub bit : ℕ → ℕ → Bool
 bit m i = eqb (m / 2 ^ i % 2) 1
 
 -- how costs combine in a resource of kind k: they add up, or the largest stands for all (document 02, R-3)
+abbrev pub larger : ℕ → ℕ → ℕ
+larger x y = cond (ltb x y) y x
+
 abbrev pub combineOf : ℕ → ℕ → ℕ → ℕ
-combineOf k x y = cond (eqb k L.sumKind) (x + y) (cond (ltb x y) y x)
+combineOf k x y = cond (eqb k L.sumKind) (x + y) (larger x y)
 
 abbrev pub structureOf : Block → Structure
 structureOf b = record {
