@@ -1,7 +1,7 @@
 -- The structure and the formulas that a block holds (document 01, "The job").
 use mathlib.Core.Bool.{Bool, cond}
 use mathlib.Core.Logic.{_↔_}
-use Prim.Native.Nat.{ℕ, zero, suc, _+_, _/_, _%_, _^_, _<_}
+use Prim.Native.Nat.{ℕ, zero, suc, _+_, _/_, _%_, _^_, _<_, max}
 use lib.Dec.{eqb, ltb}
 use Rattle.block.specs.Decide.{Bit}
 use Rattle.block.specs.Layout as L
@@ -17,11 +17,8 @@ abbrev pub bit : ℕ → ℕ → Bool
 bit m i = eqb (m / 2 ^ i % 2) 1
 
 -- how costs combine in a resource of kind k: they add up, or the largest stands for all (document 02, R-3)
-abbrev pub larger : ℕ → ℕ → ℕ
-larger x y = cond (ltb x y) y x
-
 abbrev pub combineOf : ℕ → ℕ → ℕ → ℕ
-combineOf k x y = cond (eqb k L.sumKind) (x + y) (larger x y)
+combineOf k x y = cond (eqb k L.sumKind) (x + y) (max x y)
 
 abbrev pub structureOf : Block → Structure
 structureOf b = record {

@@ -10,7 +10,7 @@ use Rattle.game.proofs.Numbers.Decide.{le?}
 use Rattle.game.proofs.Numbers.Ranks.{below-suc}
 
 -- one value more where the decision is yes. The value stands under a λ, so that it is computed only there
-abbrev with-value : {Q : Type 0} → (ℕ → ℕ → ℕ) → Dec Q → (Unit {0} → ℕ) → ℕ → ℕ
+abbrev pub with-value : {Q : Type 0} → (ℕ → ℕ → ℕ) → Dec Q → (Unit {0} → ℕ) → ℕ → ℕ
 with-value choose (yes _) v rest = choose (v tt) rest
 with-value choose (no _) v rest = rest
 
