@@ -172,7 +172,7 @@ fn kind_at(text: &[u8], at: usize) -> Numeral
 }
 
 // The kind of a resource, before left further ones, stored at a place of the block.
-pub fn resource(text: &[u8], at: usize, job: &mut [u8], x: Place, e: Edition, left: usize) -> Value
+fn resource(text: &[u8], at: usize, job: &mut [u8], x: Place, e: Edition, left: usize) -> Value
     requires { ⌜ at ≤ length (now text) ⌝ }
     requires { ⌜ (length (now job) ≡ blockBytes) × InLayout x ⌝ }
     ensures { λ r. ⌜ ((k : ℕ → Format) → read (value (J.resourceSpelling e left) x k) (now (job .entry)) (drop at (now (text .entry))) ≡ resumeWith (now (text .entry)) r (λ v rest. read (k v) (now (job .exit)) rest)) ⌝ }

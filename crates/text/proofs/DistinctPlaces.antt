@@ -3,20 +3,23 @@
 -- Assumes nothing.
 use mathlib.Core.Bool.{Bool, true, false, cond}
 use mathlib.Core.List.{List}
+use mathlib.Core.Path.{_≡_}
 use Prim.Native.Nat.{ℕ, zero, suc, _+_, _*_, _≤_, _<_}
 use native.Mathlib.Omega.{arith}
 use lib.Dec.{eqb, lit<}
 use lib.ListN.{set}
-use Rattle.block.specs.Layout.{maxJoint, maxAgents, maxResources, maxStates, maxPropositions, maxRows, maxActions, headerBytes, rowBytes, actionCosts}
+use Rattle.block.specs.Layout.{maxJoint, maxAgents, maxResources, maxStates, maxPropositions, maxRows, maxActions, headerBytes, boundByte, rowBytes, actionCosts}
 use Rattle.block.specs.Inner.Places.{InLayout}
 use Rattle.block.specs.declared.layout.Place.{Place}
+use Rattle.block.specs.declared.layout.Place.the-variants.{Cost, Field, ResourceKind}
 use Rattle.block.specs.declared.refusal.Refusal.{Refusal}
+use Rattle.block.specs.declared.refusal.Refusal.the-variants.{State}
 use Rattle.text.specs.declared.sizes.Edition.{Edition}
 use Rattle.text.specs.declared.sizes.Edition.the-variants.{First, Second}
 use Rattle.text.specs.declared.sizes.Sizes.{Sizes}
 use Rattle.text.specs.Numeral.{comma, lineEnd}
 use Rattle.text.specs.Format.{Spelling, Format, exactly, value}
-use Rattle.text.specs.Job.{number, index, stateLine, costs, actions, actsLine, agentLines, possible, jointFields, byEdition, lastJoint, goWord, goActions, goState, nextField, nextFields, noCounts, stateLines, states, strategic, binary, boundFields, teamFields, operandFields, rowLine, rowLines, size, resourceFields, sizesEnd, headerLine, job}
+use Rattle.text.specs.Job.{number, bound, index, stateLine, costLimit, listEnd, costSpelling, eachResource, actions, actsLine, agentLines, possible, jointFields, byEdition, lastJoint, goWord, goActions, goState, nextField, nextFields, noCounts, stateLines, states, strategic, binary, teamFields, operandFields, rowLine, rowLines, size, resourceSpelling, sizesEnd, headerLine, job}
 use Rattle.text.proofs.Spellings.{Fits, Clear, number-range, number-clear, bound-clear, kind-clear, resource-clear}
 use Rattle.text.proofs.Formats.{agentTurns, nextTurn, stateTurns, stateTurn, rowTurn, turn, Proper, done, word, field, sooner}
 
@@ -49,6 +52,18 @@ either-proper : {n : ℕ} (t : Bool) {f g : Format} → Proper n f → Proper n 
 either-proper true h h′ = h
 either-proper false h h′ = h′
 
+-- a field for each resource, the first of which has turn base
+each-proper : {n : ℕ} (base : ℕ) (spelling : ℕ → Spelling) (place : ℕ → Place) → ((j : ℕ) → j < maxResources → InLayout (place j) × (turn (place j) ≡ base + j)) → ((m : ℕ) → Clear (spelling m)) →
+    (left j : ℕ) {f : Format} → j + left ≤ maxResources → n ≤ base + j → Proper (base + maxResources) f → Proper n (eachResource spelling place left j f)
+unfolding eachResource
+each-proper base spelling place at clear zero j hj l h = sooner (omega arith) h
+each-proper base spelling place at clear (suc left) j hj l h =
+    let (in-layout, turns) = at j (omega arith) in
+    clear-field (clear left) (omega arith) in-layout (λ v _. each-proper base spelling place at clear left (suc j) (omega arith) (omega arith) h)
+
+cost-clear : (k left : ℕ) → Clear (costSpelling k left)
+cost-clear k left = number-clear 0 (costLimit k) (listEnd left) State (sep-small (eqb left 0) lineEnd comma (lit< tt) (lit< tt))
+
 by-edition : {n : ℕ} (e : Edition) {f g : Format} → Proper n f → Proper n g → Proper n (byEdition e f g)
 by-edition First h h′ = h
 by-edition Second h h′ = h′
@@ -59,20 +74,12 @@ end-small First h = lit< tt
 end-small Second h = h
 
 module _ (z : Sizes) (small : Small z) (s : ℕ) (hs : s < maxStates) where
-  costs-proper : {n : ℕ} (a left k m j : ℕ) {f : Format} → a < maxAgents → k < maxActions → j + m ≤ maxResources → n ≤ stateTurn s + (2 + agentTurns * a + actionCosts * k + j) →
-      Proper (stateTurn s + (2 + maxResources + agentTurns * a + actionCosts * k)) f → Proper n (costs s a left k m j f)
-  unfolding costs
-  costs-proper a left k zero j ha hk hj l h = sooner (omega arith) h
-  costs-proper a left k (suc m) j ha hk hj l h =
-      number-field (sep-small (eqb (left + m) 0) lineEnd comma (lit< tt) (lit< tt)) l (omega arith)
-      (λ v _ _. costs-proper a left k m (suc j) ha hk (omega arith) (omega arith) h)
-
   actions-proper : {n : ℕ} (a left k : ℕ) {f : Format} → a < maxAgents → k + left ≤ maxActions → n ≤ stateTurn s + (2 + agentTurns * a + actionCosts * k) →
       Proper (stateTurn s + (1 + agentTurns + agentTurns * a)) f → Proper n (actions z s a left k f)
   unfolding actions
   actions-proper a zero k ha hk l h = sooner (omega arith) h
   actions-proper a (suc left) k ha hk l h =
-      costs-proper a left k (z .resources) 0 ha (omega arith) (omega arith) (omega arith)
+      each-proper (stateTurn s + (2 + agentTurns * a + actionCosts * k)) (λ m. costSpelling k (left + m)) (Cost s a k) (λ j hj. (omega arith, omega arith)) (λ m. cost-clear k (left + m)) (z .resources) 0 (omega arith) (omega arith)
       (actions-proper a left (suc k) ha (omega arith) (omega arith) h)
 
   acts-proper : {n : ℕ} (a : ℕ) {f : ℕ → Format} → a < maxAgents → n ≤ stateTurn s + (1 + agentTurns * a) →
@@ -129,18 +136,11 @@ module _ (z : Sizes) (small : Small z) where
   states-proper (suc left) s hs l h =
       state-proper z small s (omega arith) l (states-proper left (suc s) (omega arith) (omega arith) h)
 
-  bounds-proper : {n : ℕ} (i left j : ℕ) {f : Format} → i < maxRows → j + left ≤ maxResources → n ≤ rowTurn i + (2 + j) →
-      Proper (rowTurn i + (2 + maxResources)) f → Proper n (boundFields i left j f)
-  unfolding boundFields
-  bounds-proper i zero j hi hj l h = sooner (omega arith) h
-  bounds-proper i (suc left) j hi hj l h =
-      clear-field bound-clear (omega arith) (omega arith) (λ v _. bounds-proper i left (suc j) hi (omega arith) (omega arith) h)
-
   team-proper : {n : ℕ} (i k : ℕ) {f : Format} → i < maxRows → n ≤ rowTurn i + 1 → Proper (rowTurn i + (2 + maxResources)) f → Proper n (teamFields z i k f)
   unfolding teamFields
   team-proper i k hi l h =
       either-proper (strategic k)
-      (number-field (lit< tt) (omega arith) (omega arith) (λ t _ _. bounds-proper i (z .resources) 0 hi (omega arith) (omega arith) h))
+      (number-field (lit< tt) (omega arith) (omega arith) (λ t _ _. each-proper (rowTurn i + 2) (λ m. bound) (λ j. Field i (boundByte + j)) (λ j hj. (omega arith, omega arith)) (λ m. bound-clear) (z .resources) 0 (omega arith) (omega arith) (sooner (omega arith) h)))
       (sooner (omega arith) h)
 
   operands-proper : {n : ℕ} (i k : ℕ) {f : Format} → i < maxRows → n ≤ rowTurn i + (2 + maxResources) → Proper (rowTurn i + rowBytes) f → Proper n (operandFields z i k f)
@@ -163,12 +163,6 @@ size-proper : {n : ℕ} (sep f high : ℕ) {k : ℕ → Format} → sep < 48 →
 unfolding size
 size-proper sep f high hs l h g = number-field hs l h (λ v _ m. g v (omega arith))
 
-resources-proper : {n : ℕ} (e : Edition) (left j : ℕ) {f : Format} → j + left ≤ maxResources → n ≤ headerBytes + j → Proper (stateTurn 0) f → Proper n (resourceFields e left j f)
-unfolding resourceFields
-resources-proper e zero j hj l h = sooner (omega arith) h
-resources-proper e (suc left) j hj l h =
-    clear-field (resource-clear e left) l (omega arith) (λ v _. resources-proper e left (suc j) (omega arith) (omega arith) h)
-
 header-proper : (e : Edition) {f : Sizes → Format} → ((z : Sizes) → Small z → Proper (stateTurn 0) (f z)) → Proper 0 (headerLine e f)
 unfolding headerLine
 header-proper e h =
@@ -178,7 +172,7 @@ header-proper e h =
     size-proper comma 2 maxStates (lit< tt) (omega arith) (omega arith) λ m hm.
     size-proper comma 3 maxPropositions (lit< tt) (omega arith) (omega arith) λ p hp.
     size-proper (sizesEnd e) 4 maxRows (end-small e (lit< tt)) (omega arith) (omega arith) λ w hw.
-    resources-proper e r 0 (omega arith) (omega arith)
+    each-proper headerBytes (resourceSpelling e) ResourceKind (λ j hj. (omega arith, omega arith)) (resource-clear e) r 0 (omega arith) (omega arith)
     (h _ (record { agents-small = hn; resources-small = hr; states-small = hm; rows-small = hw })))
 
 pub job-proper : (e : Edition) → Proper 0 (job e)

@@ -18,7 +18,7 @@ use Rattle.text.specs.declared.sizes.Sizes.{Sizes}
 use Rattle.text.specs.Inner.Fields.{sizesOf}
 use Rattle.text.specs.Numeral.{comma}
 use Rattle.text.specs.Format.{Spelling, Format, end, value}
-use Rattle.text.specs.Job.{bound, kindSpelling, index, maskSpelling, stateLine, costSpelling, costs, actions, countSpelling, actsLine, agentLines, possible, jointFields, byEdition, nextSpelling, goWord, goActions, goState, nextField, nextFields, noCounts, stateLines, states as allStates, strategic, binary, boundFields, teamSpelling, teamFields, leftSpelling, rightSpelling, operandFields, rowLine, rowLines, sizeSpelling, size, resourceSpelling, resourceFields, sizesEnd, headerLine, job}
+use Rattle.text.specs.Job.{bound, kindSpelling, index, maskSpelling, stateLine, costSpelling, eachResource, actions, countSpelling, actsLine, agentLines, possible, jointFields, byEdition, nextSpelling, goWord, goActions, goState, nextField, nextFields, noCounts, stateLines, states as allStates, strategic, binary, teamSpelling, teamFields, leftSpelling, rightSpelling, operandFields, rowLine, rowLines, sizeSpelling, size, resourceSpelling, sizesEnd, headerLine, job}
 use Rattle.text.proofs.Formats.{Every}
 
 -- Q holds of each number from j to below e
@@ -46,20 +46,24 @@ told b s zero a counts = counts
 told b s (suc n) a counts = told b s n (suc a) (set counts a (count b s a))
 
 module _ (P : Spelling → Place → Type 0) (b : Block) where
+  -- the field of resource j, where resources up to r follow
+  abbrev ResourceField : (ℕ → Spelling) → (ℕ → Place) → ℕ → ℕ → Type 0
+  ResourceField spelling place r j = P (spelling (r - suc j)) (place j)
+
+  each-every : (spelling : ℕ → Spelling) (place : ℕ → Place) (r left j : ℕ) (f : Format) → j + left ≡ r → Every P (eachResource spelling place left j f) b ↔ (Between j r (ResourceField spelling place r) × Every P f b)
+  unfolding eachResource
+  each-every spelling place r zero j f e = loop-end (omega arith)
+  each-every spelling place r (suc left) j f e =
+      let last : left ≡ r - suc j = omega arith in
+      loop-step (omega arith) (rw last Iff·rfl) (each-every spelling place r left (suc j) f (omega arith))
+
   -- the cost of action k in resource j, where left further actions and resources up to r follow
   abbrev CostField : ℕ → ℕ → ℕ → ℕ → ℕ → ℕ → Type 0
-  CostField s a left r k j = P (costSpelling k (left + (r - suc j))) (Cost s a k j)
+  CostField s a left r k = ResourceField (λ m. costSpelling k (left + m)) (Cost s a k) r
 
   abbrev CountFields : ℕ → ℕ → ℕ → Type 0
   CountFields r s a =
       P countSpelling (Count s a) × Between 0 (count b s a) (λ k. Between 0 r (CostField s a (count b s a - suc k) r k))
-
-  costs-every : (s a left k r m j : ℕ) (f : Format) → j + m ≡ r → Every P (costs s a left k m j f) b ↔ (Between j r (CostField s a left r k) × Every P f b)
-  unfolding costs
-  costs-every s a left k r zero j f e = loop-end (omega arith)
-  costs-every s a left k r (suc m) j f e =
-      let last : m ≡ r - suc j = omega arith in
-      loop-step (omega arith) (rw last Iff·rfl) (costs-every s a left k r m (suc j) f (omega arith))
 
   actions-every : (z : Sizes) (s a c left k : ℕ) (f : Format) → k + left ≡ c →
       Every P (actions z s a left k f) b ↔ (Between k c (λ i. Between 0 (z .resources) (CostField s a (c - suc i) (z .resources) i)) × Every P f b)
@@ -68,7 +72,7 @@ module _ (P : Spelling → Place → Type 0) (b : Block) where
   actions-every z s a c (suc left) k f e =
       let last : left ≡ c - suc k = omega arith in
       loop-step (omega arith)
-      (rw last (costs-every s a (c - suc k) k (z .resources) (z .resources) 0 _ (omega arith)))
+      (rw last (each-every (λ m. costSpelling k (c - suc k + m)) (Cost s a k) (z .resources) (z .resources) 0 _ (omega arith)))
       (actions-every z s a c left (suc k) f (omega arith))
 
   agents-every : (z : Sizes) (s n left a : ℕ) (counts : List ℕ) (f : List ℕ → Format) → a + left ≡ n →
@@ -144,18 +148,13 @@ module _ (P : Spelling → Place → Type 0) (b : Block) where
   states-every z n zero s f e = loop-end (omega arith)
   states-every z n (suc left) s f e = loop-step (omega arith) (state-every z s _) (states-every z n left (suc s) f (omega arith))
 
-  bounds-every : (i r left j : ℕ) (f : Format) → j + left ≡ r → Every P (boundFields i left j f) b ↔ (Between j r (λ j. P bound (Field i (boundByte + j))) × Every P f b)
-  unfolding boundFields
-  bounds-every i r zero j f e = loop-end (omega arith)
-  bounds-every i r (suc left) j f e = loop-step (omega arith) Iff·rfl (bounds-every i r left (suc j) f (omega arith))
-
   abbrev TeamFields : Sizes → ℕ → Type 0
   TeamFields z i = P (teamSpelling z) (Field i 3) × Between 0 (z .resources) (λ j. P bound (Field i (boundByte + j)))
 
   team-every : (z : Sizes) (i k : ℕ) (f : Format) → Every P (teamFields z i k f) b ↔ ((T (strategic k) → TeamFields z i) × Every P f b)
   unfolding teamFields
   team-every z i k f =
-      let bounds = bounds-every i (z .resources) (z .resources) 0 f (omega arith) in
+      let bounds = each-every (λ m. bound) (λ j. Field i (boundByte + j)) (z .resources) (z .resources) 0 f (omega arith) in
       test-every (strategic k) _ f (λ x. ((x .0, bounds .0 (x .1) .0), bounds .0 (x .1) .1), λ y. (y .0 .0, bounds .1 (y .0 .1, y .1)))
 
   abbrev LeftField : Sizes → ℕ → ℕ → Type 0
@@ -195,17 +194,6 @@ module _ (P : Spelling → Place → Type 0) (b : Block) where
   abbrev SizeField : ℕ → ℕ → ℕ → Type 0
   SizeField sep f high = P (sizeSpelling sep high) (Header f)
 
-  -- the kind of resource j, where resources up to r follow
-  abbrev ResourceField : Edition → ℕ → ℕ → Type 0
-  ResourceField e r j = P (resourceSpelling e (r - suc j)) (ResourceKind j)
-
-  resources-every : (e : Edition) (r left j : ℕ) (f : Format) → j + left ≡ r → Every P (resourceFields e left j f) b ↔ (Between j r (ResourceField e r) × Every P f b)
-  unfolding resourceFields
-  resources-every e r zero j f q = loop-end (omega arith)
-  resources-every e r (suc left) j f q =
-      let last : left ≡ r - suc j = omega arith in
-      loop-step (omega arith) (rw last Iff·rfl) (resources-every e r left (suc j) f (omega arith))
-
   -- what holds of each field of a block's text in an edition
   pub record Everywhere (e : Edition) : Type 0 where
     pub agents-field : SizeField comma 0 maxAgents
@@ -213,7 +201,7 @@ module _ (P : Spelling → Place → Type 0) (b : Block) where
     pub states-field : SizeField comma 2 maxStates
     pub propositions-field : SizeField comma 3 maxPropositions
     pub rows-field : SizeField (sizesEnd e) 4 maxRows
-    pub resource-fields : Between 0 (resources b) (ResourceField e (resources b))
+    pub resource-fields : Between 0 (resources b) (ResourceField (resourceSpelling e) ResourceKind (resources b))
     pub state-fields : Between 0 (states b) (StateFields (sizesOf e b))
     pub row-fields : Between 0 (rows b) (RowFields (sizesOf e b))
 
@@ -221,7 +209,7 @@ module _ (P : Spelling → Place → Type 0) (b : Block) where
   unfolding job headerLine size
   job-every e =
       let z = sizesOf e b in
-      let kinds = resources-every e (resources b) (resources b) 0 (allStates z (states b) 0 (rowLines z (rows b) 0 end)) (omega arith) in
+      let kinds = each-every (resourceSpelling e) ResourceKind (resources b) (resources b) 0 (allStates z (states b) 0 (rowLines z (rows b) 0 end)) (omega arith) in
       let body = states-every z (states b) (states b) 0 (rowLines z (rows b) 0 end) (omega arith) in
       let lines = rows-every z (rows b) (rows b) 0 end (omega arith) in (
         λ x. let (k, h) = kinds .0 (x .1 .1 .1 .1 .1) in let (s, g) = body .0 h in record {

@@ -3,18 +3,17 @@
 use mathlib.Core.Bool.{cond}
 use mathlib.Core.List.{List}
 use mathlib.Core.Path.{refl}
-use Prim.Native.Nat.{ℕ, _+_}
+use Prim.Native.Nat.{ℕ}
 use Rattle.block.specs.Layout.{digit}
-use Rattle.block.specs.declared.layout.Place.the-variants.{Cost, Field, ResourceKind}
-use Rattle.text.specs.declared.sizes.Edition.{Edition}
+use Rattle.block.specs.declared.layout.Place.{Place}
 use Rattle.text.specs.declared.sizes.Sizes.{Sizes}
-use Rattle.text.specs.Format.{value}
-use Rattle.text.specs.Job.{bound, index, costSpelling, costs, actions, possible, jointFields, nextField, nextFields, stateLines, states, boundFields, rowLine, rowLines, resourceSpelling, resourceFields}
+use Rattle.text.specs.Format.{Spelling, value}
+use Rattle.text.specs.Job.{index, eachResource, costs, actions, possible, jointFields, nextField, nextFields, stateLines, states, rowLine, rowLines}
 use Rattle.text.proofs.Loops.{Loop}
 
-pub costs-loop : (s a n k : ℕ) → Loop (costs s a n k) (λ left j f. value (costSpelling k (n + left)) (Cost s a k j) (λ v. f))
-unfolding costs
-costs-loop s a n k = record { done = λ j f. refl; more = λ m j f. refl }
+pub each-loop : (spelling : ℕ → Spelling) (place : ℕ → Place) → Loop (eachResource spelling place) (λ left j f. value (spelling left) (place j) (λ v. f))
+unfolding eachResource
+each-loop spelling place = record { done = λ j f. refl; more = λ m j f. refl }
 
 pub actions-loop : (z : Sizes) (s a : ℕ) → Loop (actions z s a) (λ left k f. costs s a left k (z .resources) 0 f)
 unfolding actions
@@ -32,14 +31,6 @@ pub states-loop : (z : Sizes) → Loop (states z) (λ left s f. stateLines z s f
 unfolding states
 states-loop z = record { done = λ j f. refl; more = λ m j f. refl }
 
-pub bounds-loop : (i : ℕ) → Loop (boundFields i) (λ left j f. value bound (Field i (4 + j)) (λ v. f))
-unfolding boundFields
-bounds-loop i = record { done = λ j f. refl; more = λ m j f. refl }
-
 pub rows-loop : (z : Sizes) → Loop (rowLines z) (λ left i f. rowLine z i f)
 unfolding rowLines
 rows-loop z = record { done = λ j f. refl; more = λ m j f. refl }
-
-pub resources-loop : (e : Edition) → Loop (resourceFields e) (λ left j f. value (resourceSpelling e left) (ResourceKind j) (λ v. f))
-unfolding resourceFields
-resources-loop e = record { done = λ j f. refl; more = λ m j f. refl }

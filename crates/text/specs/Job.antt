@@ -6,6 +6,7 @@ use Prim.Native.Nat.{ℕ, zero, suc, _+_, _^_}
 use lib.Dec.{ltb, leb, eqb}
 use lib.ListN.{getD, set}
 use Rattle.block.specs.Layout.{maxAgents, maxResources, maxStates, maxPropositions, maxRows, maxActions, maxUnits, maxJoint, agentsByte, resourcesByte, statesByte, propositionsByte, rowsByte, kindByte, leftByte, rightByte, teamByte, boundByte, unlimited, sumKind, maxKind, propKind, orKind, nextKind, untilKind, kinds, digit}
+use Rattle.block.specs.declared.layout.Place.{Place}
 use Rattle.block.specs.declared.layout.Place.the-variants.{Header, Mask, Count, Cost, Next, Field, ResourceKind}
 use Rattle.block.specs.declared.refusal.Refusal.{Refusal}
 use Rattle.block.specs.declared.refusal.Refusal.the-variants as refusal
@@ -103,10 +104,14 @@ costLimit k = cond (eqb k 0) 1 (suc maxUnits)
 abbrev pub costSpelling : ℕ → ℕ → Spelling
 costSpelling k left = number (listEnd left) 0 (costLimit k) refusal.State
 
+-- a field for each of n resources from resource j on, each spelled by how many follow it
+unfoldable pub eachResource : (ℕ → Spelling) → (ℕ → Place) → ℕ → ℕ → Format → Format
+eachResource spelling place zero j f = f
+eachResource spelling place (suc n) j f = value (spelling n) (place j) (λ v. eachResource spelling place n (suc j) f)
+
 -- the costs of action k from resource j on: m of them, and then n further actions
-unfoldable pub costs : ℕ → ℕ → ℕ → ℕ → ℕ → ℕ → Format → Format
-costs s a n k zero j f = f
-costs s a n k (suc m) j f = value (costSpelling k (n + m)) (Cost s a k j) (λ v. costs s a n k m (suc j) f)
+abbrev pub costs : ℕ → ℕ → ℕ → ℕ → ℕ → ℕ → Format → Format
+costs s a n k = eachResource (λ m. costSpelling k (n + m)) (Cost s a k)
 
 -- n actions from action k on
 unfoldable pub actions : Sizes → ℕ → ℕ → ℕ → ℕ → Format → Format
@@ -189,9 +194,8 @@ abbrev pub binary : ℕ → Bool
 binary k = either (eqb k orKind) (eqb k untilKind)
 
 -- n bounds from resource j on
-unfoldable pub boundFields : ℕ → ℕ → ℕ → Format → Format
-boundFields i zero j f = f
-boundFields i (suc n) j f = value bound (Field i (boundByte + j)) (λ v. boundFields i n (suc j) f)
+abbrev pub boundFields : ℕ → ℕ → ℕ → Format → Format
+boundFields i = eachResource (λ m. bound) (λ j. Field i (boundByte + j))
 
 -- a team is a mask of agents, never 0
 abbrev pub teamSpelling : Sizes → Spelling
@@ -245,9 +249,8 @@ resourceSpelling e left = record {
 }
 
 -- the kinds of n resources from resource j on
-unfoldable pub resourceFields : Edition → ℕ → ℕ → Format → Format
-resourceFields e zero j f = f
-resourceFields e (suc n) j f = value (resourceSpelling e n) (ResourceKind j) (λ v. resourceFields e n (suc j) f)
+abbrev pub resourceFields : Edition → ℕ → ℕ → Format → Format
+resourceFields e = eachResource (resourceSpelling e) ResourceKind
 
 -- the first word, and the byte after F, which the kinds follow in edition 2
 abbrev pub jobWord : Edition → List ℕ

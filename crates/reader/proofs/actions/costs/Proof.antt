@@ -7,7 +7,7 @@ use Rattle.block.specs.Layout.{blockBytes}
 use Rattle.text.specs.Job as J
 use Rattle.scan.specs.Inner.Step.{Inside}
 use Rattle.reader.proofs.Progress.{Reached, reached-none, reached-more, reached-all}
-use Rattle.text.proofs.JobLoops.{costs-loop}
+use Rattle.text.proofs.JobLoops.{each-loop}
 use borrow.Author.Needs.{needs}
 use Rattle.reader.proofs.actions.costs.Statement.{statement}
 use Rattle.reader.proofs.actions.costs.Tie as tie
@@ -45,13 +45,13 @@ loop-again : tie.Need-loop-again Inv-loop μ-loop
 loop-again c =
     let inv = c .before .before .before .before .before .loop .inv in
     let call = c .before .before .cost in
-    (call .ensures .1, call .kept .1 .1 .0 ∙ inv .1, omega arith, reached-more (costs-loop _ _ _ _) (inv .3) (c .before .before .before .before .loop-test .taken) (call .ensures .0))
+    (call .ensures .1, call .kept .1 .1 .0 ∙ inv .1, omega arith, reached-more (each-loop _ _) (inv .3) (c .before .before .before .before .loop-test .taken) (call .ensures .0))
 
 same-length : tie.Need-same-length Inv-loop μ-loop
 same-length c = c .before .loop .inv .1 ∙ sym (c .before .before .before .before .pre .0 .1)
 
 returns : tie.Need-returns Inv-loop μ-loop
-returns c = (reached-all (costs-loop _ _ _ _) (c .before .loop .inv .3) (c .loop-test .left), c .before .loop .inv .0)
+returns c = (reached-all (each-loop _ _) (c .before .loop .inv .3) (c .loop-test .left), c .before .loop .inv .0)
 
 pub costs-spec : {M : Type 1} → statement M
 costs-spec =

@@ -7,7 +7,7 @@ use Rattle.block.specs.Layout.{placeOf}
 use Rattle.block.specs.declared.layout.Place.the-variants.{Cost}
 use Rattle.text.specs.Format.{write}
 use Rattle.text.specs.Job as J
-use Rattle.text.proofs.JobLoops.{costs-loop}
+use Rattle.text.proofs.JobLoops.{each-loop}
 use Rattle.writer.specs.Inner.Lengths.{fieldBytes}
 use Rattle.writer.proofs.Writing.{Looped, looped-none, looped-more, looped-all}
 use Rattle.writer.proofs.agents.costs.Statement.{statement}
@@ -61,7 +61,7 @@ loop-again c =
     let cost = c .before .before .before .cost .ensures in
     let number = c .before .before .number .ensures in
     let b = g .block .now in
-    (omega arith, (omega arith, (omega arith, looped-more (costs-loop (g .s) (g .a) (g .n) (g .k)) (inv .1 .1 .1) (omega arith) (λ f. rw (cost, list-end) at (number .0 (write f b))))))
+    (omega arith, (omega arith, (omega arith, looped-more (each-loop _ _) (inv .1 .1 .1) (omega arith) (λ f. rw (cost, list-end) at (number .0 (write f b))))))
 
 same-length : tie.Need-same-length Inv-loop μ-loop
 same-length c = omega arith
@@ -71,7 +71,7 @@ returns c =
     let g = c .before .before .before .before .before .args in
     let resources = c .before .before .resources .ensures in
     let inv = c .before .loop .inv in
-    (looped-all (costs-loop (g .s) (g .a) (g .n) (g .k)) (rw resources at (inv .1 .1 .1)) (omega arith), omega arith)
+    (looped-all (each-loop _ _) (rw resources at (inv .1 .1 .1)) (omega arith), omega arith)
 
 pub costs-spec : {M : Type 1} → statement M
 costs-spec =

@@ -6,7 +6,7 @@ use lib.ListN.{length}
 use Rattle.text.specs.declared.sizes.Edition.the-variants.{Second}
 use Rattle.text.specs.Format.{write}
 use Rattle.text.specs.Job as J
-use Rattle.text.proofs.JobLoops.{resources-loop}
+use Rattle.text.proofs.JobLoops.{each-loop}
 use Rattle.writer.specs.Inner.Lengths.{fieldBytes}
 use Rattle.writer.proofs.Writing.{Looped, looped-none, looped-more, looped-all}
 use Rattle.writer.proofs.job.resource_fields.Statement.{statement}
@@ -49,7 +49,7 @@ loop-again : tie.Need-loop-again Inv-loop μ-loop
 loop-again c =
     let inv = c .before .before .before .before .before .before .before .loop .inv in
     let b = c .before .before .before .before .before .before .before .before .before .before .before .args .block .now in
-    (omega arith, (omega arith, (omega arith, looped-more (resources-loop Second) (inv .1 .1 .1) (omega arith) (λ f. rw (c .before .before .before .before .before .resource-kind .ensures, c .before .before .before .list-end .ensures .0) at (c .before .before .resource .ensures .0 (write f b))))))
+    (omega arith, (omega arith, (omega arith, looped-more (each-loop _ _) (inv .1 .1 .1) (omega arith) (λ f. rw (c .before .before .before .before .before .resource-kind .ensures, c .before .before .before .list-end .ensures .0) at (c .before .before .resource .ensures .0 (write f b))))))
 
 same-length : tie.Need-same-length Inv-loop μ-loop
 same-length c = omega arith
@@ -58,7 +58,7 @@ returns : tie.Need-returns Inv-loop μ-loop
 returns c =
     let resources = c .before .before .resources .ensures in
     let inv = c .before .loop .inv in
-    (looped-all (resources-loop Second) (rw resources at (inv .1 .1 .1)) (omega arith), omega arith)
+    (looped-all (each-loop _ _) (rw resources at (inv .1 .1 .1)) (omega arith), omega arith)
 
 pub resource-fields-spec : {M : Type 1} → statement M
 resource-fields-spec =

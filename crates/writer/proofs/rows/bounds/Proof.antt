@@ -7,7 +7,7 @@ use Rattle.block.specs.Layout.{placeOf}
 use Rattle.block.specs.declared.layout.Place.the-variants.{Field}
 use Rattle.text.specs.Format.{write}
 use Rattle.text.specs.Job as J
-use Rattle.text.proofs.JobLoops.{bounds-loop}
+use Rattle.text.proofs.JobLoops.{each-loop}
 use Rattle.writer.specs.Inner.Lengths.{fieldBytes}
 use Rattle.writer.proofs.Writing.{Looped, looped-none, looped-more, looped-all}
 use Rattle.writer.proofs.rows.bounds.Statement.{statement}
@@ -46,7 +46,7 @@ loop-again c =
     let bound = c .before .before .before .bound .ensures in
     let bound2 = c .before .before .bound2 .ensures in
     let b = g .block .now in
-    (omega arith, (omega arith, (omega arith, looped-more (bounds-loop (g .i)) (inv .1 .1 .1) (omega arith) (λ f. rw bound at (bound2 .0 (write f b))))))
+    (omega arith, (omega arith, (omega arith, looped-more (each-loop _ _) (inv .1 .1 .1) (omega arith) (λ f. rw bound at (bound2 .0 (write f b))))))
 
 same-length : tie.Need-same-length Inv-loop μ-loop
 same-length c = omega arith
@@ -56,7 +56,7 @@ returns c =
     let g = c .before .before .before .before .before .args in
     let resources = c .before .before .resources .ensures in
     let inv = c .before .loop .inv in
-    (looped-all (bounds-loop (g .i)) (rw resources at (inv .1 .1 .1)) (omega arith), omega arith)
+    (looped-all (each-loop _ _) (rw resources at (inv .1 .1 .1)) (omega arith), omega arith)
 
 pub bounds-spec : {M : Type 1} → statement M
 bounds-spec =
