@@ -7,6 +7,7 @@ mod teamwork;
 use crate::layout::*;
 use crate::random::{any_block, fill_kinds, Rng};
 pub use long::{maze, ring};
+use std::ops::RangeInclusive;
 use teamwork::side_by_side;
 pub use teamwork::{teamwork, tiny_teamwork};
 
@@ -91,22 +92,32 @@ fn punish_idling(rng: &mut Rng, block: &mut [u8], driver: u8) {
 /// Few positions and as many rows as there can be: a row needs few of those
 /// below it, and some of these through others.
 pub fn crowd(rng: &mut Rng) -> Vec<u8> {
-    let sizes = Sizes {
+    let sizes = pair(rng, 2..=5, MAX_ROWS);
+    let shape = small_shape(sizes, 2, driver(rng, sizes.agents));
+    block(rng, shape)
+}
+
+/// Two agents and few states.
+fn pair(rng: &mut Rng, states: RangeInclusive<usize>, rows: usize) -> Sizes {
+    Sizes {
         agents: 2,
         resources: rng.within(1..=2),
-        states: rng.within(2..=5),
+        states: rng.within(states),
         propositions: 2,
-        rows: MAX_ROWS,
-    };
-    let shape = Shape {
+        rows,
+    }
+}
+
+/// Two actions each, which cost little.
+fn small_shape(sizes: Sizes, bound: u8, driver: u8) -> Shape {
+    Shape {
         sizes,
         actions: 2,
         cost: 2,
-        bound: 2,
+        bound,
         fixed: false,
-        driver: driver(rng, sizes.agents),
-    };
-    block(rng, shape)
+        driver,
+    }
 }
 
 /// The strategic rows that need a row only through others and leave one out.

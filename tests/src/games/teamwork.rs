@@ -1,7 +1,7 @@
 //! Jobs whose driver has to act together, so that the kind of a resource matters:
 //! in others one agent's action mostly decides.
 
-use super::{block, few_sizes, Shape};
+use super::{block, few_sizes, pair, small_shape, Shape};
 use crate::layout::*;
 use crate::random::Rng;
 
@@ -36,23 +36,9 @@ fn act_together(rng: &mut Rng, shape: Shape) -> Vec<u8> {
 
 /// So small that strategies can be tried outright.
 pub fn tiny_teamwork(rng: &mut Rng) -> Vec<u8> {
-    let sizes = Sizes {
-        agents: 2,
-        resources: rng.within(1..=2),
-        states: rng.within(2..=3),
-        propositions: 2,
-        rows: 7,
-    };
+    let sizes = pair(rng, 2..=3, 7);
     let bound = if sizes.resources == 1 { 3 } else { 1 };
-    let shape = Shape {
-        sizes,
-        actions: 2,
-        cost: 2,
-        bound,
-        fixed: false,
-        driver: 3,
-    };
-    act_together(rng, shape)
+    act_together(rng, small_shape(sizes, bound, 3))
 }
 
 /// The driver leads on, and often keeps the common propositions, only where all its

@@ -278,5 +278,22 @@ fn continues(other: &str, rest: &str) -> bool {
 
 /// The text of edition 1.
 fn text_of(block: &[u8]) -> String {
-    String::from_utf8(text::write_as(Edition::One, block)).expect("plain text")
+    text_in(Edition::One, block)
+}
+
+fn text_in(edition: Edition, block: &[u8]) -> String {
+    String::from_utf8(text::write_as(edition, block)).expect("plain text")
+}
+
+/// The next states of the first and the last of so many states are below their
+/// number; the actions stand before them.
+fn next_states_are_states(edition: Edition, actions: &str) {
+    for states in [1, 2, 9, 10, 11, 24] {
+        let text = text_in(edition, &smallest(1, 1, states, 1, 1));
+        let last = states as u8 - 1;
+        for state in [0, last] {
+            let marked = format!("go,{state},{actions}[0]");
+            Field::of(&text, &marked).holds(next(state.into(), 0), 0..=last, 4);
+        }
+    }
 }

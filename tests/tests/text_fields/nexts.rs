@@ -2,18 +2,13 @@
 
 use super::*;
 
-/// The text of edition 2.
-fn text_2_of(block: &[u8]) -> String {
-    String::from_utf8(text::write(block)).expect("plain text")
-}
-
 #[test]
 fn state_index() {
     for marked in ["go,[0],0,1,1,0", "go,[1],1"] {
         Field::of(WIDE_2, marked).is_fixed();
     }
     Field::of(CATCH_2, "go,[2],2").is_fixed();
-    let text = text_2_of(&smallest(1, 1, 24, 1, 1));
+    let text = text_in(Edition::Two, &smallest(1, 1, 24, 1, 1));
     Field::of(&text, "go,[23],0").is_fixed();
 }
 
@@ -35,13 +30,7 @@ fn next_state_exists() {
     ] {
         Field::of(CATCH_2, marked).holds(place, 0..=2, 4);
     }
-    for states in [1, 2, 9, 10, 11, 24] {
-        let text = text_2_of(&smallest(1, 1, states, 1, 1));
-        let last = states as u8 - 1;
-        Field::of(&text, "go,0,[0]").holds(next(0, 0), 0..=last, 4);
-        let marked = format!("go,{last},[0]");
-        Field::of(&text, &marked).holds(next(states - 1, 0), 0..=last, 4);
-    }
+    next_states_are_states(Edition::Two, "");
 }
 
 /// One next state for each joint action, no fewer and no more; the field with the
@@ -114,7 +103,7 @@ fn rising_joint_number() {
     for (place, joint) in joints.into_iter().enumerate() {
         job[next(0, joint)] = place as u8 + 1;
     }
-    let text = text_2_of(&job);
+    let text = text_in(Edition::Two, &job);
     assert!(
         text.contains("\ngo,0,1,2,3,4,5,6,7,8,9,10,11,12\n"),
         "{text}"

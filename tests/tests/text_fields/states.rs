@@ -195,11 +195,5 @@ fn next_state_exists() {
     Field::of(WIDE, "go,0,0,0,1,[1]").holds(next(0, 16), 0..=1, 4);
     Field::of(WIDE, "go,0,1,0,1,[0]").holds(next(0, 17), 0..=1, 4);
     Field::of(&catch(), "go,0,1,1,[0]").holds(next(0, 5), 0..=2, 4);
-    for states in [1, 2, 9, 10, 11, 24] {
-        let text = text_of(&smallest(1, 1, states, 1, 1));
-        let last = states as u8 - 1;
-        Field::of(&text, "go,0,0,[0]").holds(next(0, 0), 0..=last, 4);
-        let marked = format!("go,{last},0,[0]");
-        Field::of(&text, &marked).holds(next(states - 1, 0), 0..=last, 4);
-    }
+    next_states_are_states(Edition::One, "0,");
 }

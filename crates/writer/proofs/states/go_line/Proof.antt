@@ -6,7 +6,7 @@ use lib.ListN.{length}
 use Rattle.block.specs.Layout.{maxJoint}
 use Rattle.text.specs.Job as J
 use Rattle.text.proofs.JobLoops.{nexts-loop}
-use Rattle.writer.specs.Inner.Lengths.{fieldBytes}
+use Rattle.writer.specs.Inner.Lengths.{fieldBytes, indexBytes}
 use Rattle.writer.specs.Inner.Writing.{writtenSizes}
 use Rattle.writer.proofs.Writing.{Looped, looped-none, looped-more, looped-all}
 use borrow.Author.Needs.{needs}
@@ -32,7 +32,7 @@ loop-holds : tie.Need-loop-holds Inv-loop μ-loop
 loop-holds c = (omega arith, (refl, (omega arith, looped-none)))
 
 -- the loop begins within the room of the line's beginning
-begins : (c : tie.After-number Inv-loop μ-loop) → c .number .result ≤ c .before .before .before .before .before .before .before .before .before .args .at + 6
+begins : (c : tie.After-number Inv-loop μ-loop) → c .number .result ≤ c .before .before .before .before .before .before .before .before .before .args .at + 3 + indexBytes
 begins c = omega (arith, c .number .ensures .1 .1 (omega arith), c .before .before .before .before .word .ensures)
 
 next-field-if-requires : tie.Need-next-field-if-requires Inv-loop μ-loop
