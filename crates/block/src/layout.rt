@@ -1,8 +1,8 @@
 // Where each field of a job stands in its block. No other module computes an offset.
 use crate::widths::wide;
 ghost use mathlib.Core.Path.{_≡_};
-ghost use Prim.Native.Nat.{_<_};
-ghost use lib.ListN.{length};
+ghost use Prim.Native.Nat.{_+_, _<_};
+ghost use lib.ListN.{length, set};
 ghost use Rattle.block.specs.Layout as L;
 ghost use Rattle.block.specs.Layout.{blockBytes, maxStates, maxAgents, maxActions, maxResources, maxJoint, maxRows, rowBytes, placeOf, byteAt, at};
 ghost use Rattle.block.specs.Inner.Places.{InLayout};
@@ -339,6 +339,15 @@ pub fn bound(block: &[u8], i: usize, j: usize) -> usize
     ensures { λ r. ⌜ r ≡ L.bound (now (block .entry)) i j ⌝ }
 {
     field(block, i, BOUND_BYTE + j)
+}
+
+// Stores the bound of row i on resource j.
+pub fn set_bound(block: &mut [u8], i: usize, j: usize, v: u8)
+    requires { ⌜ length (now block) ≡ blockBytes ⌝ }
+    requires { ⌜ (i < maxRows) × (j < maxResources) ⌝ }
+    ensures { λ _. ⌜ now (block .exit) ≡ set (now (block .entry)) (placeOf (Place.Field i (L.boundByte + j))) v ⌝ }
+{
+    block[field_place(i, BOUND_BYTE + j)] = v;
 }
 
 // The kind of resource j.

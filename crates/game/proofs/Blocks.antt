@@ -2,6 +2,7 @@
 pub mod Reading
 pub mod Passing
 pub mod Formulas
+pub mod OneRow
 pub mod Tables
 pub mod Labels
 pub mod Tests

@@ -5,3 +5,4 @@ pub mod Moves
 pub mod Plays
 pub mod Strategies
 pub mod Truth
+pub mod Agreeing

@@ -35,12 +35,16 @@ structureOf b = record {
 abbrev pub boundOf : ℕ → Bound
 boundOf n = cond (eqb n L.unlimited) unlimited (limit n)
 
--- the coalition and the bounds of row i. An absent resource is unlimited, so that its stock is 0
+-- the coalition of row i
 abbrev pub coalitionOf : Block → ℕ → Coalition
 coalitionOf b i a = bit (L.team b i) a
 
+-- the bounds that a number for each resource stands for, and those of row i. An absent resource is unlimited, so that its stock is 0
+abbrev pub boundsBy : Block → (ℕ → ℕ) → Bounds
+boundsBy b x r = cond (ltb r (L.resources b)) (boundOf (x r)) unlimited
+
 abbrev pub boundsOf : Block → ℕ → Bounds
-boundsOf b i r = cond (ltb r (L.resources b)) (boundOf (L.bound b i r)) unlimited
+boundsOf b i = boundsBy b (L.bound b i)
 
 -- what stands for each kind of row
 abbrev pub byKind {ℓ} : {A : Type ℓ} → ℕ → A → A → A → A → A → A → A
@@ -51,15 +55,17 @@ byKind k prop not or next always until =
     (cond (eqb k L.nextKind) next
     (cond (eqb k L.alwaysKind) always until))))
 
--- the formula of row i, from the formulas of lower rows
-abbrev pub rowFormula : Block → ℕ → (ℕ → Formula) → Formula
-rowFormula b i lower =
+-- the formula of row i with these bounds, from the formulas of lower rows; and with its own
+abbrev pub formulaWith : Block → ℕ → Bounds → (ℕ → Formula) → Formula
+formulaWith b i bounds lower =
     let left = lower (L.left b i) in
     let right = lower (L.right b i) in
     let A = coalitionOf b i in
-    let bounds = boundsOf b i in
     byKind (L.kind b i)
     (R.prop (L.left b i)) (R.not left) (R.or left right) (R.next A bounds left) (R.always A bounds left) (R.until A bounds left right)
+
+abbrev pub rowFormula : Block → ℕ → (ℕ → Formula) → Formula
+rowFormula b i = formulaWith b i (boundsOf b i)
 
 -- the formulas of the rows below row i. A row names lower rows only, so what stands for the others is never asked for
 abbrev pub formulasBelow : Block → ℕ → ℕ → Formula
@@ -72,6 +78,10 @@ formulaOf b i = rowFormula b i (formulasBelow b i)
 -- row i is true in state q
 abbrev pub RowTrue : Block → ℕ → ℕ → Type 0
 RowTrue b i q = Sat (structureOf b) (formulaOf b i) q
+
+-- with these bounds in the place of its own, over the same lower rows
+abbrev pub RowTrueWith : Block → ℕ → Bounds → ℕ → Type 0
+RowTrueWith b i bounds q = Sat (structureOf b) (formulaWith b i bounds (formulasBelow b i)) q
 
 -- the word w is row i's set: bit s for state s (document 01, "Sets are 32-bit words")
 abbrev pub RowSet : Block → ℕ → ℕ → Type 0

@@ -1,10 +1,11 @@
 -- `read` reads into a blank block and copies it where the text is accepted. Assumes nothing.
 use mathlib.Core.Path.{_≡_, refl, sym, _∙_}
+use Rattle.block.proofs.Copies.{copied}
 use Rattle.text.specs.Format.{accepted, refused}
 use Rattle.text.specs.Text.{blank, readCall}
 use Rattle.text.proofs.Accepts.{accepts}
 use Rattle.text.proofs.Numbered.{numbered}
-use Rattle.reader.proofs.Calls.{read-long, read-other, read-whole, copied}
+use Rattle.reader.proofs.Calls.{read-long, read-other, read-whole}
 use borrow.Author.Needs.{needs}
 use Rattle.reader.proofs.read.Statement.{statement}
 use Rattle.reader.proofs.read.Tie as tie

@@ -1,0 +1,109 @@
+-- Two blocks that differ in some fields of row i alone: their structures agree, the formulas below row i are the same, and so with any bounds is
+-- the truth of row i itself where only its bounds differ. Assumes nothing.
+use mathlib.Core.Bool.{Bool, cond}
+use mathlib.Core.Logic.{_↔_}
+use mathlib.Core.Path.{_≡_, refl, sym, _∙_, ap, ap₂, fun-ext, subst}
+use Prim.Native.Nat.{ℕ, zero, suc, _+_, _≤_, _<_}
+use native.Mathlib.Decide.{decLt}
+use native.Mathlib.Omega.{arith}
+use lib.Dec.{eqb, ltb}
+use borrow.Author.Tests.{le-ltb}
+use Rattle.block.specs.Layout as L
+use Rattle.block.specs.Layout.{Block}
+use Rattle.block.specs.Inner.Valid.{Valid}
+use Rattle.block.specs.Inner.OneRow.{OnlyFields, IsBound}
+use Rattle.block.proofs.OneRow.{same-header, same-mask, same-count, same-cost, same-next, same-kind, same-field}
+use Rattle.block.specs.declared.layout.Place.the-variants.{Field}
+use Rattle.game.specs.Rbatl as R
+use Rattle.game.specs.Rbatl.{unlimited, Bounds, Formula, Sat}
+use Rattle.game.specs.Position.{joint}
+use Rattle.game.specs.Model.{bit, byKind, combineOf, structureOf, boundOf, boundsBy, formulaWith, rowFormula, formulasBelow, RowTrue, RowTrueWith}
+use Rattle.game.proofs.Bridge.Agreeing.{Agrees, sat-same}
+use Rattle.game.proofs.Blocks.Passing.{joint-available, valid-proper}
+
+-- bounds by the numbers of the resources that there are
+pub bounds-same : (b b′ : Block) → L.resources b′ ≡ L.resources b → (x y : ℕ → ℕ) → ((r : ℕ) → r < L.resources b → x r ≡ y r) → boundsBy b′ x ≡ boundsBy b y
+bounds-same b b′ resources x y same = fun-ext (λ r. ap (λ (n : ℕ). cond (ltb r n) (boundOf (x r)) unlimited) resources ∙ go r (decLt r (L.resources b)))
+  where
+    go : (r : ℕ) → Dec (r < L.resources b) → cond (ltb r (L.resources b)) (boundOf (x r)) unlimited ≡ cond (ltb r (L.resources b)) (boundOf (y r)) unlimited
+    go r (yes l) = ap (λ (n : ℕ). cond (ltb r (L.resources b)) (boundOf n) unlimited) (same r l)
+    go r (no h) =
+        let none : ltb r (L.resources b) ≡ _ = le-ltb r (L.resources b) (omega arith) in
+        ap (λ (t : Bool). cond t (boundOf (x r)) unlimited) none ∙ sym (ap (λ (t : Bool). cond t (boundOf (y r)) unlimited) none)
+
+-- a row's formula by its fields
+abbrev formulaBy : ℕ → ℕ → ℕ → ℕ → Bounds → (ℕ → Formula) → Formula
+formulaBy kind left right team bounds lower =
+    byKind kind
+    (R.prop left) (R.not (lower left)) (R.or (lower left) (lower right))
+    (R.next (bit team) bounds (lower left)) (R.always (bit team) bounds (lower left)) (R.until (bit team) bounds (lower left) (lower right))
+
+module _ {i : ℕ} {Changed : ℕ → Type 0} {b b′ : Block} (valid : Valid b) (inside : i < L.rows b) (only : OnlyFields i Changed b b′) where
+  few : i < L.maxRows
+  few = omega (arith, valid .sized .rows-fit)
+
+  resources-same : L.resources b′ ≡ L.resources b
+  resources-same = same-header few only L.resourcesByte (omega arith)
+
+  structures-agree : Agrees (structureOf b) (structureOf b′)
+  structures-agree = record {
+    agents = agents;
+    resources = resources-same;
+    states = same-header few only L.statesByte (omega arith);
+    holds = λ p q l. ap (λ (m : ℕ). bit m p) (same-mask few only q (state q l));
+    actions = λ q a l la. same-count few only q a (state q l) (agent a la);
+    cost = λ q a k r l la lk lr. same-cost few only q a k r (state q l) (agent a la) (omega (arith, valid .counted q a l la)) (omega (arith, valid .sized .resources-fit));
+    combine = λ r x y. ap (λ (k : ℕ). combineOf k x y) (same-kind few only r);
+    next = λ q m l available.
+        ap (λ (n : ℕ). L.next b′ q (joint n m)) agents
+        ∙ same-next few only q (joint (L.agents b) m) (state q l) (joint-available b valid q m l available .0);
+  }
+    where
+      agents : L.agents b′ ≡ L.agents b
+      agents = same-header few only L.agentsByte (omega arith)
+
+      state : (q : ℕ) → q < L.states b → q < L.maxStates
+      state q l = omega (arith, valid .sized .states-fit)
+
+      agent : (a : ℕ) → a < L.agents b → a < L.maxAgents
+      agent a l = omega (arith, valid .sized .agents-fit)
+
+  -- a row's formula, where its operands and team are the same
+  formula-same : (k : ℕ) → L.kind b′ k ≡ L.kind b k → L.left b′ k ≡ L.left b k → L.right b′ k ≡ L.right b k → L.team b′ k ≡ L.team b k
+      → {bounds bounds′ : Bounds} → bounds′ ≡ bounds → {lower lower′ : ℕ → Formula} → lower′ ≡ lower → formulaWith b′ k bounds′ lower′ ≡ formulaWith b k bounds lower
+  formula-same k ek el er et {bounds} {bounds′} eb {lower} {lower′} eo =
+      let e : formulaBy (L.kind b′ k) (L.left b′ k) (L.right b′ k) (L.team b′ k) bounds′ lower′ ≡ formulaBy (L.kind b k) (L.left b k) (L.right b k) (L.team b k) bounds lower = rw (ek, el, er, et, eb, eo) in
+      e
+
+  -- the formulas of lower rows
+  module _ (k : ℕ) (lower : k < i) where
+    field : (f : ℕ) → f < L.rowBytes → L.at b′ (Field k f) ≡ L.at b (Field k f)
+    field f small = same-field few only k f small (λ e _. omega arith)
+
+    row-same : formulasBelow b′ k ≡ formulasBelow b k → rowFormula b′ k (formulasBelow b′ k) ≡ rowFormula b k (formulasBelow b k)
+    row-same =
+        formula-same k (field L.kindByte (omega arith)) (field L.leftByte (omega arith)) (field L.rightByte (omega arith)) (field L.teamByte (omega arith))
+        (bounds-same b b′ resources-same (L.bound b′ k) (L.bound b k) (λ r lr. field (L.boundByte + r) (omega (arith, valid .sized .resources-fit))))
+
+  formulas-same : (k : ℕ) → k ≤ i → formulasBelow b′ k ≡ formulasBelow b k
+  formulas-same zero l = refl
+  formulas-same (suc k) l =
+      let below = formulas-same k (omega arith) in
+      fun-ext (λ j. ap₂ (cond (eqb j k)) (row-same k (omega arith) below) (ap (λ (lower : ℕ → Formula). lower j) below))
+
+-- row i with any bounds, where only its own bounds differ
+module _ {i : ℕ} {b b′ : Block} (valid : Valid b) (valid′ : Valid b′) (inside : i < L.rows b) (only : OnlyFields i (IsBound b) b b′) where
+  no-bound : (f : ℕ) → f < L.boundByte → L.at b′ (Field i f) ≡ L.at b (Field i f)
+  no-bound f small = same-field (few valid inside only) only i f (omega arith) (λ _ bound. omega (arith, bound))
+
+  pub with-same : (x y : ℕ → ℕ) → ((r : ℕ) → r < L.resources b → x r ≡ y r) → (q : ℕ) → q < L.states b → RowTrueWith b i (boundsBy b y) q ↔ RowTrueWith b′ i (boundsBy b′ x) q
+  with-same x y same q l =
+      let formula =
+      formula-same valid inside only i (no-bound L.kindByte (omega arith)) (no-bound L.leftByte (omega arith)) (no-bound L.rightByte (omega arith)) (no-bound L.teamByte (omega arith))
+      (bounds-same b b′ (resources-same valid inside only) x y same) (formulas-same valid inside only i (omega arith)) in
+      subst (λ (φ : Formula). RowTrueWith b i (boundsBy b y) q ↔ Sat (structureOf b′) φ q) (sym formula)
+      (sat-same (structures-agree valid inside only) (valid-proper b valid) (valid-proper b′ valid′) (formulaWith b i (boundsBy b y) (formulasBelow b i)) q l)
+
+  -- put into the job: the row of the other block is this one's with its bounds
+  pub put-in : (q : ℕ) → q < L.states b → RowTrueWith b i (boundsBy b (L.bound b′ i)) q ↔ RowTrue b′ i q
+  put-in = with-same (L.bound b′ i) (L.bound b′ i) (λ r _. refl)
