@@ -21,9 +21,8 @@ use Rattle.choice.specs.Kinds.{ClaimsBy}
 use Rattle.choice.specs.Tables.{ReplyFor}
 use Rattle.choice.proofs.ByKind.{claims-by}
 use Rattle.solver.specs.Inner.Labels.{Prepared}
-use Rattle.solver.proofs.Labelling.{retold-claims, row-retold}
+use Rattle.solver.proofs.Readiness.{retold-claims, row-retold, ready-table, row-facts, ready-decided}
 use Rattle.game.specs.Demand.{RowReply}
-use Rattle.lookup.proofs.Answering.{ready-table, row-facts, ready-decided}
 
 -- a reply that is right over lower rows' sets is right over their truth
 module _ (G : Arena) (proper : Proper (G .structure)) (X : Table) (p : Position) (fits : IsPosition G p) (m : ℕ) (allowed : Allowed G p m) (r : ℕ) where

@@ -4,6 +4,7 @@ use crate::spots;
 use block::fill;
 use block::refusal::Answer;
 use block::refusal::Refusal;
+use solver::ready;
 use turns::sizes;
 use ways::lines;
 ghost use mathlib.Core.List.{[], _∷_};
@@ -28,7 +29,7 @@ fn coalition_at(block: &[u8], i: usize, s: usize, stocks: &[u8], room: &mut [u8]
     ensures { λ _. ⌜ length (now (room .exit)) ≡ length (now (room .entry)) ⌝ }
 {
     let mut ways = [0u8; lines::WAYS_BYTES];
-    let ready = spots::prepare(block, i, &mut ways, room);
+    let ready = ready::prepare(block, i, &mut ways, room);
     spots::ready_move(block, i, ready, &ways, room, s, stocks)
 }
 

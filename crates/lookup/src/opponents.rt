@@ -1,13 +1,14 @@
 // The reply of all others to the team's move at a position.
 use crate::admit;
 use crate::spots;
-use crate::spots::Ready;
 use block::fill;
 use block::layout;
 use block::refusal::Answer;
 use block::refusal::Refusal;
 use choice::kinds;
 use choice::replies;
+use solver::ready;
+use solver::ready::Ready;
 use turns::buffers;
 use turns::sizes;
 use ways::landing::Landing;
@@ -86,7 +87,7 @@ fn opponents_at(
     ensures { λ _. ⌜ length (now (room .exit)) ≡ length (now (room .entry)) ⌝ }
 {
     let mut ways = [0u8; lines::WAYS_BYTES];
-    let ready = spots::prepare(block, i, &mut ways, room);
+    let ready = ready::prepare(block, i, &mut ways, room);
     let spot = spots::spot_of(block, i, s, stocks);
     reply_at(block, i, ready, &mut ways, spot, m, room)
 }

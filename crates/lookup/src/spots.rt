@@ -1,14 +1,12 @@
-// A position that a caller names, its row made ready, and the team's move there.
+// A position that a caller names, and the team's move there.
 use block::layout;
 use block::refusal::Answer;
 use block::refusal::Refusal;
 use block::widths::wide;
 use choice::moves;
-use solver::label;
-use solver::rows;
+use solver::ready::Ready;
 use turns::positions;
 use turns::sizes;
-use ways::rows::Row;
 use ways::rows::Spot;
 ghost use mathlib.Core.Path.{_≡_};
 ghost use Prim.Native.Nat.{_≤_, _<_};
@@ -20,20 +18,11 @@ ghost use Rattle.block.specs.Inner.Valid.{Valid};
 ghost use Rattle.game.specs.Position as P;
 ghost use Rattle.game.specs.Model.{boundsOf, arenaOf};
 ghost use Rattle.game.specs.Demand.{RowMove};
-ghost use Rattle.ways.specs.Lines.{waysBytes};
 ghost use Rattle.ways.specs.Places.{PlacedAt};
-ghost use Rattle.solver.specs.Inner.Labels.{Prepared};
-ghost use Rattle.solver.specs.Inner.Rows.{RowRanked};
 ghost use Rattle.lookup.specs.Positions.{NoPosition};
 ghost use Rattle.lookup.specs.Calls.{sideRules};
-ghost use Rattle.lookup.specs.Inner.Ready.{MadeReady};
+ghost use Rattle.solver.specs.Inner.Ready.{MadeReady};
 ghost use Rattle.turns.specs.Sizes.{roomBytes};
-
-// A row made ready: as it is listed for its moves, with the set of its left row, and the set of its right row.
-pub struct Ready {
-    pub row: Row,
-    pub right: usize,
-}
 
 // Whether a stock of resource j is above its bound, or not 0 where it must be.
 fn above(block: &[u8], i: usize, j: usize, stock: usize) -> bool
@@ -62,24 +51,6 @@ pub fn no_position(block: &[u8], i: usize, s: usize, stocks: &[u8]) -> bool
         }
     }
     false
-}
-
-// Labels the rows that row i needs, lists it and stores its ranks in the room.
-pub fn prepare(block: &[u8], i: usize, ways: &mut [u8], room: &mut [u8]) -> Ready
-    requires { ⌜ Valid (now block) ⌝ }
-    requires { ⌜ (i < L.rows (now block)) × L.Strategic (L.kind (now block) i) × (length (now ways) ≡ waysBytes) × (length (now room) ≡ roomBytes) ⌝ }
-    ensures { λ r. ⌜ Prepared (now (block .entry)) i (r .row .set) (r .right) (now (room .exit)) ⌝ }
-    ensures { λ r. ⌜ RowRanked (now (block .entry)) i (r .row .set) (r .right) (r .row) (now (ways .exit)) (now (room .exit)) × (length (now (room .exit)) ≡ length (now (room .entry))) ⌝ }
-{
-    let mut sets = [0u8; sizes::SETS_BYTES];
-    label::label_needed(block, i, &mut sets, ways, room);
-    let left = label::left_set(block, &sets, i);
-    let right = label::right_set(block, &sets, i);
-    let row = rows::rank_row(block, i, left, right, ways, room);
-    Ready {
-        row: row,
-        right: right,
-    }
 }
 
 // The place of a position among the stock places of its state.

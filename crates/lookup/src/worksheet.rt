@@ -1,6 +1,5 @@
 // The team's moves at the positions of a worksheet: the row is solved once for all of them.
 use crate::spots;
-use crate::spots::Ready;
 use block::fill;
 use block::layout;
 use block::refusal;
@@ -8,6 +7,8 @@ use block::refusal::Answer;
 use block::refusal::Refusal;
 use block::widths::wide;
 use solver::admit;
+use solver::ready;
+use solver::ready::Ready;
 use turns::buffers;
 use turns::sizes;
 use ways::lines;
@@ -19,7 +20,7 @@ ghost use Rattle.block.specs.Refusal.{Answers, NoValue};
 ghost use Rattle.block.specs.Inner.Valid.{Valid};
 ghost use Rattle.game.specs.Demand.{Demand3};
 ghost use Rattle.lookup.specs.Worksheet.{sheetCount, wordsBytes, sheetRules, wordFor, SheetCall};
-ghost use Rattle.lookup.specs.Inner.Ready.{MadeReady};
+ghost use Rattle.solver.specs.Inner.Ready.{MadeReady};
 ghost use Rattle.lookup.specs.Inner.Sheets.{AnsweredAt, WordsTo};
 ghost use Rattle.turns.specs.Sizes.{roomBytes};
 
@@ -113,7 +114,7 @@ fn fill_sheet(block: &[u8], i: usize, list: &[u8], words: &mut [u8], room: &mut 
     ensures { λ _. ⌜ WordsTo (now (block .entry)) i (now (list .entry)) (now (words .exit)) (sheetCount (length (now (list .entry)))) × (length (now (room .exit)) ≡ length (now (room .entry))) ⌝ }
 {
     let mut ways = [0u8; lines::WAYS_BYTES];
-    let ready = spots::prepare(block, i, &mut ways, room);
+    let ready = ready::prepare(block, i, &mut ways, room);
     fill_words(block, i, ready, &ways, room, list, words);
 }
 

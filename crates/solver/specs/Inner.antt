@@ -2,3 +2,4 @@
 pub mod Rows
 pub mod Needs
 pub mod Labels
+pub mod Ready

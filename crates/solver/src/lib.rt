@@ -2,5 +2,6 @@
 pub mod admit;
 pub mod label;
 mod needs;
+pub mod ready;
 pub mod rows;
 pub mod table;

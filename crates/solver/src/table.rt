@@ -1,7 +1,6 @@
 // The table of a strategic row: rank and move of every position.
 use crate::admit;
-use crate::label;
-use crate::rows;
+use crate::ready;
 use block::refusal::Answer;
 use block::refusal::Refusal;
 use choice::tables;
@@ -16,7 +15,7 @@ ghost use Rattle.game.specs.Demand.{Demand3};
 ghost use Rattle.solver.specs.Calls.{RowTable, TableCall};
 ghost use Rattle.turns.specs.Sizes.{roomBytes, maxPositions};
 
-// Fills the table of row i. The moves' buffer holds the sets of the rows that it needs until the ranks are there.
+// Fills the table of row i.
 fn fill_table(block: &[u8], i: usize, ranks: &mut [u8], moves: &mut [u8])
     requires { ⌜ Valid (now block) ⌝ }
     requires { ⌜ (i < L.rows (now block)) × L.Strategic (L.kind (now block) i) ⌝ }
@@ -24,11 +23,8 @@ fn fill_table(block: &[u8], i: usize, ranks: &mut [u8], moves: &mut [u8])
     ensures { λ _. ⌜ RowTable (now (block .entry)) i (now (ranks .exit)) (now (moves .exit)) ⌝ }
 {
     let mut ways = [0u8; lines::WAYS_BYTES];
-    label::label_needed(block, i, moves, &mut ways, ranks);
-    let left = label::left_set(block, moves, i);
-    let right = label::right_set(block, moves, i);
-    let row = rows::rank_row(block, i, left, right, &mut ways, ranks);
-    tables::fill_moves(block, row, &ways, ranks, moves);
+    let ready = ready::prepare(block, i, &mut ways, ranks);
+    tables::fill_moves(block, ready.row, &ways, ranks, moves);
 }
 
 // The table of row i, a strategic row of a block that passes the check.

@@ -1,6 +1,6 @@
 -- `coalition_at` makes the row ready and finds the move. Assumes nothing.
 use borrow.Author.Needs.{needs}
-use Rattle.lookup.proofs.Answering.{made-ready}
+use mathlib.Core.Path.{sym, _∙_}
 use Rattle.lookup.proofs.coalition.coalition_at.Statement.{statement}
 use Rattle.lookup.proofs.coalition.coalition_at.Tie as tie
 
@@ -16,13 +16,13 @@ slice-aggregate-ready-move c = search needs
 ready-move-requires : tie.Need-ready-move-requires
 ready-move-requires c κs =
     let pre = c .before .before .before .before .before .before .before .before .before .before .before .pre in
-    (made-ready (pre .0) (pre .1 .0 .0) (pre .1 .0 .1) (c .before .before .before .before .before .prepare .ensures) (pre .1 .0 .3), (pre .1 .0 .2, pre .1 .1))
+    (c .before .before .before .before .before .prepare .ensures, (pre .1 .0 .2, pre .1 .1))
 
 same-length : tie.Need-same-length
 same-length c = search needs
 
 returns : tie.Need-returns
-returns c = (c .ready-move .ensures, c .before .before .before .before .before .before .prepare .ensures .1 .1)
+returns c = (c .ready-move .ensures, c .before .before .before .before .before .before .prepare .ensures .long ∙ sym (c .before .before .before .before .before .before .before .before .before .before .before .before .pre .1 .0 .3))
 
 pub coalition-at-spec : {M : Type 1} → statement M
 coalition-at-spec =

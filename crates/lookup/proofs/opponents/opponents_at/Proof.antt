@@ -1,4 +1,5 @@
 -- `opponents_at` makes the row ready first. Assumes nothing.
+use mathlib.Core.Path.{sym, _∙_}
 use native.Mathlib.Omega.{arith}
 use borrow.Author.Needs.{needs}
 use Rattle.game.specs.Position.{position}
@@ -23,9 +24,9 @@ reply-at-requires : tie.Need-reply-at-requires
 reply-at-requires c κs =
     let args = c .before .before .before .before .before .before .before .before .before .before .before .before .args in
     let pre = c .before .before .before .before .before .before .before .before .before .before .before .before .pre in
-    let (ranked, long) = c .before .before .before .before .before .before .prepare .ensures .1 in
+    let ready = c .before .before .before .before .before .before .prepare .ensures in
     let placed = c .before .before .spot-of .ensures in
-    (pre .0, ((pre .1 .0 .0, pre .1 .0 .1, ranked .listed .long, omega (arith, long, pre .1 .0 .3)), (c .before .before .before .before .before .before .prepare .ensures .0, (omega (arith, placed .state, placed .fits .0), omega (arith, stocks-below (arenaOf (args .block .now) (args .i)) (position (args .s) (args .stocks .now)) (placed .fits), placed .place)))))
+    (pre .0, ((pre .1 .0 .0, pre .1 .0 .1, ready .ranked .listed .long, omega (arith, ready .long)), (ready .prepared, (omega (arith, placed .state, placed .fits .0), omega (arith, stocks-below (arenaOf (args .block .now) (args .i)) (position (args .s) (args .stocks .now)) (placed .fits), placed .place)))))
 
 same-length : tie.Need-same-length
 same-length c = search needs
@@ -33,7 +34,7 @@ same-length c = search needs
 returns : tie.Need-returns
 returns c =
     let args = c .before .before .before .before .before .before .before .before .before .before .before .before .before .before .args in
-    (c .before .reply-at .ensures (position (args .s) (args .stocks .now)) (c .before .before .before .before .spot-of .ensures), c .before .before .before .before .before .before .before .before .prepare .ensures .1 .1)
+    (c .before .reply-at .ensures (position (args .s) (args .stocks .now)) (c .before .before .before .before .spot-of .ensures), c .before .before .before .before .before .before .before .before .prepare .ensures .long ∙ sym (c .before .before .before .before .before .before .before .before .before .before .before .before .before .before .pre .1 .0 .3))
 
 pub opponents-at-spec : {M : Type 1} → statement M
 opponents-at-spec =

@@ -18,7 +18,7 @@ use Rattle.ways.specs.declared.landing.Landing.the-variants.{At}
 use Rattle.ways.specs.Places.{PlacedAt}
 use Rattle.ways.proofs.Leading.{number-inside, move-here}
 use Rattle.ways.proofs.Placing.{placed-number}
-use Rattle.lookup.proofs.Answering.{claimed-wins, wins-claimed-by}
+use Rattle.solver.proofs.Readiness.{claimed-wins, wins-claimed-by}
 use Rattle.lookup.proofs.Replying.{opponents-found}
 use Rattle.lookup.proofs.opponents.reply_at.Statement.{statement}
 use Rattle.lookup.proofs.opponents.reply_at.Tie as tie

@@ -1,6 +1,6 @@
 -- `fill_sheet` makes the row ready and fills the words. Assumes nothing.
 use borrow.Author.Needs.{needs}
-use Rattle.lookup.proofs.Answering.{made-ready}
+use mathlib.Core.Path.{sym, _∙_}
 use Rattle.lookup.proofs.worksheet.fill_sheet.Statement.{statement}
 use Rattle.lookup.proofs.worksheet.fill_sheet.Tie as tie
 
@@ -16,7 +16,7 @@ slice-aggregate-fill-words c = search needs
 fill-words-requires : tie.Need-fill-words-requires
 fill-words-requires c κs =
     let pre = c .before .before .before .before .before .before .before .before .before .before .before .before .before .pre in
-    (made-ready (pre .0) (pre .1 .0 .0) (pre .1 .0 .1) (c .before .before .before .before .before .before .prepare .ensures) (pre .1 .0 .2), pre .1 .1)
+    (c .before .before .before .before .before .before .prepare .ensures, pre .1 .1)
 
 same-length : tie.Need-same-length
 same-length c = search needs
@@ -25,7 +25,7 @@ same-length-2 : tie.Need-same-length-2
 same-length-2 c = search needs
 
 returns : tie.Need-returns
-returns c = (c .before .before .fill-words .ensures, c .before .before .before .before .before .before .before .before .before .prepare .ensures .1 .1)
+returns c = (c .before .before .fill-words .ensures, c .before .before .before .before .before .before .before .before .before .prepare .ensures .long ∙ sym (c .before .before .before .before .before .before .before .before .before .before .before .before .before .before .before .before .pre .1 .0 .2))
 
 pub fill-sheet-spec : {M : Type 1} → statement M
 fill-sheet-spec =

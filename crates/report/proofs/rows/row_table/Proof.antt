@@ -44,7 +44,7 @@ returns c =
     let moves = c .before .before .fill-moves .last .1 .1 .1 .1 .0 in
     let (_, _, index, set) = c .before .before .before .before .before .before .before .list-moves .ensures in
     let moved = subst₂ (λ (i w : ℕ). RanksOf b i w right (args .ranks .now) → MovesOf b i w right (args .ranks .now) moves) index set (c .before .before .fill-moves .ensures .0 right) in
-    row-table b (pre .0) (args .i) (pre .1 .0 .0) (pre .1 .0 .1) (left .result) right (ready .left-set) (ready .right-set) (args .ranks .now) moves (ready .ranks-of) (moved (ready .ranks-of)) (pre .1 .1 .0 .2) (c .before .before .fill-moves .ensures .1 ∙ pre .1 .1 .0 .3)
+    row-table (pre .0) (pre .1 .0 .0) (pre .1 .0 .1) ready moves moved (pre .1 .1 .0 .2) (c .before .before .fill-moves .ensures .1 ∙ pre .1 .1 .0 .3)
 
 pub row-table-spec : {M : Type 1} → statement M
 row-table-spec = tie.close (tie.spec left-set-requires list-moves-requires fill-moves-requires same-length same-length-2 returns)

@@ -7,9 +7,9 @@ use Rattle.block.specs.Layout as L
 use Rattle.block.specs.Layout.{Block}
 use Rattle.block.specs.Inner.Valid.{Valid}
 use Rattle.turns.specs.Sizes.{roomBytes}
 use Rattle.solver.specs.Inner.Labels.{Prepared}
 use Rattle.solver.specs.Inner.Rows.{RowRanked}
-use Rattle.lookup.specs.declared.spots.Ready.{Ready}
+use Rattle.solver.specs.declared.ready.Ready.{Ready}
 
 -- strategic row i of a block that passes, listed for its moves, and its ranks
 pub record MadeReady (b : Block) (i : ℕ) (ready : Ready) (ways ranks : List ℕ) : Type 0 where

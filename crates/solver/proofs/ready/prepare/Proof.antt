@@ -5,11 +5,11 @@ use Prim.Native.Nat.{ℕ}
 use borrow.Author.Needs.{needs}
 use Rattle.block.specs.Layout as L
 use Rattle.game.specs.Model.{RowSet}
 use Rattle.solver.specs.Inner.Labels.{Prepared}
 use Rattle.solver.specs.Inner.Needs.{directly}
 use Rattle.solver.specs.Inner.Rows.{RowRanked}
-use Rattle.lookup.proofs.spots.prepare.Statement.{statement}
-use Rattle.lookup.proofs.spots.prepare.Tie as tie
+use Rattle.solver.proofs.ready.prepare.Statement.{statement}
+use Rattle.solver.proofs.ready.prepare.Tie as tie
 
 slice-aggregate-label-needed : tie.Need-slice-aggregate-label-needed
 slice-aggregate-label-needed c = search needs
@@ -44,24 +44,26 @@ same-length-2 c = search needs
 returns : tie.Need-returns
 returns c =
     let args = c .before .before .before .before .before .before .before .before .before .before .before .before .before .before .before .before .before .before .before .before .before .before .before .args in
+    let pre = c .before .before .before .before .before .before .before .before .before .before .before .before .before .before .before .before .before .before .before .before .before .before .before .pre in
     let b = args .block .now in
     let sets = c .before .before .before .before .before .before .before .before .before .before .before .before .before .before .before .before .label-needed in
     let left = c .before .before .before .before .before .before .before .before .before .left-set in
     let right = c .before .before .before .before .before .before .before .right-set in
     let ranked = c .before .before .before .before .rank-row in
-    let row = ranked .result in
     let ranks = ranked .last .1 .1 .1 .1 .1 .0 in
-    let set-is = sym (ranked .ensures .0 .set-is) in (
-      subst (λ (w : ℕ). Prepared b (args .i) w (right .result) ranks) set-is (record {
+    let set-is = sym (ranked .ensures .0 .set-is) in
+    record {
+      valid = pre .0;
+      inside = pre .1 .0;
+      strategic = pre .1 .1;
+      prepared = subst (λ (w : ℕ). Prepared b (args .i) w (right .result) ranks) set-is (record {
         left-set = λ uses. subst (RowSet b (L.left b (args .i))) (sym (left .ensures .0 uses)) (sets .ensures .0 .each (L.left b (args .i)) (directly (inl (uses, refl))));
         right-set = λ uses. subst (RowSet b (L.right b (args .i))) (sym (right .ensures .0 uses)) (sets .ensures .0 .each (L.right b (args .i)) (directly (inr (uses, refl))));
         ranks-of = ranked .ensures .0 .ranks-of;
-      }),
-      (
-        subst (λ (w : ℕ). RowRanked b (args .i) w (right .result) row (ranked .last .1 .1 .1 .1 .0) ranks) set-is (ranked .ensures .0),
-        ranked .ensures .1 ∙ sets .ensures .1 .1,
-      ),
-    )
+      });
+      ranked = subst (λ (w : ℕ). RowRanked b (args .i) w (right .result) (ranked .result) (ranked .last .1 .1 .1 .1 .0) ranks) set-is (ranked .ensures .0);
+      long = ranked .ensures .1 ∙ sets .ensures .1 .1 ∙ pre .1 .3;
+    }
 
 pub prepare-spec : {M : Type 1} → statement M
 prepare-spec =
