@@ -13,6 +13,7 @@ use Rattle.solver.specs.Calls.{LabelCall, TableCall}
 use Rattle.lookup.specs.Calls.{MoveCall, ReplyCall}
 use Rattle.lookup.specs.Worksheet.{SheetCall}
 use Rattle.lookup.specs.States.{StatesCall, RefusalCall}
+use Rattle.allowances.specs.Allowances.{AllowancesCall}
 use Rattle.report.specs.Call.{listingBytes, ListingCall}
 use Rattle.writer.specs.Call.{WriteCall}
 
@@ -21,7 +22,7 @@ abbrev pub answerCode : Answer → ℤ
 answerCode (answer.Value n) = pos n
 answerCode (answer.Refused r) = negℤ (pos (numberOf r))
 
--- a value is the number of a joint action, a count of states, the length of a text or a listing, or a place of a text
+-- a value is the number of a joint action, a count of states or of allowances, the length of a text or a listing, or a place of a text
 abbrev pub Small : Answer → Type 0
 Small (answer.Value n) = n ≤ listingBytes
 Small (answer.Refused r) = Unit {0}
@@ -60,6 +61,10 @@ ReplyAnswer b i s stocks m room room′ r = (a : Answer) × ReplyCall b i s stoc
 -- what the worksheet call promises of its answer, the words and the room, each before and after it
 abbrev pub SheetAnswer : Block → ℕ → List ℕ → List ℕ → List ℕ → List ℕ → List ℕ → ℤ → Type 0
 SheetAnswer b i list words room words′ room′ r = (a : Answer) × SheetCall b i list words room words′ room′ a × (r ≡ answerCode a)
+
+-- what the allowances call promises of its answer, the list and the room, each before and after it
+abbrev pub AllowancesAnswer : Block → ℕ → ℕ → List ℕ → List ℕ → List ℕ → List ℕ → ℤ → Type 0
+AllowancesAnswer b i s list room list′ room′ r = (a : Answer) × AllowancesCall b i s list room list′ room′ a × (r ≡ answerCode a)
 
 -- what the lister promises of its answer, the list and the room, each before and after it
 abbrev pub StatesAnswer : Block → ℕ → List ℕ → List ℕ → List ℕ → List ℕ → ℤ → Type 0

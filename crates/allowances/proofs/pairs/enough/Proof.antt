@@ -1,0 +1,70 @@
+-- `enough` looks at the rank of the position whose stocks the pair is. Assumes nothing.
+use mathlib.Core.List.{[], _∷_}
+use mathlib.Core.Path.{_≡_, sym, _∙_, ap, ap₂, subst, subst₂}
+use Prim.Native.Nat.{ℕ}
+use native.Mathlib.Omega.{arith}
+use Rattle.block.specs.Inner.Tests.{Decides}
+use Rattle.block.proofs.Decide as D
+use Rattle.game.specs.Position.{position, IsPosition, number}
+use Rattle.game.specs.Model.{arenaOf}
+use Rattle.game.proofs.Local.Same.{number-below}
+use Rattle.game.proofs.Blocks.Passing.{few-positions}
+use Rattle.turns.specs.Buffers.{rankIn}
+use Rattle.choice.specs.Kinds.{ClaimsBy}
+use Rattle.allowances.proofs.Pairing.{shows-byte}
+use Rattle.allowances.proofs.Stocking.{spot, spot-fits, enough-claimed}
+use borrow.Author.Needs.{needs}
+use Rattle.allowances.proofs.pairs.enough.Statement.{statement}
+use Rattle.allowances.proofs.pairs.enough.Tie as tie
+
+stock-requires : tie.Need-stock-requires
+stock-requires c κs = shows-byte (c .before .before .pre .1 .1)
+
+stock-requires-2 : tie.Need-stock-requires-2
+stock-requires-2 c κs = shows-byte (c .before .before .before .pre .1 .2)
+
+slice-aggregate-number : tie.Need-slice-aggregate-number
+slice-aggregate-number c = search needs
+
+-- the stocks are those of the pair
+placed : (c : tie.After-stocks) → position (c .before .before .before .before .before .args .s) (c .before .before .stock .result ∷ c .before .stock2 .result ∷ []) ≡ spot (c .before .before .before .before .before .pre .0) (c .before .before .before .before .before .args .s) (c .before .before .before .before .before .args .x) (c .before .before .before .before .before .args .y) (c .before .before .before .before .before .pre .1 .0) (c .before .before .before .before .before .pre .1 .1) (c .before .before .before .before .before .pre .1 .2)
+placed c = ap₂ (λ (u v : ℕ). position (c .before .before .before .before .before .args .s) (u ∷ v ∷ [])) (c .before .before .stock .ensures) (c .before .stock2 .ensures)
+
+fits : (c : tie.After-stocks) → IsPosition (arenaOf (c .before .before .before .before .before .args .block .now) (c .before .before .before .before .before .args .i)) (position (c .before .before .before .before .before .args .s) (c .before .before .stock .result ∷ c .before .stock2 .result ∷ []))
+fits c = subst (IsPosition (arenaOf (c .before .before .before .before .before .args .block .now) (c .before .before .before .before .before .args .i))) (sym (placed c)) (spot-fits (c .before .before .before .before .before .pre .0) (c .before .before .before .before .before .args .s) (c .before .before .before .before .before .args .x) (c .before .before .before .before .before .args .y) (c .before .before .before .before .before .pre .1 .0) (c .before .before .before .before .before .pre .1 .1) (c .before .before .before .before .before .pre .1 .2))
+
+number-requires : tie.Need-number-requires
+number-requires c κs = let t = c .before .before .before .before .before .pre .0 in (t .valid, ((t .inside, t .strategic, t .valid .sized .resources-fit .1), fits c))
+
+kind-requires : tie.Need-kind-requires
+kind-requires c κs = search needs
+
+rank-at-requires : tie.Need-rank-at-requires
+rank-at-requires c κs =
+    let t = c .before .before .before .before .before .before .before .pre .0 in
+    omega (arith, c .before .number .ensures, number-below (arenaOf (c .before .before .before .before .before .before .before .args .block .now) (c .before .before .before .before .before .before .before .args .i)) _ (fits (c .before .before)), few-positions (c .before .before .before .before .before .before .before .args .block .now) (t .valid) (c .before .before .before .before .before .before .before .args .i) (t .inside) (t .strategic), t .long)
+
+claims-requires : tie.Need-claims-requires
+claims-requires c κs = search needs
+
+returns : tie.Need-returns
+returns c =
+    let args = c .before .before .before .before .before .before .before .before .before .args in
+    let pre = c .before .before .before .before .before .before .before .before .before .pre in
+    let G = arenaOf (args .block .now) (args .i) in
+    let rank = c .before .rank-at .ensures .0 ∙ ap (rankIn (args .ranks .now)) (c .before .before .before .number .ensures ∙ ap (number G) (placed (c .before .before .before .before))) in
+    let claimed = enough-claimed (pre .0) (args .s) (args .x) (args .y) (pre .1 .0) (pre .1 .1) (pre .1 .2) in
+    D.same (subst₂ (λ (k n : ℕ). Decides (ClaimsBy k n) (c .claims .result)) (c .before .before .kind .ensures) rank (c .claims .ensures)) (claimed .0) (claimed .1)
+
+pub enough-spec : {M : Type 1} → statement M
+enough-spec =
+    tie.close
+    (tie.spec
+    stock-requires
+    stock-requires-2
+    slice-aggregate-number
+    number-requires
+    kind-requires
+    rank-at-requires
+    claims-requires
+    returns)
