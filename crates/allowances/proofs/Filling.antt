@@ -52,11 +52,10 @@ module _ {b : Block} {i q first₀ first₁ end₁ : ℕ} {list : List ℕ} {n x
   filled-more low first inside = record {
     stairs =
         stairs-more _ _ _ _ (filled .stairs) r (found .range .0) low (found .found low) (found .none) _ _
-        (λ k l. (others (L.maxResources * k + 0) (λ e. omega arith) (λ e. omega arith), others (L.maxResources * k + 1) (λ e. omega arith) (λ e. omega arith)))
-        (
+        (λ k l. (others (L.maxResources * k + 0) (λ e. omega arith) (λ e. omega arith), others (L.maxResources * k + 1) (λ e. omega arith) (λ e. omega arith))) (
           ap (λ (p : ℕ). getD stored p 0) zeroth
-          ∙ getD-set-other (set list (L.maxResources * n) x) (L.maxResources * n + 1) (L.maxResources * n) r 0 (λ e. omega arith)
-          ∙ getD-set-same list (L.maxResources * n) x 0 (omega arith),
+              ∙ getD-set-other (set list (L.maxResources * n) x) (L.maxResources * n + 1) (L.maxResources * n) r 0 (λ e. omega arith)
+              ∙ getD-set-same list (L.maxResources * n) x 0 (omega arith),
           getD-set-same (set list (L.maxResources * n) x) (L.maxResources * n + 1) r 0 (simp length-set inside),
         )
         first;

@@ -105,8 +105,8 @@ module _ {i : ℕ} {Changed : ℕ → Type 0} {b b′ : Block} (inside : i < max
             let field : (f : ℕ) → f < rowBytes → at b′ (Field k f) ≡ at b (Field k f) = λ f h. same-field k f h (λ e _. other e) in
             row-same k (field L.kindByte (omega arith)) (field L.leftByte (omega arith)) (field L.rightByte (omega arith)) (field L.teamByte (omega arith))
             (λ strategic j lj high.
-                let same = field (boundByte + j) (omega (arith, valid .sized .resources-fit)) in
-                same ∙ valid .row-fits k l .bound-fits strategic j lj (omega arith))
+            let same = field (boundByte + j) (omega (arith, valid .sized .resources-fit)) in
+            same ∙ valid .row-fits k l .bound-fits strategic j lj (omega arith))
             (valid .row-fits k l)
 
     -- a place in use stays so, where the row's kind is the same

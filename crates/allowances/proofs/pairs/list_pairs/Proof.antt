@@ -68,9 +68,9 @@ loop-again c =
       (
         omega arith,
         ⊎-elim
-        (λ w. filled-as (filled-more filled found (w .0 .taken) (at .inv .0) (omega (arith, filled .long, filled .stairs .few, c .before .before .before .before .before .tried .ensures .few))) (w .5 ∙ w .2 .ensures) (w .6) (w .7))
-        (λ w. filled-as (filled-skip filled found (λ h. omega (arith, w .0 .left))) (w .1) (w .2) (w .3))
-        (c .if1 .came),
+            (λ w. filled-as (filled-more filled found (w .0 .taken) (at .inv .0) (omega (arith, filled .long, filled .stairs .few, c .before .before .before .before .before .tried .ensures .few))) (w .5 ∙ w .2 .ensures) (w .6) (w .7))
+            (λ w. filled-as (filled-skip filled found (λ h. omega (arith, w .0 .left))) (w .1) (w .2) (w .3))
+            (c .if1 .came),
       ),
     )
 

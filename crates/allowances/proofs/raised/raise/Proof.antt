@@ -54,8 +54,8 @@ loop-again c =
     let raised : Block → Type 0 = λ b. RaisedTo (args .i) (args .block .now) b (at .j + 1) in
     ⊎-elim
     (λ w.
-        let e = w .5 ∙ w .2 .ensures in
-        (omega arith, (at .inv .1 .0, (ap length e ∙ simp length-set (at .inv .1 .1 .0), subst raised (sym e) (raised-next (at .inv .1 .1 .1) (omega arith) (omega arith) (λ un. w .0 .taken (c .before .bound .ensures ∙ un)))))))
+    let e = w .5 ∙ w .2 .ensures in
+    (omega arith, (at .inv .1 .0, (ap length e ∙ simp length-set (at .inv .1 .1 .0), subst raised (sym e) (raised-next (at .inv .1 .1 .1) (omega arith) (omega arith) (λ un. w .0 .taken (c .before .bound .ensures ∙ un)))))))
     (λ w. (omega arith, (at .inv .1 .0, (ap length (w .1) ∙ at .inv .1 .1 .0, subst raised (sym (w .1)) (raised-skip (at .inv .1 .1 .1) (sym (c .before .bound .ensures) ∙ w .0 .left))))))
     (c .if1 .came)
 
