@@ -1,22 +1,21 @@
 -- A row's bounds raised one after another; the block with all of them raised is valid, and has the same smallest allowances. Assumes nothing.
 use mathlib.Core.List.{List}
-use mathlib.Core.Logic.{_⊎_, _↔_, inl, inr}
-use mathlib.Core.Path.{_≡_, refl, sym, _∙_, ap}
+use mathlib.Core.Logic.{_⊎_, inl, inr}
+use mathlib.Core.Path.{_≡_, refl, sym, _∙_}
 use Prim.Native.Nat.{ℕ, _+_, _≤_, _<_}
 use native.Mathlib.Decide.{ℕ-discrete}
 use native.Mathlib.Omega.{arith}
-use lib.ListN.{getD, set, length, length-set}
+use lib.ListN.{set, length, length-set}
 use lib.Seq.{getD-set-same, getD-set-other}
 use Rattle.block.specs.Layout as L
 use Rattle.block.specs.Layout.{Block, Strategic, placeOf}
-use Rattle.block.specs.Inner.OneRow.{OnlyFields, IsBound}
-use Rattle.block.specs.Inner.Valid.{Valid, RowFits}
+use Rattle.block.specs.Inner.Valid.{Valid}
 use Rattle.block.specs.declared.layout.Place.the-variants.{Field}
 use Rattle.block.proofs.OneRow.{same-header, same-field, row-same, valid-same}
 use Rattle.game.proofs.Blocks.OneRow.{with-same}
 use Rattle.solver.specs.Inner.Ready.{MadeReady}
 use Rattle.solver.specs.declared.ready.Ready.{Ready}
-use Rattle.allowances.specs.Allowances.{Allowance, Shows, Suffices, Smallest, AllowancesIn}
+use Rattle.allowances.specs.Allowances.{Allowance, Shows, Suffices, AllowancesIn}
 use Rattle.allowances.specs.Allowances as A
 use Rattle.allowances.specs.Inner.Raised.{RaisedTo, Raised, Tabled}
 

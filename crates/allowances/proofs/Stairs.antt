@@ -1,7 +1,6 @@
 -- Pairs of numbers that have a property and of which no other that is nowhere larger has it: with rising first numbers their second ones fall,
 -- like stairs. One step lists the pair of a first number, where there is one. Assumes nothing.
-use mathlib.Core.Logic.{_⊎_, inl, inr}
-use mathlib.Core.Path.{_≡_, refl, sym, subst, subst₂}
+use mathlib.Core.Path.{_≡_, sym, subst, subst₂}
 use Prim.Native.Nat.{ℕ, _+_, _≤_, _<_}
 use native.Mathlib.Decide.{ℕ-discrete, decLt}
 use native.Mathlib.Omega.{arith}

@@ -3,16 +3,14 @@
 use mathlib.Core.Bool.{Bool, cond}
 use mathlib.Core.List.{List, [], _∷_}
 use mathlib.Core.Logic.{_⊎_, _↔_, inl, inr}
-use mathlib.Core.Path.{_≡_, refl, sym, _∙_, ap}
-use Prim.Native.Nat.{ℕ, _≤_, _<_}
+use mathlib.Core.Path.{_≡_, _∙_, ap}
+use Prim.Native.Nat.{ℕ, _<_}
 use native.Mathlib.Omega.{arith}
-use lib.Dec.{eqb}
-use lib.ListN.{getD}
 use borrow.Author.Tests.{eq-eqb, ne-eqb, lt-ltb}
 use Rattle.block.specs.Layout as L
 use Rattle.block.specs.Layout.{Block}
-use Rattle.game.specs.Rbatl.{Bound, limit, unlimited}
-use Rattle.game.specs.Position.{Position, position, places, stockBound, IsPosition, number, budget}
+use Rattle.game.specs.Rbatl.{limit, unlimited}
+use Rattle.game.specs.Position.{Position, position, places, stockBound, IsPosition, number}
 use Rattle.game.specs.Model.{boundOf, boundsBy, boundsOf, arenaOf}
 use Rattle.game.proofs.Blocks.Passing.{valid-proper}
 use Rattle.game.proofs.Blocks.Formulas.{with-wins}

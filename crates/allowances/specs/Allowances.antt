@@ -11,7 +11,7 @@ use Rattle.block.specs.Refusal.{Rule, _when_, Answers, Kept, RoomAfter}
 use Rattle.block.specs.declared.refusal.Refusal.the-variants as refusal
 use Rattle.block.specs.declared.refusal.Answer.{Answer}
 use Rattle.game.specs.Model.{boundsBy, RowTrueWith}
-use Rattle.turns.specs.Sizes.{maxStocks, roomBytes}
+use Rattle.turns.specs.Sizes.{roomBytes}
 use Rattle.solver.specs.Calls.{rowRules}
 
 -- a number for each resource, as a row's bound has it
@@ -40,7 +40,7 @@ Smallest b i q x = Suffices b i q x × ((y : Allowance) → NowhereLarger y x �
 
 -- a list of allowances, a byte for each resource, has room for 16
 abbrev pub maxAllowances : ℕ
-maxAllowances = maxStocks
+maxAllowances = suc L.maxUnits
 
 abbrev pub allowancesBytes : ℕ
 allowancesBytes = L.maxResources * maxAllowances

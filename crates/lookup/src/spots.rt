@@ -8,7 +8,6 @@ use solver::ready::Ready;
 use turns::positions;
 use turns::sizes;
 use ways::rows::Spot;
-ghost use mathlib.Core.Path.{_≡_};
 ghost use Prim.Native.Nat.{_≤_, _<_};
 ghost use lib.ListN.{length};
 ghost use Rattle.block.specs.Inner.Tests.{Decides};
@@ -22,7 +21,6 @@ ghost use Rattle.ways.specs.Places.{PlacedAt};
 ghost use Rattle.lookup.specs.Positions.{NoPosition};
 ghost use Rattle.lookup.specs.Calls.{sideRules};
 ghost use Rattle.solver.specs.Inner.Ready.{MadeReady};
-ghost use Rattle.turns.specs.Sizes.{roomBytes};
 
 // Whether a stock of resource j is above its bound, or not 0 where it must be.
 fn above(block: &[u8], i: usize, j: usize, stock: usize) -> bool

@@ -7,7 +7,7 @@ use Rattle.block.specs.Layout as L
 use Rattle.block.specs.Layout.{Block, Strategic}
 use Rattle.block.specs.Inner.Valid.{Valid}
 use Rattle.game.specs.Inner.Facts.{Facts}
-use Rattle.game.specs.Model.{RowSet, arenaOf}
+use Rattle.game.specs.Model.{arenaOf}
 use Rattle.game.specs.Inner.Words.{objectiveBy}
 use Rattle.game.proofs.Blocks.Tables.{table-decided}
 use Rattle.choice.specs.Tables.{RanksOf, MovesOf}

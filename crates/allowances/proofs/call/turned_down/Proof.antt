@@ -1,6 +1,6 @@
 -- `turned_down` tries the lengths, the block and the row, and then the state. Assumes nothing.
 use mathlib.Core.List.{[], _∷_}
-use mathlib.Core.Path.{refl, sym}
+use mathlib.Core.Path.{refl}
 use Prim.Native.Nat.{_≤_}
 use native.Mathlib.Omega.{arith}
 use Rattle.block.specs.Layout as L

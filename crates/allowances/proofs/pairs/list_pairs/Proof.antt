@@ -6,7 +6,6 @@ use native.Mathlib.Omega.{arith}
 use lib.ListN.{length, length-replicate}
 use Rattle.allowances.specs.Allowances.{allowancesBytes}
 use Rattle.allowances.proofs.Filling.{FilledTo, filled-none, filled-skip, filled-more, filled-as, filled-all}
-use borrow.Author.Needs.{needs}
 use Rattle.allowances.proofs.pairs.list_pairs.Statement.{statement}
 use Rattle.allowances.proofs.pairs.list_pairs.Tie as tie
 
