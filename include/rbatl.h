@@ -38,8 +38,9 @@
  *
  * Cost: rbatl_move and rbatl_reply solve the row anew at each call. For the moves
  * of up to 64 positions ask rbatl_worksheet, which solves it once; for those of all
- * positions fetch the row's table. rbatl_job.h reads both by name, as it does sets
- * and blocks.
+ * positions fetch the row's table. rbatl_allowances solves the row once, with bounds
+ * of RBATL_MAX_BOUND, and takes about as long as the table with them. rbatl_job.h
+ * reads all of these by name, as it does sets and blocks.
  *
  * Machine: x86-64 with the calling convention of System V, and no other.
  *
@@ -65,9 +66,10 @@ extern "C" {
 /* The version of this header: major * 10000 + minor * 100 + patch, to compare
  * when a host is compiled, as in `#if RBATL_VERSION_NUMBER < 30000`, and the
  * same as a string. Before 3.0.0 a block had 2469 bytes, without kinds of
- * resources, and rbatl_write wrote edition 1. */
-#define RBATL_VERSION_NUMBER 30000
-#define RBATL_VERSION "3.0.0"
+ * resources, and rbatl_write wrote edition 1; before 3.1.0 there was no
+ * rbatl_allowances. */
+#define RBATL_VERSION_NUMBER 30100
+#define RBATL_VERSION "3.1.0"
 
 /* Length of a block; the longest text that is read, and the length of the
  * buffer that a text is written to. */
@@ -96,6 +98,11 @@ extern "C" {
 
 /* What a word of a worksheet has more than the number of a refusal. */
 #define RBATL_WORD_REFUSED 256
+
+/* The most smallest allowances that a row has in a state, and the length of their
+ * list, a byte for each of two resources. */
+#define RBATL_MAX_ALLOWANCES 16
+#define RBATL_ALLOWANCES_BYTES 32
 
 /* Length of the buffer of a listing. */
 #define RBATL_LISTING_BYTES 32768
@@ -290,6 +297,21 @@ int32_t rbatl_reply(const uint8_t *block, size_t block_len, uint8_t row, uint8_t
 int32_t rbatl_worksheet(const uint8_t *block, size_t block_len, uint8_t row, const uint8_t *list,
                         size_t list_len, uint8_t *words, size_t words_len, uint8_t *room,
                         size_t room_len);
+
+/* The smallest allowances with which a row of kind next, always or until is true in
+ * a state: their count, and the list of RBATL_ALLOWANCES_BYTES holds them, two bytes
+ * each, a bound of resource 0 and one of resource 1, in rising first bound, and zeros
+ * after them. An allowance is there exactly if the row is true in the state with it
+ * in the place of the row's bounds and with no other that is nowhere larger. Bounds
+ * from 0 to RBATL_MAX_BOUND are tried, whatever limited bounds the row has; where it
+ * has none, RBATL_UNLIMITED stands, and 0 for an absent resource. The count is at
+ * most RBATL_MAX_ALLOWANCES, and 0 where no bounds in range are enough. The room is
+ * RBATL_ROOM_BYTES of working room. -RBATL_E_LENGTH for a block, a list or a room of
+ * any other length, and then nothing changes; else what rbatl_check answers on the
+ * block; else -RBATL_E_ROW_CHOICE; else -RBATL_E_POSITION for a state that does not
+ * exist. A refused call leaves the list as it was. */
+int32_t rbatl_allowances(const uint8_t *block, size_t block_len, uint8_t row, uint8_t state,
+                         uint8_t *list, size_t list_len, uint8_t *room, size_t room_len);
 
 /* Lists the states in which a row, of any kind, is true: their count, and the
  * list of RBATL_STATES_BYTES holds them in rising order and zeros after them.

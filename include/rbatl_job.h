@@ -1,13 +1,15 @@
 /* rbatl_job.h: what stands in a block, in the sets of its rows, in the table of a
- * row and in a worksheet, by name; and the words of a refusal.
+ * row, in a worksheet and in a list of allowances, by name; and the words of a
+ * refusal.
  *
  * A block has RBATL_BLOCK_BYTES and passes rbatl_check, as every block does that
  * rbatl_read fills. Sets are those of rbatl_label, ranks and moves those of
- * rbatl_table, and words those of rbatl_worksheet. None of the numbers handed over
- * is tested: an agent, a resource, a state, an action or a row has to be below its
- * largest number (RBATL_MAX_..), a joint action below RBATL_JOINT_ACTIONS, a
- * position below rbatl_position_count, and a place of a worksheet below the number
- * of its positions.
+ * rbatl_table, words those of rbatl_worksheet, and allowances those of
+ * rbatl_allowances. None of the numbers handed over is tested: an agent, a resource,
+ * a state, an action or a row has to be below its largest number (RBATL_MAX_..), a
+ * joint action below RBATL_JOINT_ACTIONS, a position below rbatl_position_count, a
+ * place of a worksheet below the number of its positions, and one of allowances
+ * below their count.
  *
  * The offsets of the block stand here once; the comment of rbatl_check has them
  * as numbers.
@@ -266,6 +268,13 @@ static inline int32_t rbatl_answer_at(const uint8_t *words, size_t place)
 {
     int32_t word = (int32_t)rbatl_word_at(words, place);
     return word < RBATL_WORD_REFUSED ? word : RBATL_WORD_REFUSED - word;
+}
+
+/* The bound of a resource at a place of a list of allowances: a number,
+ * RBATL_UNLIMITED where the row has no limit, or 0 where the resource is absent. */
+static inline unsigned rbatl_allowance_at(const uint8_t *list, size_t place, unsigned resource)
+{
+    return list[RBATL_MAX_RESOURCES * place + resource];
 }
 
 /* The word of a row's set. */
