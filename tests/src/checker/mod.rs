@@ -2,8 +2,10 @@
 //! algorithm of its section 4 (`splits`), by a search on positions that also
 //! finds ranks, moves and replies (`search`), and by trying strategies outright
 //! (`aim`, `brute`, `verdict`). The three share the decoded job and nothing else.
+//! Smallest allowances (`allowances`) are found by the second, bound by bound.
 
 pub mod aim;
+pub mod allowances;
 pub mod brute;
 pub mod search;
 pub mod splits;

@@ -53,14 +53,17 @@ pub fn label(structure: &Structure) -> Vec<Set> {
             Formula::Prop(proposition) => structure.holds(proposition),
             Formula::Not(left) => structure.all() & !sets[left],
             Formula::Or(left, right) => sets[left] | sets[right],
-            _ => {
-                let table = table(structure, row, &sets).expect("a strategic row");
-                structure.set(|state| table.moves[table.full_stock(state)] != NO_MOVE)
-            }
+            _ => strategic_set(structure, row, &sets),
         };
         sets.push(set);
     }
     sets
+}
+
+/// The set of a strategic row over the sets of the lower rows.
+pub fn strategic_set(structure: &Structure, row: usize, sets: &[Set]) -> Set {
+    let table = table(structure, row, sets).expect("a strategic row");
+    structure.set(|state| table.moves[table.full_stock(state)] != NO_MOVE)
 }
 
 /// The table of a row over the sets of the lower rows; none if the row is not
