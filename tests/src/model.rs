@@ -1,7 +1,10 @@
 //! The calls that solve rows, from document 01 and by the checker's search on
 //! positions: those that label rows, fill tables and list states, those that give
-//! a move or a reply at one position, and the worksheet.
+//! a move or a reply at one position, the worksheet, and the smallest allowances.
 
+mod allowances;
+
+use crate::checker::allowances::Trials;
 use crate::checker::search::{self, Table};
 use crate::checker::structure::{contains, Set, Structure};
 use crate::checker::NO_MOVE;
@@ -20,6 +23,8 @@ pub const SHEET_POSITIONS: usize = 64;
 pub const SHEET_BYTES: usize = POSITION_BYTES * SHEET_POSITIONS;
 /// What a word of a worksheet has more than a refusal's number.
 pub const WORD_REFUSED: u16 = 256;
+/// At most 16 smallest allowances, a bound for each resource.
+pub const ALLOWANCES_BYTES: usize = 16 * MAX_RESOURCES;
 
 /// What a call at one position is asked for: a row, a state and a stock for each
 /// resource.
@@ -48,6 +53,8 @@ pub struct Row {
     pub table: Table,
     /// The largest stocks: the bound, or 0 where unlimited or absent.
     pub largest: [u8; MAX_RESOURCES],
+    /// Each allowance in its place, tried when it is first asked for.
+    trials: OnceCell<Trials>,
 }
 
 impl Model {
@@ -263,8 +270,11 @@ impl Job {
     fn row(&self, i: usize) -> Option<&Row> {
         let solve = || {
             let table = search::table(&self.structure, i, &self.sets)?;
-            let largest = largest_stocks(&self.block, i);
-            Some(Row { table, largest })
+            Some(Row {
+                table,
+                largest: largest_stocks(&self.block, i),
+                trials: OnceCell::new(),
+            })
         };
         self.rows.get(i)?.get_or_init(solve).as_ref()
     }

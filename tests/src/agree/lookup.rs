@@ -1,5 +1,5 @@
-//! The calls at one position, which are lent a room alone, and the worksheet, in
-//! whose outcome the room follows the words.
+//! The calls at one position, which are lent a room alone, and the worksheet and the
+//! allowances, in whose outcomes the room follows the words or the list.
 
 use super::{compare, lend, lend_two, Outcome};
 use crate::ffi;
@@ -52,4 +52,22 @@ pub fn worksheet(
         ffi::worksheet(block, row, list, words, room)
     });
     compare("rbatl_worksheet", expected, found, what)
+}
+
+/// What the smallest allowances of the row for the state give in the lent list and
+/// room.
+pub fn allowances(
+    block: &[u8],
+    model: &Model,
+    row: u8,
+    state: u8,
+    lent: [&[u8]; 2],
+    what: impl Fn() -> String,
+) -> Outcome {
+    let what = || format!("state {state} for row {row} of {}", what());
+    let expected = lend_two(lent, |list, room| model.allowances(row, state, list, room));
+    let found = lend_two(lent, |list, room| {
+        ffi::allowances(block, row, state, list, room)
+    });
+    compare("rbatl_allowances", expected, found, what)
 }

@@ -1,4 +1,5 @@
-//! The calls at positions: at one, and at those of a worksheet.
+//! The calls at positions: at one, and at those of a worksheet; and the smallest
+//! allowances for a state.
 
 use crate::model::At;
 
@@ -32,6 +33,16 @@ extern "C" {
         list_len: usize,
         words: *mut u8,
         words_len: usize,
+        room: *mut u8,
+        room_len: usize,
+    ) -> i32;
+    fn rbatl_allowances(
+        block: *const u8,
+        block_len: usize,
+        row: u8,
+        state: u8,
+        list: *mut u8,
+        list_len: usize,
         room: *mut u8,
         room_len: usize,
     ) -> i32;
@@ -87,6 +98,24 @@ pub fn worksheet(block: &[u8], row: u8, list: &[u8], words: &mut [u8], room: &mu
             list.len(),
             words.as_mut_ptr(),
             words.len(),
+            room.as_mut_ptr(),
+            room.len(),
+        )
+    }
+}
+
+/// The count of allowances, or minus the refusal number.
+pub fn allowances(block: &[u8], row: u8, state: u8, list: &mut [u8], room: &mut [u8]) -> i32 {
+    // SAFETY: each pointer is valid for the length beside it, and the two
+    // buffers, borrowed mutably, overlap nothing.
+    unsafe {
+        rbatl_allowances(
+            block.as_ptr(),
+            block.len(),
+            row,
+            state,
+            list.as_mut_ptr(),
+            list.len(),
             room.as_mut_ptr(),
             room.len(),
         )
