@@ -3,6 +3,7 @@
 
 mod long;
 mod teamwork;
+mod trades;
 
 use crate::layout::*;
 use crate::random::{any_block, fill_kinds, Rng};
@@ -10,6 +11,7 @@ pub use long::{maze, ring};
 use std::ops::RangeInclusive;
 use teamwork::side_by_side;
 pub use teamwork::{teamwork, tiny_teamwork};
+pub use trades::trade;
 
 /// What the jobs of a kind have in common.
 #[derive(Clone, Copy)]

@@ -10,7 +10,7 @@ use crate::layout::{self, Sizes, MAX_BOUND, MAX_RESOURCES, UNLIMITED};
 pub type Pair = [u8; MAX_RESOURCES];
 
 /// Each pair that is tried, and the states that satisfy the row with it.
-pub struct Trials(Vec<(Pair, Set)>);
+pub struct Trials(pub Vec<(Pair, Set)>);
 
 impl Trials {
     /// Of a strategic row of a block that the check lets pass, over the sets of the
