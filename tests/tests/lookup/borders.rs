@@ -47,6 +47,8 @@ fn refused_everywhere(asked: &Asked, number: u8) {
         let what = format!("{}, move {mv} at {at:?}", asked.what);
         assert_eq!(asked.coalition_move(at), -i32::from(number), "{what}");
         assert_eq!(asked.reply(at, mv), -i32::from(number), "{what}");
+        let (answer, _) = asked.allowances_in(ALLOWANCES_BYTES, at.row, at.state);
+        assert_eq!(answer, -i32::from(number), "{what}");
         expect_sheets(asked, at.row, -i32::from(number));
     }
 }
@@ -106,6 +108,8 @@ fn row_numbers() {
                 "row {i}"
             );
             assert_eq!(asked.reply(at(i, 255, [255; 2]), 255), beyond, "row {i}");
+            let (answer, _) = asked.allowances_in(ALLOWANCES_BYTES, i, 255);
+            assert_eq!(answer, beyond, "row {i}");
             let first = at(i, 0, [0, 0]);
             assert_eq!(asked.coalition_move(first) == -8, !strategic, "row {i}");
             assert_eq!(asked.reply(first, 0) == -8, !strategic, "row {i}");

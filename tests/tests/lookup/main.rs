@@ -1,6 +1,11 @@
-//! `rbatl_move`, `rbatl_reply` and `rbatl_worksheet` beside the checker made from
-//! document 003: the same answers and zeros in the room, and plays that they decide.
+//! `rbatl_move`, `rbatl_reply`, `rbatl_worksheet` and `rbatl_allowances` beside the
+//! checker made from document 003: the same answers and zeros in the room, and plays
+//! that they decide.
 
+mod allowance_borders;
+mod allowance_jobs;
+mod allowance_texts;
+mod allowances;
 mod borders;
 mod catch;
 mod every_play;
@@ -14,7 +19,7 @@ use rbatl_tests::answers::{assert_each_came, number};
 use rbatl_tests::damage::damage;
 use rbatl_tests::games;
 use rbatl_tests::jobs;
-use rbatl_tests::model::{At, Model, ROOM_BYTES};
+use rbatl_tests::model::{At, Model, ALLOWANCES_BYTES, ROOM_BYTES};
 use rbatl_tests::random::Rng;
 
 /// The room after a call.
@@ -74,12 +79,36 @@ impl Asked<'_> {
     fn worksheet(&self, row: u8, list: &[u8], length: usize) -> (i32, Vec<u8>) {
         let (what, lent) = (|| self.what.clone(), agree::pattern(length));
         let buffers = [&lent[..], &self.room];
-        let mut outcome = agree::worksheet(self.block, &self.model, row, list, buffers, what);
-        let room = outcome.buffer.split_off(length);
-        let words = std::mem::replace(&mut outcome.buffer, room);
+        let outcome = agree::worksheet(self.block, &self.model, row, list, buffers, what);
+        self.filled(outcome, &lent)
+    }
+
+    /// The smallest allowances of the row for the state, in a list of this length
+    /// that holds a pattern beforehand: the answer, and the list afterwards.
+    fn allowances_in(&self, length: usize, row: u8, state: u8) -> (i32, Vec<u8>) {
+        let (what, lent) = (|| self.what.clone(), agree::pattern(length));
+        let buffers = [&lent[..], &self.room];
+        let outcome = agree::allowances(self.block, &self.model, row, state, buffers, what);
+        self.filled(outcome, &lent)
+    }
+
+    /// Those of a strategic row for a state that there is.
+    fn allowances(&self, row: u8, state: u8) -> Vec<[u8; 2]> {
+        let (answer, list) = self.allowances_in(ALLOWANCES_BYTES, row, state);
+        let count = usize::try_from(answer).expect("a count");
+        let (pairs, zeros) = list.split_at(2 * count);
+        assert!(zeros.iter().all(|&byte| byte == 0), "{}", self.what);
+        pairs.chunks(2).map(|pair| [pair[0], pair[1]]).collect()
+    }
+
+    /// The answer, and the buffer that was lent before the room, which a refusal
+    /// leaves as it was.
+    fn filled(&self, mut outcome: Outcome, lent: &[u8]) -> (i32, Vec<u8>) {
+        let room = outcome.buffer.split_off(lent.len());
+        let buffer = std::mem::replace(&mut outcome.buffer, room);
         let answer = self.answer(outcome);
-        assert!(answer == 0 || words == lent, "{}: the words", self.what);
-        (answer, words)
+        assert!(answer >= 0 || buffer == lent, "{}: refused", self.what);
+        (answer, buffer)
     }
 
     /// The room holds zeros after every answer but -1, which leaves it.
