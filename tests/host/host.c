@@ -251,6 +251,7 @@ int main(void)
     check_move();
     check_reply();
     check_sheet();
+    check_needs();
     check_list();
     printf("%d passed, %d failed\n", passed, failed);
     return failed != 0;

@@ -57,6 +57,7 @@ void check_states(void);
 void check_move(void);
 void check_reply(void);
 void check_sheet(void);
+void check_needs(void);
 void check_list(void);
 
 #endif
