@@ -46,6 +46,10 @@ static const struct shape shapes[ENTRIES] = {
                RBATL_JOINT_ACTIONS - 1,
                OF_MOVE | BIT(RBATL_E_MOVE)},
     [SHEET] = {"worksheet", {{FILLED, RBATL_WORDS_BYTES}, {ROOM, RBATL_ROOM_BYTES}}, 0, OF_ROW},
+    [ALLOWANCES] = {"allowances",
+                    {{FILLED, RBATL_ALLOWANCES_BYTES}, {ROOM, RBATL_ROOM_BYTES}},
+                    RBATL_MAX_ALLOWANCES,
+                    OF_ROW | BIT(RBATL_E_POSITION)},
     [STATES] = {"states",
                 {{FILLED, RBATL_STATES_BYTES}, {ROOM, RBATL_ROOM_BYTES}},
                 RBATL_MAX_STATES,
@@ -134,6 +138,8 @@ static int32_t call(const struct request *r, const struct lent *in, const struct
         return rbatl_reply(LENT(in), r->row, r->state, r->stock0, r->stock1, r->move, LENT(a));
     case SHEET:
         return rbatl_worksheet(LENT(in), r->row, LENT(list), LENT(a), LENT(b));
+    case ALLOWANCES:
+        return rbatl_allowances(LENT(in), r->row, r->state, LENT(a), LENT(b));
     case STATES:
         return rbatl_states(LENT(in), r->row, LENT(a), LENT(b));
     case REFUSAL:

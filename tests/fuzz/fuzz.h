@@ -23,6 +23,7 @@ enum entry {
     MOVE,
     REPLY,
     SHEET,
+    ALLOWANCES,
     STATES,
     REFUSAL,
     ENTRIES
@@ -120,6 +121,9 @@ void misfit_list(struct random *random, struct request *request);
 
 /* A worksheet of a row, by its table and by single calls. */
 void try_sheet(struct run *run, const struct view *view);
+
+/* The smallest allowances of a row in its states, by all pairs of bounds. */
+void try_needs(struct run *run, const uint8_t *block, unsigned row);
 
 /* Random jobs, and damage to them. */
 void random_job(struct random *random, uint8_t *block);

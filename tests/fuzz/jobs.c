@@ -9,7 +9,7 @@ static const uint8_t borders[] = {
 };
 
 /* How the next states of a job come about. */
-enum play { FREE, CONTEST, TEAMWORK, PLAYS };
+enum play { FREE, CONTEST, TEAMWORK, TRADE, PLAYS };
 
 /* Mostly few states, since large tables take long. */
 static void random_sizes(struct random *random, uint8_t *block)
@@ -59,9 +59,42 @@ static unsigned contested_target(struct random *random, const uint8_t *block, un
     return joint > 3 ? target : target & ~1u;
 }
 
-static unsigned random_mask(struct random *random, unsigned state, bool contest)
+/* The first agent goes on to the last state for a price, and without one falls to
+ * state 0, so that its coalition needs an allowance. */
+static unsigned traded_target(struct random *random, const uint8_t *block, unsigned state,
+                              unsigned joint)
 {
-    if (contest && one_in(random, 2))
+    unsigned last = rbatl_job_states(block) - 1;
+    if (state == 0 || state == last)
+        return state;
+    if (one_in(random, 32))
+        return (unsigned)below(random, last + 1);
+    return rbatl_action_of(joint, 0) > 0 ? state + 1 : 0;
+}
+
+/* What is saved of one resource is spent of the other, so that of several ways to
+ * pay none makes another needless. */
+static void trade_costs(struct random *random, uint8_t *block, unsigned state)
+{
+    unsigned price = within(random, 1, RBATL_MAX_COST / 2);
+
+    block[rbatl_place_of_count(state, 0)] = RBATL_MAX_ACTIONS;
+    for (unsigned action = 1; action < RBATL_MAX_ACTIONS; action++) {
+        unsigned first = within(random, 0, price);
+        block[rbatl_place_of_cost(state, 0, action, 0)] = (uint8_t)first;
+        if (rbatl_job_resources(block) > 1)
+            block[rbatl_place_of_cost(state, 0, action, 1)] = (uint8_t)(price - first);
+    }
+}
+
+static unsigned random_mask(struct random *random, const uint8_t *block, unsigned state,
+                            enum play play)
+{
+    if (play == TRADE && state > 0)
+        return state + 1 == rbatl_job_states(block) ? UINT8_MAX : UINT8_MAX - 1;
+    if (play == TRADE)
+        return 0;
+    if (play != FREE && one_in(random, 2))
         return state % 2 == 0 ? UINT8_MAX : 0;
     return draw_byte(random) & draw_byte(random);
 }
@@ -87,6 +120,8 @@ static unsigned target_of(struct random *random, const uint8_t *block, enum play
         return contested_target(random, block, joint);
     case TEAMWORK:
         return shared_target(random, block, state, joint);
+    case TRADE:
+        return traded_target(random, block, state, joint);
     default:
         return random_target(random, block, state, joint);
     }
@@ -96,9 +131,11 @@ static void random_state(struct random *random, uint8_t *block, unsigned state, 
 {
     unsigned masks = 1u << rbatl_job_propositions(block);
     block[rbatl_place_of_mask(state)] =
-        (uint8_t)(random_mask(random, state, play != FREE) & (masks - 1));
+        (uint8_t)(random_mask(random, block, state, play) & (masks - 1));
     for (unsigned agent = 0; agent < rbatl_job_agents(block); agent++)
         random_actions(random, block, state, agent);
+    if (play == TRADE)
+        trade_costs(random, block, state);
     for (unsigned joint = 0; joint < RBATL_JOINT_ACTIONS; joint++)
         if (has_joint(block, state, joint))
             block[rbatl_place_of_next(state, joint)] =
@@ -127,6 +164,22 @@ static void random_row(struct random *random, uint8_t *block, unsigned row, unsi
         block[rbatl_place_of_field(row, RBATL_FIELD_BOUND + resource)] = random_bound(random, most);
 }
 
+/* Most strategic rows ask for the last state, which alone has proposition 0, or to
+ * stay away from state 0, which has none; the first two rows are propositions. */
+static void ask_for_trade(struct random *random, uint8_t *block, unsigned row)
+{
+    uint8_t *fields = block + rbatl_place_of_field(row, 0);
+
+    if (row < 2 && row < rbatl_job_propositions(block)) {
+        memset(fields, 0, RBATL_ROW_BYTES);
+        fields[RBATL_FIELD_LEFT] = (uint8_t)row;
+    } else if (row >= 2 && rbatl_row_is_strategic(block, row) && !one_in(random, 4)) {
+        fields[RBATL_FIELD_LEFT] = fields[RBATL_FIELD_KIND] != RBATL_NEXT;
+        fields[RBATL_FIELD_RIGHT] = 0;
+        fields[RBATL_FIELD_TEAM] |= 1;
+    }
+}
+
 void random_job(struct random *random, uint8_t *block)
 {
     static const unsigned bounds[] = {0, 2, 3, 5, RBATL_MAX_BOUND};
@@ -137,8 +190,11 @@ void random_job(struct random *random, uint8_t *block)
     enum play play = (enum play)below(random, PLAYS);
     for (unsigned state = 0; state < rbatl_job_states(block); state++)
         random_state(random, block, state, play);
-    for (unsigned row = 0; row < rbatl_job_rows(block); row++)
+    for (unsigned row = 0; row < rbatl_job_rows(block); row++) {
         random_row(random, block, row, most);
+        if (play == TRADE)
+            ask_for_trade(random, block, row);
+    }
     for (unsigned resource = 0; resource < rbatl_job_resources(block); resource++)
         block[rbatl_place_of_resource_kind(resource)] = one_in(random, 2) ? RBATL_MAX : RBATL_SUM;
 }

@@ -138,14 +138,15 @@ static void try_table(struct run *run, const uint8_t *block, unsigned row, const
         try_position(run, &view, below(&run->random, positions));
     try_no_position(run, &view, below(&run->random, positions));
     try_sheet(run, &view);
+    try_needs(run, block, row);
 }
 
 /* A row without a table, or no row. */
 static void try_no_table(struct run *run, const uint8_t *block, unsigned row)
 {
     static struct outcome outcome;
-    static const enum entry entries[] = {TABLE, MOVE, REPLY, SHEET};
-    struct request request = request_of(entries[below(&run->random, 4)], block, row);
+    static const enum entry entries[] = {TABLE, MOVE, REPLY, SHEET, ALLOWANCES};
+    struct request request = request_of(entries[below(&run->random, 5)], block, row);
 
     request.state = draw_byte(&run->random);
     request.stock0 = draw_byte(&run->random);
@@ -203,7 +204,7 @@ static void try_refused(struct run *run, const uint8_t *block, int32_t answer)
 {
     static struct outcome outcome;
     static const enum entry entries[] = {
-        WRITE, LABEL, TABLE, MOVE, REPLY, SHEET, STATES, REFUSAL,
+        WRITE, LABEL, TABLE, MOVE, REPLY, SHEET, ALLOWANCES, STATES, REFUSAL,
     };
 
     for (size_t i = 0; i < sizeof entries / sizeof entries[0]; i++) {

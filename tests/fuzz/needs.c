@@ -1,0 +1,110 @@
+/* Smallest allowances: beside a search that tries each pair as the row's bounds. */
+#include "fuzz.h"
+
+#include <string.h>
+
+/* The pairs that are tried for a row, and the states that satisfy it with each. */
+struct trials {
+    unsigned count;
+    uint8_t pairs[RBATL_MAX_ALLOWANCES * RBATL_MAX_ALLOWANCES][RBATL_MAX_RESOURCES];
+    uint32_t sets[RBATL_MAX_ALLOWANCES * RBATL_MAX_ALLOWANCES];
+};
+
+/* The states that the library lists, as a set. */
+static uint32_t states_with(struct run *run, const uint8_t *block, unsigned row)
+{
+    static struct outcome outcome;
+    int32_t count = ask_block(run, STATES, block, row, &outcome);
+    uint32_t set = 0;
+
+    for (int32_t i = 0; i < count; i++)
+        set |= UINT32_C(1) << outcome.bytes[0][i];
+    return set;
+}
+
+/* The bounds of a resource that are tried, from the least to the most. */
+static void bounds_of(const uint8_t *block, unsigned row, unsigned resource, unsigned *least,
+                      unsigned *most)
+{
+    bool absent = resource >= rbatl_job_resources(block);
+    bool unlimited = !absent && rbatl_row_bound(block, row, resource) == RBATL_UNLIMITED;
+
+    *least = unlimited ? RBATL_UNLIMITED : 0;
+    *most = absent || unlimited ? *least : RBATL_MAX_BOUND;
+}
+
+/* In rising first number; each pair is written into the row of a copy. */
+static void try_pairs(struct run *run, const uint8_t *block, unsigned row, struct trials *trials)
+{
+    unsigned first, second, least, most[RBATL_MAX_RESOURCES];
+    uint8_t copy[RBATL_BLOCK_BYTES];
+    uint8_t *bounds = copy + rbatl_place_of_field(row, RBATL_FIELD_BOUND);
+
+    memcpy(copy, block, sizeof copy);
+    trials->count = 0;
+    bounds_of(block, row, 0, &first, &most[0]);
+    bounds_of(block, row, 1, &least, &most[1]);
+    for (; first <= most[0]; first++)
+        for (second = least; second <= most[1]; second++) {
+            bounds[0] = trials->pairs[trials->count][0] = (uint8_t)first;
+            bounds[1] = trials->pairs[trials->count][1] = (uint8_t)second;
+            trials->sets[trials->count++] = states_with(run, copy, row);
+        }
+}
+
+static bool is_smallest(const struct trials *trials, unsigned which, unsigned state)
+{
+    const uint8_t *pair = trials->pairs[which];
+
+    for (unsigned i = 0; i < trials->count; i++) {
+        const uint8_t *other = trials->pairs[i];
+        if (i != which && rbatl_set_has(trials->sets[i], state) && other[0] <= pair[0] &&
+            other[1] <= pair[1])
+            return false;
+    }
+    return rbatl_set_has(trials->sets[which], state);
+}
+
+static void try_state(struct run *run, const struct request *request, const struct trials *trials)
+{
+    static struct outcome outcome;
+    const uint8_t *list = outcome.bytes[0];
+    int32_t found = 0;
+
+    ask(run, request, &outcome);
+    expect(run, outcome.answer >= 0, "allowances", "a strategic row");
+    for (unsigned i = 0; i < trials->count; i++)
+        if (is_smallest(trials, i, request->state)) {
+            expect(run, found < outcome.answer, "allowances", "an allowance is missing");
+            expect(run,
+                   rbatl_allowance_at(list, (size_t)found, 0) == trials->pairs[i][0] &&
+                       rbatl_allowance_at(list, (size_t)found, 1) == trials->pairs[i][1],
+                   "allowances", "another allowance than is due");
+            found++;
+        }
+    expect(run, outcome.answer == found, "allowances", "an allowance too many");
+    for (size_t i = RBATL_MAX_RESOURCES * (size_t)found; i < RBATL_ALLOWANCES_BYTES; i++)
+        expect(run, list[i] == 0, "allowances", "no zeros after the allowances");
+}
+
+/* All states of the row, and one that there is not. The pairs take 256 calls where
+ * both resources are limited, so that rows of many states are left out, and some. */
+void try_needs(struct run *run, const uint8_t *block, unsigned row)
+{
+    static struct outcome outcome;
+    static struct trials trials;
+    unsigned states = rbatl_job_states(block);
+    struct request request = request_of(ALLOWANCES, block, row);
+
+    request.state = (uint8_t)(one_in(&run->random, 2) ? states
+                                                      : within(&run->random, states, UINT8_MAX));
+    ask(run, &request, &outcome);
+    expect(run, outcome.answer == -RBATL_E_POSITION, "allowances", "a state that there is not");
+    if (states > 8 || one_in(&run->random, 2))
+        return;
+    try_pairs(run, block, row, &trials);
+    for (unsigned state = 0; state < states; state++) {
+        request.state = (uint8_t)state;
+        try_state(run, &request, &trials);
+    }
+}
