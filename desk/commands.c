@@ -11,9 +11,10 @@
     "  ROW    a row of kind next, always or until; it may be left out where the job\n"             \
     "         has exactly one\n"
 
-/* The arguments of a position, after the row. */
+/* The arguments after the row: a state, and those of a position. */
+#define STATE "  STATE  the state\n"
 #define POSITION                                                                                   \
-    "  STATE  the state\n"                                                                         \
+    STATE                                                                                          \
     "  STOCK  what is left of each resource, one number for each; 0 if unlimited\n"
 
 const struct command commands[] = {
@@ -110,6 +111,24 @@ const struct command commands[] = {
                   "  state 0, stock 5: move 1: agent 0 action 1, agent 1 idle\n"
                   "  state 0, stock 4: no move: the coalition does not win here\n"
                   "and `no position`, with the reason, where the row has no such position.\n",
+    },
+    {
+        .name = "needs",
+        .row = true,
+        .others = 1,
+        .run = show_needs,
+        .words = " [ROW] STATE",
+        .summary = "the smallest allowances for a state",
+        .does = "Says what a row needs in a state: each allowance from 0 to 15 of a resource\n"
+                "with which the row is true there, while nothing smaller is enough. The numbers\n"
+                "in the row's own line play no part; a resource that is unlimited there stays so.\n",
+        .takes = STRATEGIC_ROW STATE,
+        .prints = "Output: the row without its bounds, and a line for each allowance, as in\n"
+                  "  row 5: coalition 0, 1: row 2 until row 0\n"
+                  "  state 0: enough: 5 of resource 0\n"
+                  "  state 0: nothing smaller is enough\n"
+                  "or that no allowance is enough. Of a row that limits no resource it says only\n"
+                  "whether the row is true.\n",
     },
     {
         .name = "dot",

@@ -57,6 +57,7 @@ enum status show_table(const uint8_t *block, const struct numbers *numbers);
 enum status show_move(const uint8_t *block, const struct numbers *numbers);
 enum status show_reply(const uint8_t *block, const struct numbers *numbers);
 enum status show_sheet(const uint8_t *block, const struct numbers *numbers);
+enum status show_needs(const uint8_t *block, const struct numbers *numbers);
 enum status draw(const uint8_t *block, const struct numbers *numbers);
 
 #endif

@@ -19,7 +19,11 @@ static void print_coalition(const uint8_t *block, unsigned row)
             printf("%s%u", before, agent);
             before = ", ";
         }
-    before = " within ";
+}
+
+static void print_bounds(const uint8_t *block, unsigned row)
+{
+    const char *before = " within ";
     for (unsigned resource = 0; resource < rbatl_job_resources(block); resource++) {
         unsigned bound = rbatl_row_bound(block, row, resource);
         if (bound == RBATL_UNLIMITED)
@@ -28,15 +32,12 @@ static void print_coalition(const uint8_t *block, unsigned row)
             printf("%s%u", before, bound);
         before = ", ";
     }
-    printf(": ");
 }
 
-void print_row(const uint8_t *block, unsigned row)
+static void print_formula(const uint8_t *block, unsigned row)
 {
     unsigned left = rbatl_row_left(block, row), right = rbatl_row_right(block, row);
 
-    if (rbatl_row_is_strategic(block, row))
-        print_coalition(block, row);
     switch (rbatl_row_kind(block, row)) {
     case RBATL_PROP:
         printf("proposition %u", left);
@@ -57,6 +58,23 @@ void print_row(const uint8_t *block, unsigned row)
         printf("row %u until row %u", left, right);
         break;
     }
+}
+
+void print_row(const uint8_t *block, unsigned row)
+{
+    if (rbatl_row_is_strategic(block, row)) {
+        print_coalition(block, row);
+        print_bounds(block, row);
+        printf(": ");
+    }
+    print_formula(block, row);
+}
+
+void print_aim(const uint8_t *block, unsigned row)
+{
+    print_coalition(block, row);
+    printf(": ");
+    print_formula(block, row);
 }
 
 void print_kinds(const uint8_t *block)

@@ -7,6 +7,9 @@
 /* The formula of a row, as in `coalition 0, 1 within 5: row 2 until row 0`. */
 void print_row(const uint8_t *block, unsigned row);
 
+/* A strategic row without its bounds, as in `coalition 0, 1: row 2 until row 0`. */
+void print_aim(const uint8_t *block, unsigned row);
+
 /* The kinds of the resources, as in `sum, max`. */
 void print_kinds(const uint8_t *block);
 

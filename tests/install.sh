@@ -109,8 +109,10 @@ try 'the desk on a job' lists
 page=$there/share/man/man1/desk.1
 table() { "$there/bin/desk" table 2 < jobs/first.job; }
 sheet() { "$there/bin/desk" sheet 2 0:2 0:1 < jobs/first.job; }
+needs() { "$there/bin/desk" needs 2 0 < jobs/first.job; }
 has_example() {
-    [[ -n $(table) && -n $(sheet) ]] && ! grep -qvxF -f "$page" jobs/first.job <(table) <(sheet)
+    [[ -n $(table) && -n $(sheet) && -n $(needs) ]] &&
+        ! grep -qvxF -f "$page" jobs/first.job <(table) <(sheet) <(needs)
 }
 try 'the example of the man page' has_example
 if command -v groff > /dev/null; then

@@ -36,6 +36,8 @@ fn wrong_counts() {
         "reply 4",
         "reply 4 0",
         "reply 4 0 5 1 0 0",
+        "needs",
+        "needs 4 0 0",
     ] {
         complains_first(line, COUNT);
     }
@@ -58,6 +60,8 @@ fn counts_that_wait_for_the_job() {
         "reply 0 5 1",
         "reply 4 0 5 1",
         "reply 4 0 5 0 1",
+        "needs 0",
+        "needs 4 0",
         "sheet 0:5",
         "sheet 4 0:5",
         "sheet 0:5:0 1:5:0",
@@ -114,6 +118,9 @@ fn no_numbers() {
             format!("move 4 0 {word}"),
             format!("move {word} 5"),
             format!("reply 3 0 5 {word}"),
+            format!("needs {word}"),
+            format!("needs {word} 0"),
+            format!("needs 4 {word}"),
             format!("sheet {word} 0:5"),
             format!("sheet 4 {word}:5"),
             format!("sheet 4 0:5 1:{word}"),

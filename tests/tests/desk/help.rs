@@ -18,6 +18,7 @@ fn the_overview() {
         "move [ROW] STATE STOCK..",
         "reply [ROW] STATE STOCK.. MOVE",
         "sheet [ROW] STATE:STOCK[:STOCK] ..",
+        "needs [ROW] STATE",
     ];
     let others = ["help COMMAND", "--help", "--version"];
     for start in words.into_iter().chain(positions).chain(others) {

@@ -43,10 +43,13 @@ fn with_one_resource() {
     same(&job, "move 1 3", "move 3 1 3");
     same(&job, "reply 0 5 1", "reply 3 0 5 1");
     same(&job, "sheet 1:3 0:5", "sheet 3 1:3 0:5");
+    same(&job, "needs 1", "needs 3 1");
+    assert_eq!(desk("needs 1", &job).status, super::DONE);
     assert_eq!(desk("move 1 3", &job).status, super::DONE);
     assert_eq!(desk("reply 0 5 1", &job).status, super::DONE);
     assert_eq!(desk("sheet 1:3 0:5", &job).status, super::DONE);
     // Refusals too.
+    same(&job, "needs 3", "needs 3 3");
     same(&job, "move 3 3", "move 3 3 3");
     same(&job, "move 1 6", "move 3 1 6");
     same(&job, "move 1 2", "move 3 1 2");
@@ -63,6 +66,7 @@ fn with_two_resources() {
     same(&job, "move 0 3 1", "move 3 0 3 1");
     same(&job, "reply 0 0 0 0", "reply 3 0 0 0 0");
     same(&job, "sheet 0:3:1 0:0:0", "sheet 3 0:3:1 0:0:0");
+    same(&job, "needs 0", "needs 3 0");
     assert_eq!(desk("move 0 3 1", &job).status, super::DONE);
     assert_eq!(desk("reply 0 0 0 0", &job).status, super::DONE);
     // Three numbers are a row, a state and a stock with one resource only.
@@ -80,6 +84,7 @@ fn of_the_first_job() {
     same(&job, "move 0 2", "move 2 0 2");
     same(&job, "reply 0 1 0", "reply 2 0 1 0");
     same(&job, "sheet 0:2", "sheet 2 0:2");
+    same(&job, "needs 0", "needs 2 0");
 }
 
 #[test]
@@ -98,7 +103,14 @@ fn of_several_rows_or_none() {
     let none = catch_with(["not,0", "or,0,1", "prop,0"]);
     let two = catch_with(["until,1,5,2,0", "not,3", "next,1,5,2"]);
     for job in [none, two, jobs::text("catch.job")] {
-        for line in ["table", "dot", "move 0 5", "reply 0 5 1", "sheet 0:5 0:4"] {
+        for line in [
+            "table",
+            "dot",
+            "move 0 5",
+            "reply 0 5 1",
+            "sheet 0:5 0:4",
+            "needs 0",
+        ] {
             assert!(complains(line, &job, NO_ROW), "{line}");
         }
         assert_eq!(desk("dot 0", &job).status, super::DONE);

@@ -5,6 +5,7 @@ mod arguments;
 mod drawing;
 mod help;
 mod left_out;
+mod needs;
 mod random;
 mod refusals;
 mod sheets;
@@ -20,13 +21,14 @@ const REFUSED: i32 = 1;
 const FAILED: i32 = 2;
 
 /// Each command with arguments that Catch has an answer to.
-const ANSWERED: [&str; 7] = [
+const ANSWERED: [&str; 8] = [
     "check",
     "list",
     "table 4",
     "move 4 0 5",
     "reply 3 0 5 1",
     "sheet 4 0:5 0:4",
+    "needs 5 0",
     "dot 4",
 ];
 

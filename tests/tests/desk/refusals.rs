@@ -132,6 +132,8 @@ fn row_choices() {
             format!("move {row} 0 0"),
             format!("reply {row} 0 0 0"),
             format!("sheet {row} 0:0 9:9"),
+            format!("needs {row} 0"),
+            format!("needs {row} 9"),
         ] {
             assert!(catch(&line).refused(8), "{line}");
         }
@@ -156,6 +158,9 @@ fn positions() {
     assert!(catch("move 3 3 5").refused(9));
     assert!(catch("reply 3 0 6 1").refused(9));
     assert!(catch("reply 3 3 5 1").refused(9));
+    assert_eq!(catch("needs 3 2").status, 0);
+    assert!(catch("needs 3 3").refused(9));
+    assert!(catch("needs 3 255").refused(9));
     let sensor = jobs::text("sensor.job");
     assert_eq!(desk("move 3 0 3 1", &sensor).status, 0);
     assert!(desk("move 3 0 4 1", &sensor).refused(9));
