@@ -1,11 +1,12 @@
 //! How long `rbatl_table` and `rbatl_label` take on jobs of full size (24
 //! states, three agents with four actions, bounds 15 and 15), as ratios to a
 //! Rust program that does the same sweeps, to plain sweeps and to section 4 of
-//! document 003; how long a worksheet takes beside one move; what rows cost that
-//! the asked one does not need; how long a text of each edition takes to read and
-//! write; and how much stack every call uses.
+//! document 003; how long a worksheet takes beside one move, and smallest allowances
+//! beside one table; what rows cost that the asked one does not need; how long a text
+//! of each edition takes to read and write; and how much stack every call uses.
 
 mod cases;
+mod needs;
 mod sheet;
 mod stack;
 mod sweeps;
@@ -19,7 +20,7 @@ use rbatl_tests::ffi;
 use rbatl_tests::layout::{resource_kind, row, BLOCK_BYTES, KIND, MAX_ROWS, NEXT, SUM};
 use rbatl_tests::listing::LISTING_BYTES;
 use rbatl_tests::model::{At, MOVES_BYTES, RANKS_BYTES, ROOM_BYTES, SETS_BYTES};
-use rbatl_tests::model::{SHEET_POSITIONS, STATES_BYTES};
+use rbatl_tests::model::{ALLOWANCES_BYTES, SHEET_POSITIONS, STATES_BYTES};
 use rbatl_tests::text::{self, EDITIONS};
 use std::hint::black_box;
 use sweeps::{Order, Sweeper};
@@ -41,6 +42,7 @@ struct Buffers {
     states: Vec<u8>,
     listing: Vec<u8>,
     words: Vec<u8>,
+    allowances: Vec<u8>,
 }
 
 impl Buffers {
@@ -54,6 +56,7 @@ impl Buffers {
             states: vec![0; STATES_BYTES],
             listing: vec![0; LISTING_BYTES],
             words: vec![0; 2 * SHEET_POSITIONS],
+            allowances: vec![0; ALLOWANCES_BYTES],
         }
     }
 
@@ -89,6 +92,12 @@ impl Buffers {
         let (words, room) = (&mut self.words, &mut self.room);
         let answer = ffi::worksheet(black_box(job), ROW as u8, list, words, room);
         assert_eq!(answer, 0);
+    }
+
+    fn allowances(&mut self, job: &[u8], state: u8) -> usize {
+        let (list, room) = (&mut self.allowances, &mut self.room);
+        let answer = ffi::allowances(black_box(job), ROW as u8, state, list, room);
+        usize::try_from(answer).expect("a count")
     }
 
     /// The reply to idling at state 0 with no stock.
@@ -235,6 +244,7 @@ fn main() {
         println!("largest ratio to the {program}: table {table:.2}, label {label:.2}");
     }
     println!("largest ratio of a sheet to one move: {largest_sheet:.2}");
+    needs::print();
     print_crowd();
     texts::print();
     print_stack();
@@ -296,11 +306,12 @@ fn print_stack() {
         "move",
         "reply",
         "worksheet",
+        "allowances",
         "states",
         "states_refusal",
         "list",
     ];
-    let mut largest = [0; 12];
+    let mut largest = [0; 13];
     let list = sheet::list();
     for case in cases::all() {
         let mut buffers = Buffers::new();
@@ -319,6 +330,7 @@ fn print_stack() {
             stack::used(|| buffers.coalition_move(job, EMPTY)),
             stack::used(|| buffers.reply(job)),
             stack::used(|| buffers.worksheet(job, &list)),
+            stack::used(|| consume(buffers.allowances(job, 0))),
             stack::used(|| buffers.states(job)),
             stack::used(|| buffers.states_refusal(job)),
             of_texts(&mut |text| buffers.list(text)),

@@ -76,6 +76,20 @@ pub fn smallest(
     block
 }
 
+/// The job without its second resource, where it has two.
+pub fn with_one_resource(mut job: Vec<u8>) -> Vec<u8> {
+    let sizes = Sizes::of(&job);
+    job[RESOURCES] = 1;
+    job[resource_kind(1)] = 0;
+    for state in 0..sizes.states {
+        for agent in 0..sizes.agents {
+            (0..MAX_ACTIONS).for_each(|action| job[cost(state, agent, action, 1)] = 0);
+        }
+    }
+    (0..sizes.rows).for_each(|i| job[row(i, BOUND + 1)] = 0);
+    job
+}
+
 /// Catch with the seventh row of document 01, `always,2,0,1`.
 pub fn catch_with_always() -> Vec<u8> {
     let mut block = load("catch.job");

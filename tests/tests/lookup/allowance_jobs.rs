@@ -1,6 +1,7 @@
 //! Jobs whose smallest allowances are known beforehand.
 
 use super::*;
+use rbatl_tests::jobs::with_one_resource;
 use rbatl_tests::layout::*;
 
 const U: u8 = UNLIMITED;
@@ -29,16 +30,6 @@ fn ladder(kind: u8, steps: usize, costs: &[[u8; 2]], bounds: [u8; 2]) -> Vec<u8>
     let (left, right) = (u8::from(kind == NEXT), u8::from(kind == UNTIL));
     let fields = [kind, left, right, 1, bounds[0], bounds[1]];
     job[row(2, KIND)..row(2, PADDING)].copy_from_slice(&fields);
-    job
-}
-
-/// The job without its second resource.
-fn with_one_resource(mut job: Vec<u8>) -> Vec<u8> {
-    job[RESOURCES] = 1;
-    for state in 0..usize::from(job[STATES]) {
-        (0..MAX_ACTIONS).for_each(|action| job[cost(state, 0, action, 1)] = 0);
-    }
-    job[row(2, BOUND + 1)] = 0;
     job
 }
 
