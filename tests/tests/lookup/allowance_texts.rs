@@ -1,5 +1,6 @@
 //! Smallest allowances put into the text of their job: the listing then has the state
-//! in the row's set, and with one less in either number it does not.
+//! in the row's set, and with one less in either number it does not. The library is
+//! asked alone, without the checker.
 
 use super::*;
 use rbatl_tests::ffi;
@@ -9,7 +10,7 @@ use rbatl_tests::model::{MOVES_BYTES, RANKS_BYTES};
 use rbatl_tests::random::{any_text, cases};
 
 const SEED: u64 = 0x6361_7264;
-const CASES: u64 = 100;
+const CASES: u64 = 1_000;
 
 /// A job as a text, and as the block that this means.
 struct Job {
@@ -55,6 +56,16 @@ impl Job {
     fn bounds(&self, i: u8) -> [u8; 2] {
         [0, 1].map(|j| self.block[row(i.into(), BOUND + j)])
     }
+
+    /// What the library lists for the state.
+    fn allowances(&self, i: u8, state: u8) -> Vec<[u8; 2]> {
+        let (mut list, mut room) = ([0; ALLOWANCES_BYTES], ZEROS);
+        let count = ffi::allowances(&self.block, i, state, &mut list, &mut room);
+        let pairs = list.chunks(2).map(|pair| [pair[0], pair[1]]);
+        pairs
+            .take(usize::try_from(count).expect("a count"))
+            .collect()
+    }
 }
 
 /// Numbers made one smaller, and allowances as large as they can be that are not
@@ -66,9 +77,9 @@ struct Seen {
 }
 
 impl Seen {
-    fn state(&mut self, job: &Job, asked: &Asked, i: u8, state: u8) {
-        let what = format!("row {i}, state {state} of {}", asked.what);
-        let pairs = asked.allowances(i, state);
+    fn state(&mut self, job: &Job, i: u8, state: u8, what: &str) {
+        let what = format!("row {i}, state {state} of {what}");
+        let pairs = job.allowances(i, state);
         for &pair in &pairs {
             assert!(job.lists(i, state, pair), "{pair:?}, {what}");
             for (j, seen) in self.smaller.iter_mut().enumerate() {
@@ -95,11 +106,11 @@ fn put_into_the_job() {
         let rng = &mut Rng::for_case(SEED, case);
         let mut block = games::trade(rng);
         let text = String::from_utf8(any_text(rng, &mut block)).expect("plain text");
+        let rows = Model::of(&block).rows();
         let job = Job { text, block };
-        let asked = Asked::patterned(&job.block, format!("case {case}"));
-        for i in asked.model.rows() {
+        for i in rows {
             for state in 0..Sizes::of(&job.block).states as u8 {
-                seen.state(&job, &asked, i, state);
+                seen.state(&job, i, state, &format!("case {case}"));
             }
         }
     }
