@@ -3,11 +3,14 @@
 
 #include <string.h>
 
+/* The most pairs that are tried. */
+#define MAX_PAIRS ((RBATL_MAX_BOUND + 1) * (RBATL_MAX_BOUND + 1))
+
 /* The pairs that are tried for a row, and the states that satisfy it with each. */
 struct trials {
     unsigned count;
-    uint8_t pairs[RBATL_MAX_ALLOWANCES * RBATL_MAX_ALLOWANCES][RBATL_MAX_RESOURCES];
-    uint32_t sets[RBATL_MAX_ALLOWANCES * RBATL_MAX_ALLOWANCES];
+    uint8_t pairs[MAX_PAIRS][RBATL_MAX_RESOURCES];
+    uint32_t sets[MAX_PAIRS];
 };
 
 /* The states that the library lists, as a set. */
@@ -22,32 +25,33 @@ static uint32_t states_with(struct run *run, const uint8_t *block, unsigned row)
     return set;
 }
 
-/* The bounds of a resource that are tried, from the least to the most. */
-static void bounds_of(const uint8_t *block, unsigned row, unsigned resource, unsigned *least,
-                      unsigned *most)
-{
-    bool absent = resource >= rbatl_job_resources(block);
-    bool unlimited = !absent && rbatl_row_bound(block, row, resource) == RBATL_UNLIMITED;
+/* The bounds of a resource that are tried. */
+struct range {
+    unsigned least, most;
+};
 
-    *least = unlimited ? RBATL_UNLIMITED : 0;
-    *most = absent || unlimited ? *least : RBATL_MAX_BOUND;
+static struct range range_of(const uint8_t *block, unsigned row, unsigned resource)
+{
+    if (resource >= rbatl_job_resources(block))
+        return (struct range){0, 0};
+    if (rbatl_row_bound(block, row, resource) == RBATL_UNLIMITED)
+        return (struct range){RBATL_UNLIMITED, RBATL_UNLIMITED};
+    return (struct range){0, RBATL_MAX_BOUND};
 }
 
 /* In rising first number; each pair is written into the row of a copy. */
 static void try_pairs(struct run *run, const uint8_t *block, unsigned row, struct trials *trials)
 {
-    unsigned first, second, least, most[RBATL_MAX_RESOURCES];
+    struct range first = range_of(block, row, 0), second = range_of(block, row, 1);
     uint8_t copy[RBATL_BLOCK_BYTES];
     uint8_t *bounds = copy + rbatl_place_of_field(row, RBATL_FIELD_BOUND);
 
     memcpy(copy, block, sizeof copy);
     trials->count = 0;
-    bounds_of(block, row, 0, &first, &most[0]);
-    bounds_of(block, row, 1, &least, &most[1]);
-    for (; first <= most[0]; first++)
-        for (second = least; second <= most[1]; second++) {
-            bounds[0] = trials->pairs[trials->count][0] = (uint8_t)first;
-            bounds[1] = trials->pairs[trials->count][1] = (uint8_t)second;
+    for (unsigned x = first.least; x <= first.most; x++)
+        for (unsigned y = second.least; y <= second.most; y++) {
+            bounds[0] = trials->pairs[trials->count][0] = (uint8_t)x;
+            bounds[1] = trials->pairs[trials->count][1] = (uint8_t)y;
             trials->sets[trials->count++] = states_with(run, copy, row);
         }
 }
@@ -88,7 +92,7 @@ static void try_state(struct run *run, const struct request *request, const stru
 }
 
 /* All states of the row, and one that there is not. The pairs take 256 calls where
- * both resources are limited, so that rows of many states are left out, and some. */
+ * both resources are limited, so that large jobs are left out, and half of the rest. */
 void try_needs(struct run *run, const uint8_t *block, unsigned row)
 {
     static struct outcome outcome;

@@ -24,9 +24,10 @@ fn splits_and_search_agree_on_small_jobs() {
     let (mut rows, mut some) = (0, 0);
     for case in 0..cases(CASES) {
         let rng = &mut Rng::for_case(SEED, case);
-        let job = match rng.one_in(3) {
-            true => games::teamwork(rng),
-            false => games::small(rng),
+        let job = match rng.below(4) {
+            0 => games::teamwork(rng),
+            1 => games::trade(rng),
+            _ => games::small(rng),
         };
         let sets = agreed(&job, &format!("case {case}"));
         let all = (1 << job[rbatl_tests::layout::STATES]) - 1;
