@@ -11,7 +11,8 @@ use Rattle.block.specs.Layout as L
 use Rattle.block.specs.Layout.{Block, Strategic, placeOf}
 use Rattle.block.specs.Inner.Valid.{Valid}
 use Rattle.block.specs.declared.layout.Place.the-variants.{Field}
-use Rattle.block.proofs.OneRow.{same-header, same-field, row-same, valid-same}
+use Rattle.block.specs.Inner.OneRow.{SameAim}
+use Rattle.block.proofs.OneRow.{same-resources, same-states, same-rows, own-aim, row-same, valid-same}
 use Rattle.game.proofs.Blocks.OneRow.{with-same}
 use Rattle.solver.specs.Inner.Ready.{MadeReady}
 use Rattle.solver.specs.declared.ready.Ready.{Ready}
@@ -78,14 +79,11 @@ module _ {i : ℕ} {b b′ : Block} {n : ℕ} (raised : RaisedTo i b b′ n) whe
       same j lj un (no other) = others j other ∙ raised .unlimited j (omega arith) un
 
 module _ {i : ℕ} {b b′ : Block} (valid : Valid b) (inside : i < L.rows b) (strategic : Strategic (L.kind b i)) (raised : Raised i b b′) where
-  few : i < L.maxRows
-  few = omega (arith, valid .sized .rows-fit)
-
-  field : (f : ℕ) → f < L.boundByte → L.at b′ (Field i f) ≡ L.at b (Field i f)
-  field f small = same-field few (raised .only) i f (omega arith) (λ _ bound. omega (arith, bound))
-
   resources : L.resources b′ ≡ L.resources b
-  resources = same-header few (raised .only) L.resourcesByte (omega arith)
+  resources = same-resources valid inside (raised .only)
+
+  aim : SameAim i b b′
+  aim = own-aim valid inside (raised .only)
 
   -- a bound of the row is the most units or unlimited
   raised-most : (j : ℕ) → j < L.resources b → (L.bound b′ i j ≡ L.unlimited) ⊎ (L.bound b′ i j ≡ L.maxUnits)
@@ -97,9 +95,8 @@ module _ {i : ℕ} {b b′ : Block} (valid : Valid b) (inside : i < L.rows b) (s
 
   pub raised-valid : Valid b′
   raised-valid =
-      valid-same few (raised .only) valid (field L.kindByte (omega arith)) inside
-      (row-same few (raised .only) valid i (field L.kindByte (omega arith)) (field L.leftByte (omega arith)) (field L.rightByte (omega arith)) (field L.teamByte (omega arith))
-      (λ _ j l high. fits j l high (raised-most j l)) (valid .row-fits i inside))
+      valid-same valid inside (raised .only) (aim .kind)
+      (row-same valid inside (raised .only) i aim (λ _ j l high. fits j l high (raised-most j l)) (valid .row-fits i inside))
       (λ f bound. inr (inr (strategic, (omega (arith, bound), bound .1))))
     where
       fits : (j : ℕ) → j < L.resources b → L.maxUnits < L.bound b′ i j → (L.bound b′ i j ≡ L.unlimited) ⊎ (L.bound b′ i j ≡ L.maxUnits) → L.bound b′ i j ≡ L.unlimited
@@ -107,12 +104,10 @@ module _ {i : ℕ} {b b′ : Block} (valid : Valid b) (inside : i < L.rows b) (s
       fits j l high (inr most) = absurd (omega arith)
 
   pub raised-row : (i < L.rows b′) × Strategic (L.kind b′ i)
-  raised-row =
-      let kind = field L.kindByte (omega arith) in
-      (omega (arith, same-header few (raised .only) L.rowsByte (omega arith)), (omega (arith, strategic), omega (arith, strategic)))
+  raised-row = (omega (arith, same-rows valid inside (raised .only)), rw (aim .kind) strategic)
 
   pub raised-states : L.states b′ ≡ L.states b
-  raised-states = same-header few (raised .only) L.statesByte (omega arith)
+  raised-states = same-states valid inside (raised .only)
 
   pub raised-tabled : {ready : Ready} {ways ranks : List ℕ} → MadeReady b′ i ready ways ranks → Tabled b′ i ranks
   raised-tabled {ready} made = record {
@@ -146,10 +141,10 @@ module _ {i : ℕ} {b b′ : Block} (valid : Valid b) (inside : i < L.rows b) (s
   -- and so is what suffices
   module _ (q : ℕ) (state : q < L.states b) where
     suffices-on : (x : Allowance) → Suffices b i q x → Suffices b′ i q x
-    suffices-on x (shows, met) = (λ j l. shows-on j (x j) (shows j l), with-same valid raised-valid inside (raised .only) x x (λ r _. refl) q state .0 met)
+    suffices-on x (shows, met) = (λ j l. shows-on j (x j) (shows j l), with-same valid raised-valid inside (raised .only) x q state .0 met)
 
     suffices-back : (x : Allowance) → Suffices b′ i q x → Suffices b i q x
-    suffices-back x (shows, met) = (λ j l. shows-back j (x j) (shows j l), with-same valid raised-valid inside (raised .only) x x (λ r _. refl) q state .1 met)
+    suffices-back x (shows, met) = (λ j l. shows-back j (x j) (shows j l), with-same valid raised-valid inside (raised .only) x q state .1 met)
 
     pub raised-allowances : (list : List ℕ) (n : ℕ) → AllowancesIn b′ i q list n → AllowancesIn b i q list n
     raised-allowances list n found = record {

@@ -3,7 +3,7 @@
 use mathlib.Core.Bool.{Bool, cond}
 use mathlib.Core.Logic.{_↔_}
 use mathlib.Core.Path.{_≡_, refl, sym, _∙_, ap, ap₂, fun-ext, subst}
-use Prim.Native.Nat.{ℕ, zero, suc, _+_, _≤_, _<_}
+use Prim.Native.Nat.{ℕ, zero, suc, _≤_, _<_}
 use native.Mathlib.Decide.{decLt}
 use native.Mathlib.Omega.{arith}
 use lib.Dec.{eqb, ltb}
@@ -11,9 +11,8 @@ use borrow.Author.Tests.{le-ltb}
 use Rattle.block.specs.Layout as L
 use Rattle.block.specs.Layout.{Block}
 use Rattle.block.specs.Inner.Valid.{Valid}
-use Rattle.block.specs.Inner.OneRow.{OnlyFields, IsBound}
-use Rattle.block.proofs.OneRow.{same-header, same-mask, same-count, same-cost, same-next, same-kind, same-field}
-use Rattle.block.specs.declared.layout.Place.the-variants.{Field}
+use Rattle.block.specs.Inner.OneRow.{OnlyFields, IsBound, SameAim}
+use Rattle.block.proofs.OneRow.{same-agents, same-resources, same-states, same-mask, same-count, same-cost, same-next, same-kind, other-aim, other-bound, own-aim}
 use Rattle.game.specs.Rbatl as R
 use Rattle.game.specs.Rbatl.{unlimited, Bounds, Formula, Sat}
 use Rattle.game.specs.Position.{joint}
@@ -39,51 +38,33 @@ formulaBy kind left right team bounds lower =
     (R.next (bit team) bounds (lower left)) (R.always (bit team) bounds (lower left)) (R.until (bit team) bounds (lower left) (lower right))
 
 module _ {i : ℕ} {Changed : ℕ → Type 0} {b b′ : Block} (valid : Valid b) (inside : i < L.rows b) (only : OnlyFields i Changed b b′) where
-  few : i < L.maxRows
-  few = omega (arith, valid .sized .rows-fit)
-
-  resources-same : L.resources b′ ≡ L.resources b
-  resources-same = same-header few only L.resourcesByte (omega arith)
-
   structures-agree : Agrees (structureOf b) (structureOf b′)
   structures-agree = record {
-    agents = agents;
-    resources = resources-same;
-    states = same-header few only L.statesByte (omega arith);
-    holds = λ p q l. ap (λ (m : ℕ). bit m p) (same-mask few only q (state q l));
-    actions = λ q a l la. same-count few only q a (state q l) (agent a la);
-    cost = λ q a k r l la lk lr. same-cost few only q a k r (state q l) (agent a la) (omega (arith, valid .counted q a l la)) (omega (arith, valid .sized .resources-fit));
-    combine = λ r x y. ap (λ (k : ℕ). combineOf k x y) (same-kind few only r);
+    agents = same-agents valid inside only;
+    resources = same-resources valid inside only;
+    states = same-states valid inside only;
+    holds = λ p q l. ap (λ (m : ℕ). bit m p) (same-mask valid inside only q l);
+    actions = same-count valid inside only;
+    cost = same-cost valid inside only;
+    combine = λ r x y. ap (λ (k : ℕ). combineOf k x y) (same-kind valid inside only r);
     next = λ q m l available.
-        ap (λ (n : ℕ). L.next b′ q (joint n m)) agents
-        ∙ same-next few only q (joint (L.agents b) m) (state q l) (joint-available b valid q m l available .0);
+        ap (λ (n : ℕ). L.next b′ q (joint n m)) (same-agents valid inside only)
+        ∙ same-next valid inside only q (joint (L.agents b) m) l (joint-available b valid q m l available .0);
   }
-    where
-      agents : L.agents b′ ≡ L.agents b
-      agents = same-header few only L.agentsByte (omega arith)
 
-      state : (q : ℕ) → q < L.states b → q < L.maxStates
-      state q l = omega (arith, valid .sized .states-fit)
-
-      agent : (a : ℕ) → a < L.agents b → a < L.maxAgents
-      agent a l = omega (arith, valid .sized .agents-fit)
-
-  -- a row's formula, where its operands and team are the same
-  formula-same : (k : ℕ) → L.kind b′ k ≡ L.kind b k → L.left b′ k ≡ L.left b k → L.right b′ k ≡ L.right b k → L.team b′ k ≡ L.team b k
-      → {bounds bounds′ : Bounds} → bounds′ ≡ bounds → {lower lower′ : ℕ → Formula} → lower′ ≡ lower → formulaWith b′ k bounds′ lower′ ≡ formulaWith b k bounds lower
-  formula-same k ek el er et {bounds} {bounds′} eb {lower} {lower′} eo =
-      let e : formulaBy (L.kind b′ k) (L.left b′ k) (L.right b′ k) (L.team b′ k) bounds′ lower′ ≡ formulaBy (L.kind b k) (L.left b k) (L.right b k) (L.team b k) bounds lower = rw (ek, el, er, et, eb, eo) in
+  -- the formula of a row with the same aim
+  formula-same : (k : ℕ) → SameAim k b b′ → {bounds bounds′ : Bounds} → bounds′ ≡ bounds → {lower lower′ : ℕ → Formula} → lower′ ≡ lower → formulaWith b′ k bounds′ lower′ ≡ formulaWith b k bounds lower
+  formula-same k aim {bounds} {bounds′} eb {lower} {lower′} eo =
+      let e : formulaBy (L.kind b′ k) (L.left b′ k) (L.right b′ k) (L.team b′ k) bounds′ lower′ ≡ formulaBy (L.kind b k) (L.left b k) (L.right b k) (L.team b k) bounds lower =
+      rw (aim .kind, aim .left, aim .right, aim .team, eb, eo) in
       e
 
-  -- the formulas of lower rows
-  module _ (k : ℕ) (lower : k < i) where
-    field : (f : ℕ) → f < L.rowBytes → L.at b′ (Field k f) ≡ L.at b (Field k f)
-    field f small = same-field few only k f small (λ e _. omega arith)
-
-    row-same : formulasBelow b′ k ≡ formulasBelow b k → rowFormula b′ k (formulasBelow b′ k) ≡ rowFormula b k (formulasBelow b k)
-    row-same =
-        formula-same k (field L.kindByte (omega arith)) (field L.leftByte (omega arith)) (field L.rightByte (omega arith)) (field L.teamByte (omega arith))
-        (bounds-same b b′ resources-same (L.bound b′ k) (L.bound b k) (λ r lr. field (L.boundByte + r) (omega (arith, valid .sized .resources-fit))))
+  -- those of lower rows
+  row-same : (k : ℕ) → k < i → formulasBelow b′ k ≡ formulasBelow b k → rowFormula b′ k (formulasBelow b′ k) ≡ rowFormula b k (formulasBelow b k)
+  row-same k lower =
+      let other : k ≡ i → ⊥ = λ e. omega arith in
+      formula-same k (other-aim valid inside only k other)
+      (bounds-same b b′ (same-resources valid inside only) (L.bound b′ k) (L.bound b k) (other-bound valid inside only k other))
 
   formulas-same : (k : ℕ) → k ≤ i → formulasBelow b′ k ≡ formulasBelow b k
   formulas-same zero l = refl
@@ -93,17 +74,14 @@ module _ {i : ℕ} {Changed : ℕ → Type 0} {b b′ : Block} (valid : Valid b)
 
 -- row i with any bounds, where only its own bounds differ
 module _ {i : ℕ} {b b′ : Block} (valid : Valid b) (valid′ : Valid b′) (inside : i < L.rows b) (only : OnlyFields i (IsBound b) b b′) where
-  no-bound : (f : ℕ) → f < L.boundByte → L.at b′ (Field i f) ≡ L.at b (Field i f)
-  no-bound f small = same-field (few valid inside only) only i f (omega arith) (λ _ bound. omega (arith, bound))
-
-  pub with-same : (x y : ℕ → ℕ) → ((r : ℕ) → r < L.resources b → x r ≡ y r) → (q : ℕ) → q < L.states b → RowTrueWith b i (boundsBy b y) q ↔ RowTrueWith b′ i (boundsBy b′ x) q
-  with-same x y same q l =
+  pub with-same : (x : ℕ → ℕ) (q : ℕ) → q < L.states b → RowTrueWith b i (boundsBy b x) q ↔ RowTrueWith b′ i (boundsBy b′ x) q
+  with-same x q l =
       let formula =
-      formula-same valid inside only i (no-bound L.kindByte (omega arith)) (no-bound L.leftByte (omega arith)) (no-bound L.rightByte (omega arith)) (no-bound L.teamByte (omega arith))
-      (bounds-same b b′ (resources-same valid inside only) x y same) (formulas-same valid inside only i (omega arith)) in
-      subst (λ (φ : Formula). RowTrueWith b i (boundsBy b y) q ↔ Sat (structureOf b′) φ q) (sym formula)
-      (sat-same (structures-agree valid inside only) (valid-proper b valid) (valid-proper b′ valid′) (formulaWith b i (boundsBy b y) (formulasBelow b i)) q l)
+      formula-same valid inside only i (own-aim valid inside only)
+      (bounds-same b b′ (same-resources valid inside only) x x (λ r _. refl)) (formulas-same valid inside only i (omega arith)) in
+      subst (λ (φ : Formula). RowTrueWith b i (boundsBy b x) q ↔ Sat (structureOf b′) φ q) (sym formula)
+      (sat-same (structures-agree valid inside only) (valid-proper b valid) (valid-proper b′ valid′) (formulaWith b i (boundsBy b x) (formulasBelow b i)) q l)
 
   -- put into the job: the row of the other block is this one's with its bounds
   pub put-in : (q : ℕ) → q < L.states b → RowTrueWith b i (boundsBy b (L.bound b′ i)) q ↔ RowTrue b′ i q
-  put-in = with-same (L.bound b′ i) (L.bound b′ i) (λ r _. refl)
+  put-in = with-same (L.bound b′ i)
