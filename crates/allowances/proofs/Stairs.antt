@@ -4,6 +4,7 @@ use mathlib.Core.Path.{_≡_, sym, subst, subst₂}
 use Prim.Native.Nat.{ℕ, _+_, _≤_, _<_}
 use native.Mathlib.Decide.{ℕ-discrete, decLt}
 use native.Mathlib.Omega.{arith}
+use borrow.Author.Count.{below-more}
 use Rattle.block.specs.Decide.{Some}
 
 module _ (P : ℕ → ℕ → Type 0) (first₀ first₁ end₁ : ℕ) where
@@ -72,11 +73,7 @@ module _ (P : ℕ → ℕ → Type 0) (first₀ first₁ end₁ : ℕ) where
       module _ (xs′ ys′ : ℕ → ℕ) (same : (k : ℕ) → k < n → (xs′ k ≡ xs k) × (ys′ k ≡ ys k)) (here : (xs′ n ≡ x) × (ys′ n ≡ y)) where
         -- a claim about each of the pairs
         each : (Q : ℕ → ℕ → Type 0) → ((k : ℕ) → k < n → Q (xs k) (ys k)) → Q x y → (k : ℕ) → k < n + 1 → Q (xs′ k) (ys′ k)
-        each Q before now k h = go (ℕ-discrete k n)
-          where
-            go : Dec (k ≡ n) → Q (xs′ k) (ys′ k)
-            go (yes e) = rw e (subst₂ Q (sym (here .0)) (sym (here .1)) now)
-            go (no other) = let l : k < n = omega arith in subst₂ Q (sym (same k l .0)) (sym (same k l .1)) (before k l)
+        each Q before now = below-more (λ k. Q (xs′ k) (ys′ k)) n (λ k l. subst₂ Q (sym (same k l .0)) (sym (same k l .1)) (before k l)) (subst₂ Q (sym (here .0)) (sym (here .1)) now)
 
         -- one of the earlier pairs is still there
         still : (Q : ℕ → ℕ → Type 0) → Some n (λ k. Q (xs k) (ys k)) → Some (n + 1) (λ k. Q (xs′ k) (ys′ k))

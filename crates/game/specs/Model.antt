@@ -79,7 +79,7 @@ formulaOf b i = rowFormula b i (formulasBelow b i)
 abbrev pub RowTrue : Block → ℕ → ℕ → Type 0
 RowTrue b i q = Sat (structureOf b) (formulaOf b i) q
 
--- with these bounds in the place of its own, over the same lower rows
+-- the same with other bounds in the place of its own, over the same lower rows (document 02, R-4)
 abbrev pub RowTrueWith : Block → ℕ → Bounds → ℕ → Type 0
 RowTrueWith b i bounds q = Sat (structureOf b) (formulaWith b i bounds (formulasBelow b i)) q
 

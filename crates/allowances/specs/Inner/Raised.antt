@@ -1,8 +1,10 @@
 -- A block with the bounds of one row raised, and the ranks of such a row.
+use mathlib.Core.Bool.{cond}
 use mathlib.Core.List.{List}
 use mathlib.Core.Logic.{_⊎_}
 use mathlib.Core.Path.{_≡_}
 use Prim.Native.Nat.{ℕ, _≤_, _<_}
+use lib.Dec.{eqb}
 use lib.ListN.{length}
 use Rattle.block.specs.Layout as L
 use Rattle.block.specs.Layout.{Block, Strategic}
@@ -11,11 +13,14 @@ use Rattle.block.specs.Inner.Valid.{Valid}
 use Rattle.turns.specs.Sizes.{roomBytes}
 use Rattle.solver.specs.Inner.Labels.{Prepared}
 
--- b′ is b with the limited bounds of row i raised to the most units, for the first n resources
+-- a bound raised to the most units, unless it is unlimited
+abbrev pub raisedBound : ℕ → ℕ
+raisedBound n = cond (eqb n L.unlimited) L.unlimited L.maxUnits
+
+-- b′ is b with the bounds of row i raised, for the first n resources
 pub record RaisedTo (i : ℕ) (b b′ : Block) (n : ℕ) : Type 0 where
   pub only : OnlyFields i (IsBound b) b b′
-  pub limited : (j : ℕ) → j < n → (L.bound b i j ≡ L.unlimited → ⊥) → L.bound b′ i j ≡ L.maxUnits
-  pub unlimited : (j : ℕ) → j < n → L.bound b i j ≡ L.unlimited → L.bound b′ i j ≡ L.unlimited
+  pub raised : (j : ℕ) → j < n → L.bound b′ i j ≡ raisedBound (L.bound b i j)
   pub rest : (j : ℕ) → n ≤ j → L.bound b′ i j ≡ L.bound b i j
 
 -- for all of them
