@@ -2,7 +2,6 @@
 use mathlib.Core.List.{[], _∷_}
 use mathlib.Core.Path.{_≡_}
 use Prim.Native.Nat.{ℕ, _≤_, _<_}
-use native.Mathlib.Decide.{decLt}
 use native.Mathlib.Omega.{arith}
 use Rattle.block.specs.Layout as L
 use Rattle.block.specs.Layout.{Block}
@@ -22,8 +21,4 @@ pub allowances-admitted : (b : Block) (i s list room : ℕ) → Fails (allowance
 allowances-admitted b i s list room (no-list, (no-room, fails)) =
     let (row, (some, _)) = apart (rowRules b i) (refusal.Position when (L.states b ≤ s) ∷ []) fails in
     let (valid, (inside, strategic)) = row-admitted b i row in
-    (valid, ((inside, strategic, state some (decLt s (L.states b))), (stable list allowancesBytes no-list, stable room roomBytes no-room)))
-  where
-    state : (L.states b ≤ s → ⊥) → Dec (s < L.states b) → s < L.states b
-    state some (yes l) = l
-    state some (no h) = absurd (some (omega arith))
+    (valid, ((inside, strategic, omega (arith, some)), (stable list allowancesBytes no-list, stable room roomBytes no-room)))

@@ -2,7 +2,6 @@
 use mathlib.Core.List.{List}
 use mathlib.Core.Path.{_≡_, _∙_, ap, subst}
 use Prim.Native.Nat.{ℕ, _+_, _*_, _≤_, _<_}
-use native.Mathlib.Decide.{decLt}
 use native.Mathlib.Omega.{arith}
 use lib.ListN.{getD, set, length, length-set, length-replicate, replicate}
 use lib.Seq.{getD-set-same, getD-set-other}
@@ -32,14 +31,10 @@ module _ (b : Block) (i q first₀ first₁ end₁ : ℕ) where
 module _ {b : Block} {i q first₀ first₁ end₁ : ℕ} {list : List ℕ} {n x end r : ℕ} (filled : FilledTo b i q first₀ first₁ end₁ list n x end) (found : FirstEnough b i q x first₁ end r) where
   pub filled-skip : (r < end → ⊥) → FilledTo b i q first₀ first₁ end₁ list n (x + 1) end
   filled-skip none = record {
-    stairs = stairs-none _ _ _ _ (filled .stairs) (λ v h. found .none v (go (decLt r end) v h));
+    stairs = stairs-none _ _ _ _ (filled .stairs) (λ v h. found .none v (omega arith));
     past = filled .past;
     long = filled .long;
   }
-    where
-      go : Dec (r < end) → (v : ℕ) → v < end → v < r
-      go (yes h) v l = absurd (none h)
-      go (no h) v l = omega arith
 
   abbrev stored : List ℕ
   stored = set (set list (L.maxResources * n) x) (L.maxResources * n + 1) r
