@@ -1,36 +1,29 @@
 -- A row's bounds raised one after another; the block with all of them raised is valid, and has the same smallest allowances. Assumes nothing.
-use mathlib.Core.Bool.{Bool, cond}
 use mathlib.Core.List.{List}
 use mathlib.Core.Logic.{_⊎_, inl, inr}
-use mathlib.Core.Path.{_≡_, refl, sym, _∙_, ap}
+use mathlib.Core.Path.{_≡_, refl, sym, _∙_}
 use Prim.Native.Nat.{ℕ, _+_, _≤_, _<_}
 use native.Mathlib.Decide.{ℕ-discrete}
 use native.Mathlib.Omega.{arith}
 use lib.ListN.{set, length, length-set}
 use lib.Seq.{getD-set-same, getD-set-other}
 use borrow.Author.Count.{below-none, below-more}
-use borrow.Author.Tests.{eq-eqb, ne-eqb}
 use Rattle.block.specs.Layout as L
 use Rattle.block.specs.Layout.{Block, Strategic, placeOf}
 use Rattle.block.specs.Inner.Valid.{Valid}
 use Rattle.block.specs.declared.layout.Place.the-variants.{Field}
 use Rattle.block.specs.Inner.OneRow.{SameAim}
 use Rattle.block.proofs.OneRow.{same-resources, same-states, same-rows, own-aim, row-same, valid-same}
+use Rattle.game.proofs.Blocks.Reading.{if-unlimited, if-limited}
 use Rattle.game.proofs.Blocks.OneRow.{with-same}
 use Rattle.solver.specs.Inner.Ready.{MadeReady}
 use Rattle.solver.specs.declared.ready.Ready.{Ready}
 use Rattle.allowances.specs.Allowances.{Allowance, Shows, Suffices, AllowancesIn}
 use Rattle.allowances.specs.Allowances as A
-use Rattle.allowances.specs.Inner.Raised.{raisedBound, RaisedTo, Raised, Tabled}
+use Rattle.allowances.specs.Inner.Raised.{RaisedTo, Raised, Tabled}
 
 abbrev boundPlace : ℕ → ℕ → ℕ
 boundPlace i j = placeOf (Field i (L.boundByte + j))
-
-stays : (n : ℕ) → n ≡ L.unlimited → raisedBound n ≡ L.unlimited
-stays n e = ap (λ (t : Bool). cond t L.unlimited L.maxUnits) (eq-eqb n L.unlimited e)
-
-rises : (n : ℕ) → (n ≡ L.unlimited → ⊥) → raisedBound n ≡ L.maxUnits
-rises n other = ap (λ (t : Bool). cond t L.unlimited L.maxUnits) (ne-eqb n L.unlimited other)
 
 pub raised-none : (i : ℕ) (b : Block) → L.resources b ≤ L.maxResources → RaisedTo i b b 0
 raised-none i b few = record {
@@ -47,7 +40,7 @@ module _ {i : ℕ} {b b′ : Block} {n : ℕ} (before : RaisedTo i b b′ n) whe
   pub raised-skip : L.bound b′ i n ≡ L.unlimited → RaisedTo i b b′ (n + 1)
   raised-skip e = record {
     only = before .only;
-    raised = below-more _ n (before .raised) (e ∙ sym (stays (L.bound b i n) (sym same ∙ e)));
+    raised = below-more _ n (before .raised) (e ∙ sym (if-unlimited (L.bound b i n) L.unlimited L.maxUnits (sym same ∙ e)));
     rest = λ j l. before .rest j (omega arith);
   }
 
@@ -63,7 +56,7 @@ module _ {i : ℕ} {b b′ : Block} {n : ℕ} (before : RaisedTo i b b′ n) whe
     };
     raised =
         below-more _ n (λ j lj. others j (λ e. omega arith) ∙ before .raised j lj)
-        (getD-set-same b′ (boundPlace i n) L.maxUnits 0 inside ∙ sym (rises (L.bound b i n) (λ un. limited (same ∙ un))));
+        (getD-set-same b′ (boundPlace i n) L.maxUnits 0 inside ∙ sym (if-limited (L.bound b i n) L.unlimited L.maxUnits (λ un. limited (same ∙ un))));
     rest = λ j lj. others j (λ e. omega arith) ∙ before .rest j (omega arith);
   }
     where
@@ -78,10 +71,10 @@ module _ {i : ℕ} {b b′ : Block} (valid : Valid b) (inside : i < L.rows b) (s
   aim = own-aim valid inside (copy .only)
 
   unlimited : (j : ℕ) → j < L.resources b → L.bound b i j ≡ L.unlimited → L.bound b′ i j ≡ L.unlimited
-  unlimited j l e = copy .raised j l ∙ stays (L.bound b i j) e
+  unlimited j l e = copy .raised j l ∙ if-unlimited (L.bound b i j) L.unlimited L.maxUnits e
 
   limited : (j : ℕ) → j < L.resources b → (L.bound b i j ≡ L.unlimited → ⊥) → L.bound b′ i j ≡ L.maxUnits
-  limited j l other = copy .raised j l ∙ rises (L.bound b i j) other
+  limited j l other = copy .raised j l ∙ if-limited (L.bound b i j) L.unlimited L.maxUnits other
 
   -- a bound of the row is the most units or unlimited
   raised-most : (j : ℕ) → j < L.resources b → (L.bound b′ i j ≡ L.unlimited) ⊎ (L.bound b′ i j ≡ L.maxUnits)

@@ -41,6 +41,16 @@ module _ (P : ℕ → ℕ → Type 0) (first₀ first₁ end₁ : ℕ) where
         let (k, lk, e) = stairs .met (omega arith) in
         (k, lk, (omega (arith, stairs .inside k lk), omega arith))
 
+    -- with x too, where the pairs that were there still cover what they did
+    covered-more : {xs′ ys′ : ℕ → ℕ} {n′ : ℕ} → ((u v : ℕ) → Some n (λ k. (xs k ≤ u) × (ys k ≤ v)) → Some n′ (λ k. (xs′ k ≤ u) × (ys′ k ≤ v)))
+        → ((v : ℕ) → first₁ ≤ v → v < end₁ → P x v → Some n′ (λ k. (xs′ k ≤ x) × (ys′ k ≤ v)))
+        → (u v : ℕ) → first₀ ≤ u → u < x + 1 → first₁ ≤ v → v < end₁ → P u v → Some n′ (λ k. (xs′ k ≤ u) × (ys′ k ≤ v))
+    covered-more {xs′} {ys′} {n′} still here u v l₀ h l₁ h₁ p = go (ℕ-discrete u x)
+      where
+        go : Dec (u ≡ x) → Some n′ (λ k. (xs′ k ≤ u) × (ys′ k ≤ v))
+        go (no other) = still u v (stairs .covered u v l₀ (omega arith) l₁ h₁ p)
+        go (yes e) = subst (λ (w : ℕ). Some n′ (λ k. (xs′ k ≤ w) × (ys′ k ≤ v))) (sym e) (here v l₁ h₁ (subst (λ (w : ℕ). P w v) e p))
+
     -- no pair with the first number x below the end
     pub stairs-none : ((v : ℕ) → v < end → first₁ ≤ v → P x v → ⊥) → Stairs xs ys n (x + 1) end
     stairs-none none = record {
@@ -49,14 +59,13 @@ module _ (P : ℕ → ℕ → Type 0) (first₀ first₁ end₁ : ℕ) where
       inside = λ k h. let l = stairs .inside k h in (l .0, omega arith, l .2, l .3);
       rising = stairs .rising;
       best = stairs .best;
-      covered = λ u v l₀ h l₁ h₁ p. go u v l₀ h l₁ h₁ p (ℕ-discrete u x) (decLt v end);
+      covered = covered-more (λ u v some. some) (λ v l₁ h₁ p. go v l₁ h₁ p (decLt v end));
       met = stairs .met;
     }
       where
-        go : (u v : ℕ) → first₀ ≤ u → u < x + 1 → first₁ ≤ v → v < end₁ → P u v → Dec (u ≡ x) → Dec (v < end) → Some n (λ k. (xs k ≤ u) × (ys k ≤ v))
-        go u v l₀ h l₁ h₁ p (no other) _ = stairs .covered u v l₀ (omega arith) l₁ h₁ p
-        go u v l₀ h l₁ h₁ p (yes e) (yes low) = absurd (none v low l₁ (subst (λ (w : ℕ). P w v) e p))
-        go u v l₀ h l₁ h₁ p (yes e) (no high) = let (k, lk, (a, c)) = above v (omega arith) h₁ in (k, lk, (omega arith, c))
+        go : (v : ℕ) → first₁ ≤ v → v < end₁ → P x v → Dec (v < end) → Some n (λ k. (xs k ≤ x) × (ys k ≤ v))
+        go v l₁ h₁ p (yes low) = absurd (none v low l₁ p)
+        go v l₁ h₁ p (no high) = above v (omega arith) h₁
 
     -- the first pair with the first number x is below the end: it is listed, and no other was changed
     module _ (y : ℕ) (first-y : first₁ ≤ y) (low : y < end) (has : P x y) (none : (v : ℕ) → v < y → first₁ ≤ v → P x v → ⊥) where
@@ -88,7 +97,7 @@ module _ (P : ℕ → ℕ → Type 0) (first₀ first₁ end₁ : ℕ) where
               (λ k h. let i = stairs .inside k h in (i .0, omega arith, omega arith, i .3)) (l, omega arith, omega arith, omega (arith, stairs .last));
           rising = λ j k h h′. rise j k h (ℕ-discrete k n) h′;
           best = each Best (stairs .best) best-here;
-          covered = λ u v l₀ h l₁ h₁ p. go u v l₀ h l₁ h₁ p (ℕ-discrete u x) (decLt v y);
+          covered = covered-more (λ u v. still (λ a c. (a ≤ u) × (c ≤ v))) (λ v l₁ h₁ p. go v l₁ p (decLt v y));
           met = λ _. (n, omega arith, here .1);
         }
           where
@@ -96,7 +105,6 @@ module _ (P : ℕ → ℕ → Type 0) (first₀ first₁ end₁ : ℕ) where
             rise j k h (yes e) h′ = omega (arith, same j (omega arith) .0, subst (λ (m : ℕ). xs′ m ≡ x) (sym e) (here .0), stairs .inside j (omega arith))
             rise j k h (no other) h′ = omega (arith, same j (omega arith) .0, same k (omega arith) .0, stairs .rising j k h (omega arith))
 
-            go : (u v : ℕ) → first₀ ≤ u → u < x + 1 → first₁ ≤ v → v < end₁ → P u v → Dec (u ≡ x) → Dec (v < y) → Some (n + 1) (λ k. (xs′ k ≤ u) × (ys′ k ≤ v))
-            go u v l₀ h l₁ h₁ p (no other) _ = still (λ a c. (a ≤ u) × (c ≤ v)) (stairs .covered u v l₀ (omega arith) l₁ h₁ p)
-            go u v l₀ h l₁ h₁ p (yes e) (yes below) = absurd (none v below l₁ (subst (λ (w : ℕ). P w v) e p))
-            go u v l₀ h l₁ h₁ p (yes e) (no high) = (n, omega arith, (omega (arith, here .0), omega (arith, here .1)))
+            go : (v : ℕ) → first₁ ≤ v → P x v → Dec (v < y) → Some (n + 1) (λ k. (xs′ k ≤ x) × (ys′ k ≤ v))
+            go v l₁ p (yes below) = absurd (none v below l₁ p)
+            go v l₁ p (no high) = (n, omega arith, (omega (arith, here .0), omega (arith, here .1)))

@@ -1,12 +1,10 @@
 -- An allowance as the stocks of a position, where a row's bounds are the largest: the row is true with it exactly if the ranks claim the
 -- position. Assumes nothing.
-use mathlib.Core.Bool.{Bool, cond}
 use mathlib.Core.List.{List, [], _∷_}
 use mathlib.Core.Logic.{_⊎_, _↔_, inl, inr}
 use mathlib.Core.Path.{_≡_, _∙_, ap}
 use Prim.Native.Nat.{ℕ, _<_}
 use native.Mathlib.Omega.{arith}
-use borrow.Author.Tests.{eq-eqb, ne-eqb, lt-ltb}
 use Rattle.block.specs.Layout as L
 use Rattle.block.specs.Layout.{Block}
 use Rattle.game.specs.Rbatl.{limit, unlimited}
@@ -14,7 +12,7 @@ use Rattle.game.specs.Position.{Position, position, places, stockBound, IsPosit
 use Rattle.game.specs.Model.{boundOf, boundsBy, boundsOf, arenaOf}
 use Rattle.game.proofs.Blocks.Passing.{valid-proper}
 use Rattle.game.proofs.Blocks.Formulas.{with-wins}
-use Rattle.game.proofs.Blocks.Reading.{bound-unlimited, bound-limited}
+use Rattle.game.proofs.Blocks.Reading.{if-unlimited, if-limited, bound-here, bound-unlimited, bound-limited}
 use Rattle.turns.specs.Buffers.{rankIn}
 use Rattle.choice.specs.Kinds.{ClaimsBy}
 use Rattle.solver.proofs.Readiness.{claimed-wins, wins-claimed-by}
@@ -24,12 +22,6 @@ use Rattle.allowances.specs.Inner.Pairs.{pair, Enough, stockOf}
 use Rattle.allowances.specs.Inner.Raised.{Tabled}
 use Rattle.allowances.proofs.Pairing.{two}
 
-pub stock-unlimited : (n : ℕ) → n ≡ L.unlimited → stockOf n ≡ 0
-stock-unlimited n e = ap (λ (s : Bool). cond s 0 n) (eq-eqb n L.unlimited e)
-
-pub stock-limited : (n : ℕ) → (n ≡ L.unlimited → ⊥) → stockOf n ≡ n
-stock-limited n other = ap (λ (s : Bool). cond s 0 n) (ne-eqb n L.unlimited other)
-
 module _ {b : Block} {i : ℕ} {ranks : List ℕ} (t : Tabled b i ranks) where
   -- a stock of resource j, and the bound that it stands for
   stocked : (j n : ℕ) → j < L.resources b → Shows b i j n → (stockOf n < places (boundsOf b i j)) × (boundOf n ≡ stockBound (boundsOf b i j) (stockOf n))
@@ -38,13 +30,11 @@ module _ {b : Block} {i : ℕ} {ranks : List ℕ} (t : Tabled b i ranks) where
       go : Shows b i j n → (L.bound b i j ≡ L.unlimited) ⊎ (L.bound b i j ≡ L.maxUnits) → (stockOf n < places (boundsOf b i j)) × (boundOf n ≡ stockBound (boundsOf b i j) (stockOf n))
       go (A.absent none e) _ = absurd (omega arith)
       go (A.unlimited _ bound e) _ =
-          let mine : boundOf n ≡ unlimited = ap (λ (s : Bool). cond s unlimited (limit n)) (eq-eqb n L.unlimited e) in
-          rw (bound-unlimited b i j l bound, stock-unlimited n e) (omega arith, mine)
+          rw (bound-unlimited b i j l bound, if-unlimited n 0 n e) (omega arith, if-unlimited n unlimited (limit n) e)
       go (A.limited _ bound e) (inl un) = absurd (bound un)
       go (A.limited _ bound e) (inr most) =
           let other : n ≡ L.unlimited → ⊥ = λ u. omega arith in
-          let mine : boundOf n ≡ limit n = ap (λ (s : Bool). cond s unlimited (limit n)) (ne-eqb n L.unlimited other) in
-          rw (bound-limited b i j l bound ∙ ap limit most, stock-limited n other) (omega arith, mine)
+          rw (bound-limited b i j l bound ∙ ap limit most, if-limited n 0 n other) (omega arith, if-limited n unlimited (limit n) other)
 
   module _ (s x y : ℕ) (inside : s < L.states b) (shows-x : Shows b i 0 x) (shows-y : Shows b i 1 y) where
     -- the position whose stocks the pair is
@@ -64,7 +54,7 @@ module _ {b : Block} {i : ℕ} {ranks : List ℕ} (t : Tabled b i ranks) where
     enough-claimed =
         let wins =
         with-wins b (valid-proper b (t .valid)) i (t .valid .row-fits i (t .inside)) (t .strategic) spot spot-fits (boundsBy b (pair x y))
-        (λ j l. ap (λ (h : Bool). cond h (boundOf (pair x y j)) unlimited) (lt-ltb j (L.resources b) l) ∙ each j l .1) in (
+        (λ j l. bound-here b (pair x y) j l ∙ each j l .1) in (
           (λ claim. wins .1 (claimed-wins (t .valid) (t .inside) (t .strategic) (t .prepared) spot spot-fits claim)),
           λ met. wins-claimed-by (t .valid) (t .inside) (t .strategic) (t .prepared) spot spot-fits (wins .0 met),
         )

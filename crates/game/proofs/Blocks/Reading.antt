@@ -5,6 +5,7 @@ use Prim.Native.Nat.{ℕ, _+_, _-_, _/_, _%_, _^_, _≤_, _<_}
 use native.Mathlib.Nat.{div-div-eq-div-mul, pow-suc, pow-le-pow-right}
 use native.Mathlib.Numerals.{add-one}
 use native.Mathlib.Omega.{arith}
+use lib.Dec.{eqb}
 use borrow.Author.Tests.{eq-eqb, ne-eqb, lt-ltb}
 use Rattle.block.specs.Layout as L
 use Rattle.block.specs.Layout.{Block, digit, Strategic}
@@ -12,7 +13,7 @@ use Rattle.block.specs.Inner.Valid.{Valid, RowFits}
 use Rattle.game.specs.Rbatl.{Bound, limit, unlimited, costUpTo}
 use Rattle.game.specs.Position.{Position, remaining, MoveOf, Move, Reply, outcome}
 use Rattle.game.specs.Inner.Stocks.{taken}
-use Rattle.game.specs.Model.{bit, combineOf, structureOf, boundOf, coalitionOf, boundsOf, arenaOf}
+use Rattle.game.specs.Model.{bit, combineOf, structureOf, boundOf, coalitionOf, boundsBy, boundsOf, arenaOf}
 use Rattle.game.proofs.Numbers.Decide.{lt?}
 use Rattle.game.proofs.Numbers.Joint.{joint-below, joint-digit}
 use Rattle.game.proofs.Bridge.Proper.{Proper}
@@ -53,16 +54,24 @@ module _ (b : Block) (valid : Valid b) (team m s j a : ℕ) (state : s < L.state
 pub shift : (n d a k : ℕ) → k ≡ n / d ^ a → k / d ≡ n / d ^ (a + 1)
 shift n d a k e = ap (λ (x : ℕ). x / d) e ∙ div-div-eq-div-mul n (d ^ a) d ∙ ap (λ (x : ℕ). n / x) (sym (pow-suc d a) ∙ ap (λ (x : ℕ). d ^ x) (sym (add-one a)))
 
--- the bound of a resource that the job has
-module _ (b : Block) (i j : ℕ) (resource : j < L.resources b) where
-  bound-here : boundsOf b i j ≡ boundOf (L.bound b i j)
-  bound-here = ap (λ (t : Bool). cond t (boundOf (L.bound b i j)) unlimited) (lt-ltb j (L.resources b) resource)
+-- what stands for the byte of an unlimited bound, and for another
+module _ {A : Type 0} (n : ℕ) (x y : A) where
+  pub if-unlimited : n ≡ L.unlimited → cond (eqb n L.unlimited) x y ≡ x
+  if-unlimited e = ap (λ (t : Bool). cond t x y) (eq-eqb n L.unlimited e)
 
+  pub if-limited : (n ≡ L.unlimited → ⊥) → cond (eqb n L.unlimited) x y ≡ y
+  if-limited ne = ap (λ (t : Bool). cond t x y) (ne-eqb n L.unlimited ne)
+
+-- the bound of a resource that the job has
+pub bound-here : (b : Block) (x : ℕ → ℕ) (j : ℕ) → j < L.resources b → boundsBy b x j ≡ boundOf (x j)
+bound-here b x j resource = ap (λ (t : Bool). cond t (boundOf (x j)) unlimited) (lt-ltb j (L.resources b) resource)
+
+module _ (b : Block) (i j : ℕ) (resource : j < L.resources b) where
   pub bound-unlimited : L.bound b i j ≡ L.unlimited → boundsOf b i j ≡ unlimited
-  bound-unlimited e = bound-here ∙ ap (λ (t : Bool). cond t unlimited (limit (L.bound b i j))) (eq-eqb (L.bound b i j) L.unlimited e)
+  bound-unlimited e = bound-here b (L.bound b i) j resource ∙ if-unlimited (L.bound b i j) unlimited (limit (L.bound b i j)) e
 
   pub bound-limited : (L.bound b i j ≡ L.unlimited → ⊥) → boundsOf b i j ≡ limit (L.bound b i j)
-  bound-limited ne = bound-here ∙ ap (λ (t : Bool). cond t unlimited (limit (L.bound b i j))) (ne-eqb (L.bound b i j) L.unlimited ne)
+  bound-limited ne = bound-here b (L.bound b i) j resource ∙ if-limited (L.bound b i j) unlimited (limit (L.bound b i j)) ne
 
   pub bound-small : RowFits b i → Strategic (L.kind b i) → (L.bound b i j ≡ L.unlimited → ⊥) → L.bound b i j ≤ 15
   bound-small row strategic ne = go (lt? 15 (L.bound b i j))
