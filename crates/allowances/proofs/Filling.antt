@@ -3,12 +3,11 @@ use mathlib.Core.List.{List}
 use mathlib.Core.Path.{_≡_, _∙_, ap, subst}
 use Prim.Native.Nat.{ℕ, _+_, _*_, _≤_, _<_}
 use native.Mathlib.Omega.{arith}
-use lib.ListN.{getD, set, length, length-set, length-replicate, replicate}
-use lib.Seq.{getD-set-same, getD-set-other}
+use lib.ListN.{getD, length, length-replicate, replicate}
 use Rattle.block.specs.Layout as L
 use Rattle.block.specs.Layout.{Block}
 use Rattle.block.specs.Inner.Valid.{Valid}
-use Rattle.turns.proofs.Bytes.{zero-byte}
+use Rattle.turns.proofs.Bytes.{zero-byte, withPair, pair-other, pair-stored, pair-length}
 use Rattle.allowances.specs.Allowances.{allowancesBytes, allowanceIn, AllowancesIn}
 use Rattle.allowances.specs.Inner.Pairs.{Enough, Spans, FirstEnough}
 use Rattle.allowances.proofs.Stairs.{Stairs, no-stairs, stairs-none, stairs-more}
@@ -36,28 +35,22 @@ module _ {b : Block} {i q first₀ first₁ end₁ : ℕ} {list : List ℕ} {n x
     long = filled .long;
   }
 
-  abbrev stored : List ℕ
-  stored = set (set list (L.maxResources * n) x) (L.maxResources * n + 1) r
-
-  -- a byte before the pair, and one after it
-  others : (p : ℕ) → (p ≡ L.maxResources * n → ⊥) → (p ≡ L.maxResources * n + 1 → ⊥) → getD stored p 0 ≡ getD list p 0
-  others p h₀ h₁ = getD-set-other (set list (L.maxResources * n) x) (L.maxResources * n + 1) p r 0 h₁ ∙ getD-set-other list (L.maxResources * n) p x 0 h₀
-
-  pub filled-more : r < end → first₀ ≤ x → L.maxResources * n + 1 < length list → FilledTo b i q first₀ first₁ end₁ stored (n + 1) (x + 1) r
+  pub filled-more : r < end → first₀ ≤ x → L.maxResources * n + 1 < length list → FilledTo b i q first₀ first₁ end₁ (withPair list n x r) (n + 1) (x + 1) r
   filled-more low first inside = record {
     stairs =
         stairs-more _ _ _ _ (filled .stairs) r (found .range .0) low (found .found low) (found .none) _ _
-        (λ k l. (others (L.maxResources * k + 0) (λ e. omega arith) (λ e. omega arith), others (L.maxResources * k + 1) (λ e. omega arith) (λ e. omega arith))) (
-          ap (λ (p : ℕ). getD stored p 0) zeroth
-              ∙ getD-set-other (set list (L.maxResources * n) x) (L.maxResources * n + 1) (L.maxResources * n) r 0 (λ e. omega arith)
-              ∙ getD-set-same list (L.maxResources * n) x 0 (omega arith),
-          getD-set-same (set list (L.maxResources * n) x) (L.maxResources * n + 1) r 0 (simp length-set inside),
-        )
-        first;
+        (λ k l. (others (L.maxResources * k + 0) (λ e. omega arith) (λ e. omega arith), others (L.maxResources * k + 1) (λ e. omega arith) (λ e. omega arith)))
+        (ap (λ (p : ℕ). getD (withPair list n x r) p 0) zeroth ∙ put .0, put .1) first;
     past = λ p h. others p (λ e. omega arith) (λ e. omega arith) ∙ filled .past p (omega arith);
-    long = simp length-set (filled .long);
+    long = pair-length list n x r ∙ filled .long;
   }
     where
+      put : (getD (withPair list n x r) (L.maxResources * n) 0 ≡ x) × (getD (withPair list n x r) (L.maxResources * n + 1) 0 ≡ r)
+      put = pair-stored list n x r inside
+
+      others : (p : ℕ) → (p ≡ L.maxResources * n → ⊥) → (p ≡ L.maxResources * n + 1 → ⊥) → getD (withPair list n x r) p 0 ≡ getD list p 0
+      others = pair-other list n x r
+
       zeroth : L.maxResources * n + 0 ≡ L.maxResources * n
       zeroth = omega arith
 

@@ -11,6 +11,7 @@ use Rattle.block.specs.Layout.{Block}
 use Rattle.block.specs.Inner.Valid.{Valid}
 use Rattle.game.specs.Rbatl.{Bounds}
 use Rattle.game.specs.Model.{boundsBy, RowTrueWith}
+use Rattle.game.proofs.Numbers.Decide.{all-below, eq?}
 use Rattle.game.proofs.Blocks.OneRow.{bounds-same}
 use Rattle.allowances.specs.Allowances.{Allowance, Shows, Suffices, NowhereLarger, Same, Smallest, allowancesBytes, allowanceIn, AllowancesIn}
 use Rattle.allowances.specs.Allowances as A
@@ -58,12 +59,7 @@ shows-byte (A.unlimited _ _ e) = omega arith
 shows-byte (A.absent _ e) = omega arith
 
 same? : (x y : Allowance) → Dec (Same x y)
-same? x y = go (ℕ-discrete (x 0) (y 0)) (ℕ-discrete (x 1) (y 1))
-  where
-    go : Dec (x 0 ≡ y 0) → Dec (x 1 ≡ y 1) → Dec (Same x y)
-    go (yes e₀) (yes e₁) = yes (two (λ j. x j ≡ y j) e₀ e₁)
-    go (yes _) (no ne) = no (λ same. ne (same 1 (omega arith)))
-    go (no ne) _ = no (λ same. ne (same 0 (omega arith)))
+same? x y = all-below (λ j. x j ≡ y j) L.maxResources (λ j _. eq? (x j) (y j))
 
 module _ {b : Block} (valid : Valid b) {i : ℕ} (q : ℕ) {first₀ end₀ first₁ end₁ : ℕ} (zeroth : Spans b i 0 first₀ end₀) (other : Spans b i 1 first₁ end₁) where
   pair-bounds : (x : Allowance) → boundsBy b (pair (x 0) (x 1)) ≡ boundsBy b x

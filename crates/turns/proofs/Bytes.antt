@@ -41,25 +41,39 @@ one-more entry Right l l′ {n} others right so-far k small = go (eq? k n)
 pub stored-more : {entry : List ℕ → ℕ → ℕ} (Right : ℕ → ℕ → Type 0) {l l′ : List ℕ} {n v : ℕ} → Stored entry l l′ n v → Right n v → ((k : ℕ) → k < n → Right k (entry l k)) → (k : ℕ) → k < n + 1 → Right k (entry l′ k)
 stored-more {entry} Right {l} {l′} {n} {v} put right = one-more entry Right l l′ (put .others) (subst (Right n) (sym (put .stored)) right)
 
+-- two bytes of a buffer, those of entry p, and the others
+module _ (l : List ℕ) (p x y : ℕ) where
+  abbrev pub withPair : List ℕ
+  withPair = set (set l (2 * p) x) (2 * p + 1) y
+
+  pub pair-other : (k : ℕ) → (k ≡ 2 * p → ⊥) → (k ≡ 2 * p + 1 → ⊥) → getD withPair k 0 ≡ getD l k 0
+  pair-other k ne ne′ = getD-set-other (set l (2 * p) x) (2 * p + 1) k y 0 ne′ ∙ getD-set-other l (2 * p) k x 0 ne
+
+  pub pair-stored : 2 * p + 1 < length l → (getD withPair (2 * p) 0 ≡ x) × (getD withPair (2 * p + 1) 0 ≡ y)
+  pair-stored inside = (
+    getD-set-other (set l (2 * p) x) (2 * p + 1) (2 * p) y 0 (λ e. omega arith) ∙ getD-set-same l (2 * p) x 0 (omega arith),
+    getD-set-same (set l (2 * p) x) (2 * p + 1) y 0 (lt-length-set l (2 * p) x inside),
+  )
+
+  pub pair-length : length withPair ≡ length l
+  pair-length = length-set (set l (2 * p) x) (2 * p + 1) y ∙ length-set l (2 * p) x
+
 module _ (l : List ℕ) (p v : ℕ) where
   abbrev pub withRank : List ℕ
-  withRank = set (set l (2 * p) (v % 256)) (2 * p + 1) (v / 256 % 256)
+  withRank = withPair l p (v % 256) (v / 256 % 256)
 
   -- a byte of another rank is as before
   rank-other : (k : ℕ) → (k ≡ 2 * p → ⊥) → (k ≡ 2 * p + 1 → ⊥) → getD withRank k 0 ≡ getD l k 0
-  rank-other k ne ne′ = getD-set-other (set l (2 * p) (v % 256)) (2 * p + 1) k (v / 256 % 256) 0 ne′ ∙ getD-set-other l (2 * p) k (v % 256) 0 ne
+  rank-other = pair-other l p (v % 256) (v / 256 % 256)
 
   pub rank-stored : 2 * p + 1 < length l → v < 65536 → Stored rankIn l withRank p v
   rank-stored inside small = record {
-    stored =
-        let low : getD withRank (2 * p) 0 ≡ v % 256 = getD-set-other (set l (2 * p) (v % 256)) (2 * p + 1) (2 * p) (v / 256 % 256) 0 (λ e. omega arith) ∙ getD-set-same l (2 * p) (v % 256) 0 (omega arith) in
-        let high : getD withRank (2 * p + 1) 0 ≡ v / 256 % 256 = getD-set-same (set l (2 * p) (v % 256)) (2 * p + 1) (v / 256 % 256) 0 (lt-length-set l (2 * p) (v % 256) inside) in
-        omega (arith, low, high);
+    stored = omega (arith, pair-stored l p (v % 256) (v / 256 % 256) inside);
     others = λ i ne.
         let low : getD withRank (2 * i) 0 ≡ getD l (2 * i) 0 = rank-other (2 * i) (λ e. ne (omega arith)) (λ e. omega arith) in
         let high : getD withRank (2 * i + 1) 0 ≡ getD l (2 * i + 1) 0 = rank-other (2 * i + 1) (λ e. omega arith) (λ e. ne (omega arith)) in
         omega (arith, low, high);
-    kept = length-set (set l (2 * p) (v % 256)) (2 * p + 1) (v / 256 % 256) ∙ length-set l (2 * p) (v % 256);
+    kept = pair-length l p (v % 256) (v / 256 % 256);
   }
 
 -- a word is put together again from its bytes

@@ -8,7 +8,7 @@ use native.Mathlib.Omega.{arith}
 use lib.Dec.{T}
 use Rattle.game.specs.Rbatl.{Bounds, Coalition, Computation, Fits, Formula, prop, not, or, next, always, until, Joint, Strategy, Structure, Available, IsMove, Outcome, costUpTo, moveCost, IsStrategy, Consistent, prefix, spent, Can, Sat}
 use Rattle.game.proofs.Bridge.Proper.{Proper}
-use Rattle.game.proofs.Bridge.Plays.{moves}
+use Rattle.game.proofs.Bridge.Plays.{moves, stays-inside}
 
 pub record Agrees (S S′ : Structure) : Type 0 where
   pub agents : S′ .agents ≡ S .agents
@@ -57,7 +57,7 @@ module _ {S S′ : Structure} (h : Agrees S S′) where
         go true acts before = h .combine r _ _ ∙ ap₂ (S .combine r) before (h .cost q n (σ n) r l (omega arith) (acts tt) lr)
         go false acts before = before
 
-    module _ (proper : Proper S) (F : Strategy) (strategy : IsStrategy S A F) where
+    module _ (proper′ : Proper S′) (F : Strategy) (strategy : IsStrategy S A F) where
       strategy-on : IsStrategy S′ A F
       strategy-on q past l a la t =
           let lq : q < S .states = omega (arith, h .states) in
@@ -66,10 +66,7 @@ module _ {S S′ : Structure} (h : Agrees S S′) where
 
       module _ (λs : Computation) (starts : λs 0 < S .states) (consistent : Consistent S′ A F λs) where
         inside : (i : ℕ) → λs i < S .states
-        inside zero = starts
-        inside (suc i) =
-            let (m, available, _, e) = outcome-back (λs i) (F (prefix λs i)) (λs (suc i)) (inside i) (consistent i) in
-            subst (λ (q : ℕ). q < S .states) e (proper .next-fits (λs i) m (inside i) available)
+        inside i = omega (arith, stays-inside S′ proper′ A F λs (omega (arith, h .states)) consistent i, h .states)
 
         consistent-back : Consistent S A F λs
         consistent-back i = outcome-back (λs i) (F (prefix λs i)) (λs (suc i)) (inside i) (consistent i)
@@ -81,18 +78,18 @@ module _ {S S′ : Structure} (h : Agrees S S′) where
             ap (λ (k : ℕ). costUpTo S′ A k (λs n) (F (prefix λs n)) r) (h .agents) ∙ cost-same (λs n) (F (prefix λs n)) r (inside n) (moves S A F strategy λs n (inside n)) lr (S .agents) (omega arith) in
             omega (arith, spent-same n r lr, here)
 
-    can-on : Proper S → (b : Bounds) (property property′ : Computation → Type 0) (q : ℕ) → q < S .states
+    can-on : Proper S′ → (b : Bounds) (property property′ : Computation → Type 0) (q : ℕ) → q < S .states
         → ((λs : Computation) → ((i : ℕ) → λs i < S .states) → property λs → property′ λs) → Can S A b property q → Can S′ A b property′ q
-    can-on proper b property property′ q l tells (F, strategy, within, met) = (
+    can-on proper′ b property property′ q l tells (F, strategy, within, met) = (
       F,
-      strategy-on proper F strategy,
+      strategy-on proper′ F strategy,
       (λ λs starts consistent n r lr.
           let here : λs 0 < S .states = omega (arith, h .states) in
           let lR : r < S .resources = omega (arith, h .resources) in
-          subst (λ (c : ℕ). Fits c (b r)) (sym (spent-same proper F strategy λs here consistent n r lR)) (within λs here (consistent-back proper F strategy λs here consistent) n r lR)),
+          subst (λ (c : ℕ). Fits c (b r)) (sym (spent-same proper′ F strategy λs here consistent n r lR)) (within λs here (consistent-back proper′ F strategy λs here consistent) n r lR)),
       λ λs starts consistent.
           let here : λs 0 < S .states = subst (λ (x : ℕ). x < S .states) (sym starts) l in
-          tells λs (inside proper F strategy λs here consistent) (met λs starts (consistent-back proper F strategy λs here consistent)),
+          tells λs (inside proper′ F strategy λs here consistent) (met λs starts (consistent-back proper′ F strategy λs here consistent)),
     )
 
 -- a formula that is true in one is true in the other
@@ -101,11 +98,11 @@ sat-on (prop p) h proper proper′ q l = subst T (sym (h .holds p q l))
 sat-on (not φ) h proper proper′ q l = λ fails sat. fails (sat-on φ (agrees-back h) proper′ proper q (omega (arith, h .states)) sat)
 sat-on (or φ ψ) h proper proper′ q l = elim [ inl sat ↦ inl (sat-on φ h proper proper′ q l sat) | inr sat ↦ inr (sat-on ψ h proper proper′ q l sat) ]
 sat-on (next A b φ) h proper proper′ q l =
-    can-on h A proper b _ _ q l (λ λs inside. sat-on φ h proper proper′ (λs 1) (inside 1))
+    can-on h A proper′ b _ _ q l (λ λs inside. sat-on φ h proper proper′ (λs 1) (inside 1))
 sat-on (always A b φ) h proper proper′ q l =
-    can-on h A proper b _ _ q l (λ λs inside holds i. sat-on φ h proper proper′ (λs i) (inside i) (holds i))
+    can-on h A proper′ b _ _ q l (λ λs inside holds i. sat-on φ h proper proper′ (λs i) (inside i) (holds i))
 sat-on (until A b φ ψ) h proper proper′ q l =
-    can-on h A proper b _ _ q l (λ λs inside (i, met, before). (i, sat-on ψ h proper proper′ (λs i) (inside i) met, λ j lj. sat-on φ h proper proper′ (λs j) (inside j) (before j lj)))
+    can-on h A proper′ b _ _ q l (λ λs inside (i, met, before). (i, sat-on ψ h proper proper′ (λs i) (inside i) met, λ j lj. sat-on φ h proper proper′ (λs j) (inside j) (before j lj)))
 
 pub sat-same : {S S′ : Structure} → Agrees S S′ → Proper S → Proper S′ → (φ : Formula) (q : ℕ) → q < S .states → Sat S φ q ↔ Sat S′ φ q
 sat-same h proper proper′ φ q l = (sat-on φ h proper proper′ q l, sat-on φ (agrees-back h) proper′ proper q (omega (arith, h .states)))

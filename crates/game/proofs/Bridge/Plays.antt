@@ -20,6 +20,12 @@ pub moves : (S : Structure) (A : Coalition) (F : Strategy) → IsStrategy S A F 
 moves S A F strategy λs zero l = strategy (λs 0) [] l
 moves S A F strategy λs (suc i) l = strategy (λs (suc i)) (prefix λs i) l
 
+-- a computation of a strategy stays among the states
+pub stays-inside : (S : Structure) → Proper S → (A : Coalition) (F : Strategy) (λs : Computation) → λs 0 < S .states → Consistent S A F λs → (i : ℕ) → λs i < S .states
+stays-inside S proper A F λs starts consistent zero = starts
+stays-inside S proper A F λs starts consistent (suc i) =
+    rw (← consistent i .3) (proper .next-fits (λs i) (consistent i .0) (stays-inside S proper A F λs starts consistent i) (consistent i .1))
+
 module _ (G : Arena) (proper : Proper (G .structure)) where
   -- the number of the coalition's move at a history
   abbrev pub moveBy : Strategy → List ℕ → ℕ
@@ -118,8 +124,7 @@ module _ (G : Arena) (proper : Proper (G .structure)) where
     positionAt (suc i) = outcome G (positionAt i) (moveBy F (prefix λs i)) (replyAt i)
 
     inside : (i : ℕ) → λs i < G .structure .states
-    inside zero = rw (← starts) (fits .0)
-    inside (suc i) = rw (← consistent i .3) (proper .next-fits (λs i) (consistent i .0) (inside i) (consistent i .1))
+    inside = stays-inside (G .structure) proper (G .coalition) F λs (rw (← starts) (fits .0)) consistent
 
     moveAt-move : (i : ℕ) → MoveOf (G .structure) (G .coalition) (λs i) (moveBy F (prefix λs i))
     moveAt-move i = number-move (G .structure) proper (G .coalition) (λs i) (inside i) (F (prefix λs i)) (moves (G .structure) (G .coalition) F strategy λs i (inside i))
