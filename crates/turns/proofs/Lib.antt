@@ -2,5 +2,6 @@
 pub mod Bytes
 pub mod Numbering
 pub mod Opponents
-pub mod Parts
+pub mod Tables
+pub mod TeamMoves
 pub mod Listing

@@ -1,4 +1,6 @@
 // Moves of a coalition: its part of a joint action, and what a move costs.
+use crate::parts;
+use crate::parts::Table;
 use block::joint;
 use block::layout;
 ghost use mathlib.Core.Path.{_≡_};
@@ -8,29 +10,11 @@ ghost use Rattle.block.specs.Layout.{maxAgents, maxActions, maxUnits, maxJoint,
 ghost use Rattle.block.specs.Inner.Valid.{Valid};
 ghost use Rattle.game.specs.Rbatl.{moveCost};
 ghost use Rattle.game.specs.Position.{MoveOf};
-ghost use Rattle.game.specs.Inner.Parts.{partOf};
 ghost use Rattle.game.specs.Model.{bit, combineOf, structureOf};
-ghost use Rattle.turns.specs.Inner.Rules.{ReplyTo, SideMove};
+ghost use Rattle.turns.specs.Inner.Rules.{PartsTable, ReplyTo, SideMove};
 
 // The mask of all agents.
-const ALL_AGENTS: usize = 7;
-
-// A team's part of a joint action: the digits of its agents, and 0 for the others.
-fn part(team: usize, joint: usize) -> usize
-    ensures { λ r. ⌜ r ≡ partOf (bit team) joint ⌝ }
-{
-    let mut r = 0;
-    if team % 2 == 1 {
-        r += joint % 4;
-    }
-    if team / 2 % 2 == 1 {
-        r += joint / 4 % 4 * 4;
-    }
-    if team / 4 % 2 == 1 {
-        r += joint / 16 % 4 * 16;
-    }
-    r
-}
+const ALL_AGENTS: usize = parts::TEAMS - 1;
 
 // What the costs of two agents come to in a resource of this kind: their sum, or the larger.
 fn combined(kind: usize, x: usize, y: usize) -> usize
@@ -84,39 +68,42 @@ pub fn joint_actions(block: &[u8]) -> usize
 }
 
 // Whether m is the number of a move of a team in state s: it is the team's part of itself, and a joint action that can be done there.
-pub fn is_move(block: &[u8], s: usize, team: usize, m: usize) -> bool
+pub fn is_move(block: &[u8], parts: &Table, s: usize, team: usize, m: usize) -> bool
     requires { ⌜ Valid (now block) ⌝ }
     requires { ⌜ s < states (now block) ⌝ }
+    requires { ⌜ PartsTable (now parts) ⌝ }
     ensures { λ r. ⌜ Decides (MoveOf (structureOf (now (block .entry))) (bit team) s m) r ⌝ }
 {
     if layout::JOINT_ACTIONS <= m {
         return false;
     }
-    if part(team, m) != m {
+    if parts::part(parts, team, m) != m {
         return false;
     }
     joint::available(block, s, m)
 }
 
 // Whether r is a reply to row i's team in state s.
-pub fn is_reply(block: &[u8], i: usize, s: usize, r: usize) -> bool
+pub fn is_reply(block: &[u8], parts: &Table, i: usize, s: usize, r: usize) -> bool
     requires { ⌜ Valid (now block) ⌝ }
     requires { ⌜ (i < rows (now block)) × Strategic (kind (now block) i) × (s < states (now block)) ⌝ }
+    requires { ⌜ PartsTable (now parts) ⌝ }
     ensures { λ t. ⌜ Decides (ReplyTo (now (block .entry)) i s r) t ⌝ }
 {
-    is_move(block, s, ALL_AGENTS - layout::team(block, i), r)
+    is_move(block, parts, s, ALL_AGENTS - layout::team(block, i), r)
 }
 
 // A number past those of row i's moves where ours, and else of the replies: one more than the side's part of the largest joint action.
-pub fn numbers(block: &[u8], i: usize, ours: bool) -> usize
+pub fn numbers(block: &[u8], parts: &Table, i: usize, ours: bool) -> usize
     requires { ⌜ Valid (now block) ⌝ }
     requires { ⌜ (i < rows (now block)) × Strategic (kind (now block) i) ⌝ }
+    requires { ⌜ PartsTable (now parts) ⌝ }
     ensures { λ n. ⌜ (n ≤ maxJoint) × ((s m : ℕ) → s < states (now (block .entry)) → SideMove (now (block .entry)) i ours s m → m < n) ⌝ }
 {
     let last = joint_actions(block) - 1;
     let team = layout::team(block, i);
     if ours {
-        return part(team, last) + 1;
+        return parts::part(parts, team, last) + 1;
     }
-    part(ALL_AGENTS - team, last) + 1
+    parts::part(parts, ALL_AGENTS - team, last) + 1
 }

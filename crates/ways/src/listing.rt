@@ -5,6 +5,8 @@ use crate::rows::Row;
 use block::layout;
 use turns::buffers;
 use turns::moves;
+use turns::parts;
+use turns::parts::Table;
 use turns::positions;
 ghost use mathlib.Core.Bool.{true, false};
 ghost use mathlib.Core.Path.{_≡_};
@@ -16,7 +18,7 @@ ghost use Rattle.block.specs.Inner.Valid.{Valid};
 ghost use Rattle.game.specs.Position.{MoveOf, Affordable, full};
 ghost use Rattle.game.specs.Inner.Stocks.{offset};
 ghost use Rattle.game.specs.Model.{structureOf, coalitionOf, arenaOf};
-ghost use Rattle.turns.specs.Inner.Rules.{ReplyTo};
+ghost use Rattle.turns.specs.Inner.Rules.{PartsTable, ReplyTo};
 ghost use Rattle.ways.specs.Lines.{waysBytes, fieldPlace, countIn, numberIn, countAt, lineAt, takesAt};
 ghost use Rattle.ways.specs.Listing.{LeadsInto, Eligible, Listable, LineOf, TakesOf, StateListed, Listed, SameOutside};
 ghost use Rattle.ways.specs.Rows.{Playable};
@@ -72,17 +74,26 @@ fn matters(block: &[u8], row: Row, ways: &[u8], s: usize, m: usize) -> bool
 
 // Whether the number m can be listed: as a move that full stock pays where ours, and else as a reply. The cost is asked for last, since it
 // takes most time.
-fn is_eligible(block: &[u8], row: Row, ways: &[u8], s: usize, ours: bool, m: usize) -> bool
+fn is_eligible(
+    block: &[u8],
+    parts: &Table,
+    row: Row,
+    ways: &[u8],
+    s: usize,
+    ours: bool,
+    m: usize,
+) -> bool
     requires { ⌜ Valid (now block) ⌝ }
     requires { ⌜ Playable (now block) row × (s < L.states (now block)) × (length (now ways) ≡ waysBytes) ⌝ }
     requires { ⌜ (ours ≡ true → LineOf (ReplyTo (now block) (row .index) s) (numberIn (now ways) s false) (countIn (now ways) s false)) ⌝ }
+    requires { ⌜ PartsTable (now parts) ⌝ }
     ensures { λ r. ⌜ Decides (Eligible (now (block .entry)) row s ours m) r ⌝ }
 {
     let i = row.index;
     if !ours {
-        return moves::is_reply(block, i, s, m);
+        return moves::is_reply(block, parts, i, s, m);
     }
-    if !moves::is_move(block, s, layout::team(block, i), m) {
+    if !moves::is_move(block, parts, s, layout::team(block, i), m) {
         return false;
     }
     if !matters(block, row, ways, s, m) {
@@ -108,17 +119,18 @@ fn ends_line(block: &[u8], row: Row, s: usize, ours: bool, m: usize) -> bool
 }
 
 // Lists the moves of state s, or the replies there, in rising order. Answers how many there are.
-fn list_line(block: &[u8], row: Row, s: usize, ours: bool, ways: &mut [u8]) -> usize
+fn list_line(block: &[u8], parts: &Table, row: Row, s: usize, ours: bool, ways: &mut [u8]) -> usize
     requires { ⌜ Valid (now block) ⌝ }
     requires { ⌜ Playable (now block) row × (s < L.states (now block)) × (length (now ways) ≡ waysBytes) ⌝ }
     requires { ⌜ (ours ≡ true → LineOf (ReplyTo (now block) (row .index) s) (numberIn (now ways) s false) (countIn (now ways) s false)) ⌝ }
+    requires { ⌜ PartsTable (now parts) ⌝ }
     ensures { λ n. ⌜ LineOf (Listable (now (block .entry)) row s ours) (numberIn (now (ways .exit)) s ours) n ⌝ }
     ensures { λ _. ⌜ SameOutside (fieldPlace s (lineAt ours)) (fieldPlace s (lineAt ours) + L.maxJoint) (now (ways .entry)) (now (ways .exit)) ⌝ }
 {
-    let limit = moves::numbers(block, row.index, ours);
+    let limit = moves::numbers(block, parts, row.index, ours);
     let mut n = 0;
     for m in 0..limit {
-        if is_eligible(block, row, ways, s, ours, m) {
+        if is_eligible(block, parts, row, ways, s, ours, m) {
             lines::set_number(ways, s, ours, n, m);
             n += 1;
             if ends_line(block, row, s, ours, m) {
@@ -146,15 +158,16 @@ fn list_takes(block: &[u8], row: Row, s: usize, ways: &mut [u8])
 }
 
 // Lists state s.
-fn list_state(block: &[u8], row: Row, s: usize, ways: &mut [u8])
+fn list_state(block: &[u8], parts: &Table, row: Row, s: usize, ways: &mut [u8])
     requires { ⌜ Valid (now block) ⌝ }
     requires { ⌜ Playable (now block) row × (s < L.states (now block)) × (length (now ways) ≡ waysBytes) ⌝ }
+    requires { ⌜ PartsTable (now parts) ⌝ }
     ensures { λ _. ⌜ StateListed (now (block .entry)) row s (now (ways .exit)) ⌝ }
     ensures { λ _. ⌜ SameOutside (fieldPlace s 0) (fieldPlace (s + 1) 0) (now (ways .entry)) (now (ways .exit)) ⌝ }
 {
-    let replies = list_line(block, row, s, false, ways);
+    let replies = list_line(block, parts, row, s, false, ways);
     lines::set_count(ways, s, false, replies);
-    let moves = list_line(block, row, s, true, ways);
+    let moves = list_line(block, parts, row, s, true, ways);
     lines::set_count(ways, s, true, moves);
     list_takes(block, row, s, ways);
 }
@@ -166,8 +179,9 @@ pub fn list_row(block: &[u8], row: Row, ways: &mut [u8])
     ensures { λ _. ⌜ Listed (now (block .entry)) row (now (ways .exit)) ⌝ }
 {
     packs::fill_packs(block, row, ways);
+    let parts = parts::table();
     let n = layout::states(block);
     for s in 0..n {
-        list_state(block, row, s, ways);
+        list_state(block, &parts, row, s, ways);
     }
 }

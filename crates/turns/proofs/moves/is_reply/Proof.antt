@@ -17,7 +17,7 @@ team-requires c κs = search needs
 sub-is-move : tie.Need-sub-is-move
 sub-is-move c =
     let start = c .before .before in
-    omega (arith, c .team .ensures, team-small (start .args .block .now) (start .pre .0) (start .args .i) (start .pre .1 .0) (start .pre .1 .1))
+    omega (arith, c .team .ensures, team-small (start .args .block .now) (start .pre .0) (start .args .i) (start .pre .1 .0 .0) (start .pre .1 .0 .1))
 
 is-move-requires : tie.Need-is-move-requires
 is-move-requires c κs = search needs
@@ -25,7 +25,7 @@ is-move-requires c κs = search needs
 returns : tie.Need-returns
 returns c =
     let start = c .before .before .before in
-    let same = others-reply (start .args .block .now) (start .pre .0) (start .args .i) (start .pre .1 .0) (start .pre .1 .1) (start .args .s) (start .args .r) in
+    let same = others-reply (start .args .block .now) (start .pre .0) (start .args .i) (start .pre .1 .0 .0) (start .pre .1 .0 .1) (start .args .s) (start .args .r) in
     D.same
     (subst (λ (team : ℕ). Decides (MoveOf (structureOf (start .args .block .now)) (bit (7 - team)) (start .args .s) (start .args .r)) (c .is-move .result)) (c .before .team .ensures) (c .is-move .ensures))
     (same .0)

@@ -10,7 +10,7 @@ use Rattle.game.specs.Inner.Parts.{partOf}
 use Rattle.game.specs.Model.{bit, coalitionOf}
 use Rattle.turns.specs.Inner.Rules.{SideMove}
 use Rattle.turns.proofs.Opponents.{team-small, others-reply}
-use Rattle.turns.proofs.Parts.{part-small, move-below}
+use Rattle.turns.proofs.TeamMoves.{part-small, move-below}
 use Rattle.turns.proofs.moves.numbers.Statement.{statement}
 use Rattle.turns.proofs.moves.numbers.Tie as tie
 
@@ -47,7 +47,7 @@ returns c = (
 )
 
 sub-part : tie.Need-sub-part
-sub-part c = omega (arith, c .before .team .ensures, team-small (c .before .before .before .before .args .block .now) (c .before .before .before .before .pre .0) (c .before .before .before .before .args .i) (c .before .before .before .before .pre .1 .0) (c .before .before .before .before .pre .1 .1))
+sub-part c = omega (arith, c .before .team .ensures, team-small (c .before .before .before .before .args .block .now) (c .before .before .before .before .pre .0) (c .before .before .before .before .args .i) (c .before .before .before .before .pre .1 .0 .0) (c .before .before .before .before .pre .1 .0 .1))
 
 part-requires-2 : tie.Need-part-requires-2
 part-requires-2 c κs = search needs
@@ -60,7 +60,7 @@ returns-2 c = (
   omega (arith, c .part2 .ensures, part-small (bit (7 - c .before .before .team .result)) (c .before .before .before .joint-actions .result - 1)),
   λ s m state move.
       let reply = subst (λ (t : Bool). SideMove (c .before .before .before .before .before .args .block .now) (c .before .before .before .before .before .args .i) t s m) (c .before .if1 .left) move in
-      omega (arith, theirs-is c, move-below (c .before .before .before .before .before .args .block .now) (c .before .before .before .before .before .pre .0) (bit (7 - L.team (c .before .before .before .before .before .args .block .now) (c .before .before .before .before .before .args .i))) s m state (others-reply (c .before .before .before .before .before .args .block .now) (c .before .before .before .before .before .pre .0) (c .before .before .before .before .before .args .i) (c .before .before .before .before .before .pre .1 .0) (c .before .before .before .before .before .pre .1 .1) s m .1 reply)),
+      omega (arith, theirs-is c, move-below (c .before .before .before .before .before .args .block .now) (c .before .before .before .before .before .pre .0) (bit (7 - L.team (c .before .before .before .before .before .args .block .now) (c .before .before .before .before .before .args .i))) s m state (others-reply (c .before .before .before .before .before .args .block .now) (c .before .before .before .before .before .pre .0) (c .before .before .before .before .before .args .i) (c .before .before .before .before .before .pre .1 .0 .0) (c .before .before .before .before .before .pre .1 .0 .1) s m .1 reply)),
 )
 
 pub numbers-spec : {M : Type 1} → statement M

@@ -42,7 +42,7 @@ returns-2 : tie.Need-returns-2
 returns-2 c = ours (c .before .before .before) false (fails (λ useful. D.falsity (asked (c .before)) (not-true _ (c .if2 .taken)) (useful .0 .0)))
 
 matters-requires : tie.Need-matters-requires
-matters-requires c κs = let pre = c .before .before .before .before .before .before .pre in (pre .0, (pre .1 .0, (D.truth (asked (c .before)) (not-false _ (c .if2 .left)), pre .1 .1 (not-false _ (c .before .before .before .if1 .left)))))
+matters-requires c κs = let pre = c .before .before .before .before .before .before .pre in (pre .0, (pre .1 .0, (D.truth (asked (c .before)) (not-false _ (c .if2 .left)), pre .1 .1 .0 (not-false _ (c .before .before .before .if1 .left)))))
 
 returns-3 : tie.Need-returns-3
 returns-3 c = ours (c .before .before .before .before .before) false (fails (λ useful. D.falsity (c .before .matters .ensures) (not-true _ (c .if3 .taken)) (useful .1)))

@@ -19,15 +19,15 @@ use Rattle.ways.proofs.listing.list_line.Statement.{statement}
 use Rattle.ways.proofs.listing.list_line.Tie as tie
 
 abbrev Inv-loop : tie.InvT-loop
-Inv-loop block row s ours ways₀ limit n₀ m₀ ways n m =
+Inv-loop block parts row s ours ways₀ limit n₀ m₀ ways n m =
     (m ≤ limit) × LineBelow (Listable block row s ours) m (numberIn ways s ours) n × SameOutside (fieldPlace s (lineAt ours)) (fieldPlace s (lineAt ours) + 64) ways₀ ways
     × ((k : ℕ) → k < m → Ends block row s ours k → ⊥)
 
 abbrev μ-loop : tie.MeasureT-loop
-μ-loop block row s ours ways₀ limit n₀ m₀ ways n m = limit - m
+μ-loop block parts row s ours ways₀ limit n₀ m₀ ways n m = limit - m
 
 numbers-requires : tie.Need-numbers-requires Inv-loop μ-loop
-numbers-requires c κs = (c .before .before .pre .0, (c .before .before .pre .1 .0 .0 .inside, c .before .before .pre .1 .0 .0 .strategic))
+numbers-requires c κs = (c .before .before .pre .0, ((c .before .before .pre .1 .0 .0 .inside, c .before .before .pre .1 .0 .0 .strategic), c .before .before .pre .1 .1 .1))
 
 loop-holds : tie.Need-loop-holds Inv-loop μ-loop
 loop-holds c =
@@ -43,7 +43,7 @@ state-small start = omega (arith, start .pre .1 .0 .1, start .pre .0 .sized .sta
 is-eligible-requires : tie.Need-is-eligible-requires Inv-loop μ-loop
 is-eligible-requires c κs =
     let args = c .before .before .before .before .before .before .args in
-    (c .before .before .before .before .before .before .pre .0, ((c .before .before .before .before .before .before .pre .1 .0 .0, c .before .before .before .before .before .before .pre .1 .0 .1, long (c .before)), λ ours. replies-kept (ReplyTo (args .block .now) (args .row .index) (args .s)) (args .s) (args .ours) (args .ways .now) (c .before .before .loop .ways) ours (c .before .before .loop .inv .2) (c .before .before .before .before .before .before .pre .1 .1 ours)))
+    (c .before .before .before .before .before .before .pre .0, ((c .before .before .before .before .before .before .pre .1 .0 .0, c .before .before .before .before .before .before .pre .1 .0 .1, long (c .before)), ((λ ours. replies-kept (ReplyTo (args .block .now) (args .row .index) (args .s)) (args .s) (args .ours) (args .ways .now) (c .before .before .loop .ways) ours (c .before .before .loop .inv .2) (c .before .before .before .before .before .before .pre .1 .1 .0 ours)), c .before .before .before .before .before .before .pre .1 .1 .1)))
 
 next-small : (c : tie.In-loop Inv-loop μ-loop) → (c .before .loop .n < 64) × (c .before .loop .m < 64)
 next-small c = (omega (arith, c .before .loop .inv .1 .few, c .loop-test .taken, c .before .before .numbers .ensures .0), omega (arith, c .loop-test .taken, c .before .before .numbers .ensures .0))

@@ -10,13 +10,13 @@ use Rattle.ways.proofs.listing.list_state.Statement.{statement}
 use Rattle.ways.proofs.listing.list_state.Tie as tie
 
 list-line-requires : tie.Need-list-line-requires
-list-line-requires c κs = (c .before .before .before .pre .0, (c .before .before .before .pre .1, λ ours. let z : _≡_ {A = ℕ} 0 1 = cc in absurd (omega arith)))
+list-line-requires c κs = (c .before .before .before .pre .0, (c .before .before .before .pre .1 .0, ((λ ours. let z : _≡_ {A = ℕ} 0 1 = cc in absurd (omega arith)), c .before .before .before .pre .1 .1)))
 
 state-small : (start : tie.Start) → start .args .s < 24
-state-small start = omega (arith, start .pre .1 .1, start .pre .0 .sized .states-fit)
+state-small start = omega (arith, start .pre .1 .0 .1, start .pre .0 .sized .states-fit)
 
 set-count-requires : tie.Need-set-count-requires
-set-count-requires c κs = (c .before .before .before .list-line .ensures .1 .long ∙ c .before .before .before .before .before .before .before .pre .1 .2, state-small (c .before .before .before .before .before .before .before), c .before .before .before .list-line .ensures .0 .few)
+set-count-requires c κs = (c .before .before .before .list-line .ensures .1 .long ∙ c .before .before .before .before .before .before .before .pre .1 .0 .2, state-small (c .before .before .before .before .before .before .before), c .before .before .before .list-line .ensures .0 .few)
 
 list-line-requires-2 : tie.Need-list-line-requires-2
 list-line-requires-2 c κs =
@@ -24,17 +24,17 @@ list-line-requires-2 c κs =
     let two = c .before .before .before .set-count in (
       c .before .before .before .before .before .before .before .before .before .before .before .pre .0,
       (
-        (c .before .before .before .before .before .before .before .before .before .before .before .pre .1 .0, c .before .before .before .before .before .before .before .before .before .before .before .pre .1 .1, set-long (one .last .1 .1 .1 .1 .0) (two .last .0) (fieldPlace (c .before .before .before .before .before .before .before .before .before .before .before .args .s) 1) (one .result) (two .ensures) ∙ one .ensures .1 .long ∙ c .before .before .before .before .before .before .before .before .before .before .before .pre .1 .2),
-        λ ours. replies-counted (c .before .before .before .before .before .before .before .before .before .before .before .args .block .now) (c .before .before .before .before .before .before .before .before .before .before .before .args .row) (c .before .before .before .before .before .before .before .before .before .before .before .args .s) (one .result) (state-small (c .before .before .before .before .before .before .before .before .before .before .before)) (c .before .before .before .before .before .before .before .before .before .before .before .args .ways .now) (one .last .1 .1 .1 .1 .0) (two .last .0) (c .before .before .before .before .before .before .before .before .before .before .before .pre .1 .2) (one .ensures .1) (one .ensures .0) (two .ensures),
+        (c .before .before .before .before .before .before .before .before .before .before .before .pre .1 .0 .0, c .before .before .before .before .before .before .before .before .before .before .before .pre .1 .0 .1, set-long (one .last .1 .1 .1 .1 .1 .0) (two .last .0) (fieldPlace (c .before .before .before .before .before .before .before .before .before .before .before .args .s) 1) (one .result) (two .ensures) ∙ one .ensures .1 .long ∙ c .before .before .before .before .before .before .before .before .before .before .before .pre .1 .0 .2),
+        ((λ ours. replies-counted (c .before .before .before .before .before .before .before .before .before .before .before .args .block .now) (c .before .before .before .before .before .before .before .before .before .before .before .args .row) (c .before .before .before .before .before .before .before .before .before .before .before .args .s) (one .result) (state-small (c .before .before .before .before .before .before .before .before .before .before .before)) (c .before .before .before .before .before .before .before .before .before .before .before .args .ways .now) (one .last .1 .1 .1 .1 .1 .0) (two .last .0) (c .before .before .before .before .before .before .before .before .before .before .before .pre .1 .0 .2) (one .ensures .1) (one .ensures .0) (two .ensures)), c .before .before .before .before .before .before .before .before .before .before .before .pre .1 .1),
       ),
     )
 
 set-count-requires-2 : tie.Need-set-count-requires-2
-set-count-requires-2 c κs = (c .before .before .before .list-line2 .ensures .1 .long ∙ set-long (c .before .before .before .before .before .before .before .before .before .before .before .list-line .last .1 .1 .1 .1 .0) (c .before .before .before .before .before .before .before .set-count .last .0) (fieldPlace (c .before .before .before .before .before .before .before .before .before .before .before .before .before .before .before .args .s) 1) (c .before .before .before .before .before .before .before .before .before .before .before .list-line .result) (c .before .before .before .before .before .before .before .set-count .ensures) ∙ c .before .before .before .before .before .before .before .before .before .before .before .list-line .ensures .1 .long ∙ c .before .before .before .before .before .before .before .before .before .before .before .before .before .before .before .pre .1 .2, state-small (c .before .before .before .before .before .before .before .before .before .before .before .before .before .before .before), c .before .before .before .list-line2 .ensures .0 .few)
+set-count-requires-2 c κs = (c .before .before .before .list-line2 .ensures .1 .long ∙ set-long (c .before .before .before .before .before .before .before .before .before .before .before .list-line .last .1 .1 .1 .1 .1 .0) (c .before .before .before .before .before .before .before .set-count .last .0) (fieldPlace (c .before .before .before .before .before .before .before .before .before .before .before .before .before .before .before .args .s) 1) (c .before .before .before .before .before .before .before .before .before .before .before .list-line .result) (c .before .before .before .before .before .before .before .set-count .ensures) ∙ c .before .before .before .before .before .before .before .before .before .before .before .list-line .ensures .1 .long ∙ c .before .before .before .before .before .before .before .before .before .before .before .before .before .before .before .pre .1 .0 .2, state-small (c .before .before .before .before .before .before .before .before .before .before .before .before .before .before .before), c .before .before .before .list-line2 .ensures .0 .few)
 
 -- the buffer after the counts
 long : (c : tie.After-set-count2) → length (c .set-count2 .last .0) ≡ 5168
-long c = set-long (c .before .before .before .before .list-line2 .last .1 .1 .1 .1 .0) (c .set-count2 .last .0) (fieldPlace (c .before .before .before .before .before .before .before .before .before .before .before .before .before .before .before .before .args .s) 0) (c .before .before .before .before .list-line2 .result) (c .set-count2 .ensures) ∙ c .before .before .before .before .list-line2 .ensures .1 .long ∙ set-long (c .before .before .before .before .before .before .before .before .before .before .before .before .list-line .last .1 .1 .1 .1 .0) (c .before .before .before .before .before .before .before .before .set-count .last .0) (fieldPlace (c .before .before .before .before .before .before .before .before .before .before .before .before .before .before .before .before .args .s) 1) (c .before .before .before .before .before .before .before .before .before .before .before .before .list-line .result) (c .before .before .before .before .before .before .before .before .set-count .ensures) ∙ c .before .before .before .before .before .before .before .before .before .before .before .before .list-line .ensures .1 .long ∙ c .before .before .before .before .before .before .before .before .before .before .before .before .before .before .before .before .pre .1 .2
+long c = set-long (c .before .before .before .before .list-line2 .last .1 .1 .1 .1 .1 .0) (c .set-count2 .last .0) (fieldPlace (c .before .before .before .before .before .before .before .before .before .before .before .before .before .before .before .before .args .s) 0) (c .before .before .before .before .list-line2 .result) (c .set-count2 .ensures) ∙ c .before .before .before .before .list-line2 .ensures .1 .long ∙ set-long (c .before .before .before .before .before .before .before .before .before .before .before .before .list-line .last .1 .1 .1 .1 .1 .0) (c .before .before .before .before .before .before .before .before .set-count .last .0) (fieldPlace (c .before .before .before .before .before .before .before .before .before .before .before .before .before .before .before .before .args .s) 1) (c .before .before .before .before .before .before .before .before .before .before .before .before .list-line .result) (c .before .before .before .before .before .before .before .before .set-count .ensures) ∙ c .before .before .before .before .before .before .before .before .before .before .before .before .list-line .ensures .1 .long ∙ c .before .before .before .before .before .before .before .before .before .before .before .before .before .before .before .before .pre .1 .0 .2
 
 list-takes-requires : tie.Need-list-takes-requires
 list-takes-requires c κs =
@@ -44,13 +44,13 @@ list-takes-requires c κs =
     let four = c .before .before .before .set-count2 in (
       c .before .before .before .before .before .before .before .before .before .before .before .before .before .before .before .before .before .before .before .pre .0,
       (
-        (c .before .before .before .before .before .before .before .before .before .before .before .before .before .before .before .before .before .before .before .pre .1 .0, c .before .before .before .before .before .before .before .before .before .before .before .before .before .before .before .before .before .before .before .pre .1 .1, long ((c .before .before .before))),
-        moves-counted (c .before .before .before .before .before .before .before .before .before .before .before .before .before .before .before .before .before .before .before .args .block .now) (c .before .before .before .before .before .before .before .before .before .before .before .before .before .before .before .before .before .before .before .args .row) (c .before .before .before .before .before .before .before .before .before .before .before .before .before .before .before .before .before .before .before .args .s) (one .result) (state-small (c .before .before .before .before .before .before .before .before .before .before .before .before .before .before .before .before .before .before .before)) (c .before .before .before .before .before .before .before .before .before .before .before .before .before .before .before .before .before .before .before .args .ways .now) (one .last .1 .1 .1 .1 .0) (two .last .0) (c .before .before .before .before .before .before .before .before .before .before .before .before .before .before .before .before .before .before .before .pre .1 .2) (one .ensures .1) (one .ensures .0) (two .ensures) (three .result) (three .last .1 .1 .1 .1 .0) (four .last .0) (three .ensures .1) (three .ensures .0) (four .ensures),
+        (c .before .before .before .before .before .before .before .before .before .before .before .before .before .before .before .before .before .before .before .pre .1 .0 .0, c .before .before .before .before .before .before .before .before .before .before .before .before .before .before .before .before .before .before .before .pre .1 .0 .1, long ((c .before .before .before))),
+        moves-counted (c .before .before .before .before .before .before .before .before .before .before .before .before .before .before .before .before .before .before .before .args .block .now) (c .before .before .before .before .before .before .before .before .before .before .before .before .before .before .before .before .before .before .before .args .row) (c .before .before .before .before .before .before .before .before .before .before .before .before .before .before .before .before .before .before .before .args .s) (one .result) (state-small (c .before .before .before .before .before .before .before .before .before .before .before .before .before .before .before .before .before .before .before)) (c .before .before .before .before .before .before .before .before .before .before .before .before .before .before .before .before .before .before .before .args .ways .now) (one .last .1 .1 .1 .1 .1 .0) (two .last .0) (c .before .before .before .before .before .before .before .before .before .before .before .before .before .before .before .before .before .before .before .pre .1 .0 .2) (one .ensures .1) (one .ensures .0) (two .ensures) (three .result) (three .last .1 .1 .1 .1 .1 .0) (four .last .0) (three .ensures .1) (three .ensures .0) (four .ensures),
       ),
     )
 
 same-length : tie.Need-same-length
-same-length c = c .before .before .list-takes .ensures .1 .long ∙ long ((c .before .before .before .before .before .before)) ∙ sym (c .before .before .before .before .before .before .before .before .before .before .before .before .before .before .before .before .before .before .before .before .before .before .pre .1 .2)
+same-length c = c .before .before .list-takes .ensures .1 .long ∙ long ((c .before .before .before .before .before .before)) ∙ sym (c .before .before .before .before .before .before .before .before .before .before .before .before .before .before .before .before .before .before .before .before .before .before .pre .1 .0 .2)
 
 returns : tie.Need-returns
 returns c =
@@ -59,7 +59,7 @@ returns c =
     let three = c .before .before .before .before .before .before .before .before .before .before .list-line2 in
     let four = c .before .before .before .before .before .before .set-count2 in
     let five = c .before .before .list-takes in
-    state-whole (c .before .before .before .before .before .before .before .before .before .before .before .before .before .before .before .before .before .before .before .before .before .before .args .block .now) (c .before .before .before .before .before .before .before .before .before .before .before .before .before .before .before .before .before .before .before .before .before .before .args .row) (c .before .before .before .before .before .before .before .before .before .before .before .before .before .before .before .before .before .before .before .before .before .before .args .s) (one .result) (state-small (c .before .before .before .before .before .before .before .before .before .before .before .before .before .before .before .before .before .before .before .before .before .before)) (c .before .before .before .before .before .before .before .before .before .before .before .before .before .before .before .before .before .before .before .before .before .before .args .ways .now) (one .last .1 .1 .1 .1 .0) (two .last .0) (c .before .before .before .before .before .before .before .before .before .before .before .before .before .before .before .before .before .before .before .before .before .before .pre .1 .2) (one .ensures .1) (one .ensures .0) (two .ensures) (three .result) (three .last .1 .1 .1 .1 .0) (four .last .0) (three .ensures .1) (three .ensures .0) (four .ensures)
+    state-whole (c .before .before .before .before .before .before .before .before .before .before .before .before .before .before .before .before .before .before .before .before .before .before .args .block .now) (c .before .before .before .before .before .before .before .before .before .before .before .before .before .before .before .before .before .before .before .before .before .before .args .row) (c .before .before .before .before .before .before .before .before .before .before .before .before .before .before .before .before .before .before .before .before .before .before .args .s) (one .result) (state-small (c .before .before .before .before .before .before .before .before .before .before .before .before .before .before .before .before .before .before .before .before .before .before)) (c .before .before .before .before .before .before .before .before .before .before .before .before .before .before .before .before .before .before .before .before .before .before .args .ways .now) (one .last .1 .1 .1 .1 .1 .0) (two .last .0) (c .before .before .before .before .before .before .before .before .before .before .before .before .before .before .before .before .before .before .before .before .before .before .pre .1 .0 .2) (one .ensures .1) (one .ensures .0) (two .ensures) (three .result) (three .last .1 .1 .1 .1 .1 .0) (four .last .0) (three .ensures .1) (three .ensures .0) (four .ensures)
     (five .last .1 .1 .1 .0) (five .ensures .1) (five .ensures .0)
 
 pub list-state-spec : {M : Type 1} → statement M
