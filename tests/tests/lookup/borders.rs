@@ -174,11 +174,11 @@ fn sides() {
     }
 }
 
-/// Three agents with 2, 3 and 4 actions in state 0, free but for agent 2's last,
-/// and a next row over a proposition that never holds.
-fn crowd(coalition: u8) -> Vec<u8> {
+/// Three agents with so many actions in state 0, free but for agent 2's last, and a
+/// next row over a proposition that never holds.
+fn crowd(coalition: u8, counts: [u8; 3]) -> Vec<u8> {
     let mut job = jobs::smallest(3, 1, 1, 1, 2);
-    for (agent, actions) in [2, 3, 4].into_iter().enumerate() {
+    for (agent, actions) in counts.into_iter().enumerate() {
         job[count(0, agent)] = actions;
     }
     job[cost(0, 2, 3, 0)] = 6;
@@ -190,20 +190,27 @@ fn crowd(coalition: u8) -> Vec<u8> {
 
 /// Number 11 for a digit at or above the agent's count, a digit of an agent
 /// outside the coalition, a number above 63, and a cost above the stock.
+fn expect_moves(coalition: u8, counts: [u8; 3]) {
+    let job = crowd(coalition, counts);
+    let asked = Asked::patterned(&job, format!("coalition {coalition} of {counts:?}"));
+    let limits: [usize; 3] = std::array::from_fn(|agent| match coalition >> agent & 1 {
+        1 => counts[agent].into(),
+        _ => 1,
+    });
+    for (stock, mv) in (5..=7).flat_map(|stock| (0..=u8::MAX).map(move |mv| (stock, mv))) {
+        let digits = actions(mv.into());
+        let available = (0..3).all(|agent| digits[agent] < limits[agent]);
+        let pays = digits[2] < 3 || stock >= 6;
+        let expected = if available && pays { 0 } else { -11 };
+        let found = asked.reply(at(1, 0, [stock, 0]), mv);
+        assert_eq!(found, expected, "{}, move {mv}", asked.what);
+    }
+}
+
 #[test]
 fn moves() {
     for coalition in 1..=7 {
-        let job = crowd(coalition);
-        let asked = Asked::patterned(&job, format!("coalition {coalition}"));
-        for (stock, mv) in (5..=7).flat_map(|stock| (0..=u8::MAX).map(move |mv| (stock, mv))) {
-            let digits = actions(mv.into());
-            let inside = |agent: usize| coalition >> agent & 1 == 1;
-            let limit = |agent: usize| if inside(agent) { agent + 2 } else { 1 };
-            let available = (0..3).all(|agent| digits[agent] < limit(agent));
-            let pays = digits[2] < 3 || stock >= 6;
-            let expected = if available && pays { 0 } else { -11 };
-            let found = asked.reply(at(1, 0, [stock, 0]), mv);
-            assert_eq!(found, expected, "{}, move {mv}", asked.what);
-        }
+        expect_moves(coalition, [2, 3, 4]);
+        expect_moves(coalition, [4; 3]);
     }
 }
