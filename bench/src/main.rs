@@ -1,7 +1,7 @@
 //! How long `rbatl_table` and `rbatl_label` take on jobs of full size (24
 //! states, three agents with four actions, bounds 15 and 15), as ratios to a
 //! Rust program that does the same sweeps, to plain sweeps and to section 4 of
-//! document 003; how long a worksheet takes beside one move, and smallest allowances
+//! document 003; how long a worksheet takes beside one move, a reply, and smallest allowances
 //! beside one table; what rows cost that the asked one does not need; how long a text
 //! of each edition takes to read and write; and how much stack every call uses.
 
@@ -219,7 +219,8 @@ fn main() {
     println!(
         "sheet:  a worksheet of 64 positions over all states and stocks; won: how many of them are;"
     );
-    println!("        /move: its ratio to one single move at one of them, at most 1.3.");
+    println!("        /move: its ratio to one single move at one of them, at most 1.3; move: that");
+    println!("        move; reply: the reply to idling at state 0 with no stock.");
     println!();
     print!("{:30} {:>5}", "case", "rank");
     for call in ["table", "label"] {
@@ -228,7 +229,10 @@ fn main() {
             "/sweeps", "/plain", "/splits"
         );
     }
-    println!(" {:>9} {:>8} {:>4}", "sheet", "/move", "won");
+    println!(
+        " {:>9} {:>8} {:>4} {:>9} {:>9}",
+        "sheet", "/move", "won", "move", "reply"
+    );
     let (mut largest, mut largest_sheet) = ([[0.0f64; 2]; 2], 0.0f64);
     for case in cases::all() {
         print!("{:30} {:5}", case.name, longest_rank(&case));
@@ -278,11 +282,13 @@ fn print_times(times: &Times) -> [f64; 2] {
     [sweeps, splits]
 }
 
-/// Gives the ratio to one move.
+/// Gives the ratio of a worksheet to one move.
 fn print_sheet(case: &Case) -> f64 {
-    let sheet::Times { sheet, single, won } = sheet::measure(case);
-    let ratio = sheet / single;
-    println!(" {:9.3} {ratio:8.2} {won:4}", 1e3 * sheet);
+    let times = sheet::measure(case);
+    let ratio = times.sheet / times.single;
+    let [sheet, single, reply] = [times.sheet, times.single, times.reply].map(|time| 1e3 * time);
+    let won = times.won;
+    println!(" {sheet:9.3} {ratio:8.2} {won:4} {single:9.3} {reply:9.3}");
     ratio
 }
 

@@ -1,4 +1,4 @@
-//! A worksheet of 64 positions beside one single move.
+//! A worksheet of 64 positions beside one single move, and one reply.
 
 use crate::cases::{Case, ROW};
 use crate::{timing, Buffers};
@@ -29,10 +29,11 @@ pub fn list() -> Vec<u8> {
     positions().into_iter().flat_map(bytes).collect()
 }
 
-/// The times of a worksheet and of a single move at one of its positions.
+/// The times of a worksheet, of a single move at one of its positions and of a reply.
 pub struct Times {
     pub sheet: f64,
     pub single: f64,
+    pub reply: f64,
     /// Positions of the worksheet that are won.
     pub won: usize,
 }
@@ -40,18 +41,22 @@ pub struct Times {
 /// Its words must be the single calls'. The single move that is timed is at a
 /// position that is won, if there is one, where there is more to do.
 pub fn measure(case: &Case) -> Times {
-    let (mut first, mut second, list) = (Buffers::new(), Buffers::new(), list());
+    let [mut first, mut second, mut third] = [(); 3].map(|()| Buffers::new());
+    let list = list();
     first.worksheet(&case.job, &list);
     let due = single_words(&case.job);
     assert!(first.words == due.concat(), "{}: words", case.name);
     let wins = |word: &[u8; 2]| word[1] == 0;
     let at = positions()[due.iter().position(wins).unwrap_or(0)];
-    let [sheet, single] = timing::best_of([&mut || first.worksheet(&case.job, &list), &mut || {
-        second.coalition_move(&case.job, at)
-    }]);
+    let [sheet, single, reply] = timing::best_of([
+        &mut || first.worksheet(&case.job, &list),
+        &mut || second.coalition_move(&case.job, at),
+        &mut || third.reply(&case.job),
+    ]);
     Times {
         sheet,
         single,
+        reply,
         won: due.into_iter().filter(wins).count(),
     }
 }
