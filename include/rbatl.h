@@ -33,8 +33,8 @@
  *
  * Stack: any call takes at most RBATL_STACK_BYTES, and none allocates. As
  * bench/run measures it, in bytes: check 191, states_refusal 239, write 383, read
- * and read_at 3111, label 6016, table 6048, move and reply 6112, states 6128,
- * worksheet 6144, allowances 8544, list 8736.
+ * and read_at 3111, label 6417, table 6449, move and reply 6513, states 6529,
+ * worksheet 6545, allowances 8945, list 9137.
  *
  * Cost: rbatl_move and rbatl_reply solve the row anew at each call. For the moves
  * of up to 64 positions ask rbatl_worksheet, which solves it once; for those of all
