@@ -1,4 +1,4 @@
-// Moves of a coalition: its part of a joint action, and what a move costs.
+// Moves of a coalition: which numbers they have, and what a move costs.
 use crate::parts;
 use crate::parts::Table;
 use block::joint;
