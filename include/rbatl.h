@@ -22,8 +22,8 @@
  * leaves every buffer as it was, except working room. Of several refusals the
  * first in this order is answered: RBATL_E_LENGTH; then those of the block,
  * RBATL_E_SIZES to RBATL_E_UNUSED, each tried over the whole block; then
- * RBATL_E_ROW_CHOICE, RBATL_E_POSITION, RBATL_E_WRONG_SIDE and RBATL_E_MOVE. A
- * text has an order of its own (rbatl_read).
+ * RBATL_E_ROW_CHOICE, RBATL_E_POSITION, RBATL_E_WRONG_SIDE, RBATL_E_MOVE and
+ * RBATL_E_REPLY. A text has an order of its own (rbatl_read).
  *
  * Working room may hold anything before a call and holds zeros after it, refused
  * or not, except that RBATL_E_LENGTH leaves it as it was.
@@ -67,9 +67,9 @@ extern "C" {
  * when a host is compiled, as in `#if RBATL_VERSION_NUMBER < 30000`, and the
  * same as a string. Before 3.0.0 a block had 2469 bytes, without kinds of
  * resources, and rbatl_write wrote edition 1; before 3.1.0 there was no
- * rbatl_allowances. */
-#define RBATL_VERSION_NUMBER 30100
-#define RBATL_VERSION "3.1.0"
+ * rbatl_allowances, and before 3.2.0 no rbatl_rehearse. */
+#define RBATL_VERSION_NUMBER 30200
+#define RBATL_VERSION "3.2.0"
 
 /* Length of a block; the longest text that is read, and the length of the
  * buffer that a text is written to. */
@@ -103,6 +103,11 @@ extern "C" {
  * list, a byte for each of two resources. */
 #define RBATL_MAX_ALLOWANCES 16
 #define RBATL_ALLOWANCES_BYTES 32
+
+/* The longest script of a rehearsal, a byte for each reply, and the length of its
+ * report. */
+#define RBATL_SCRIPT_BYTES 255
+#define RBATL_REPORT_BYTES 4
 
 /* Length of the buffer of a listing. */
 #define RBATL_LISTING_BYTES 32768
@@ -174,11 +179,13 @@ enum rbatl_refusal {
     /* The state asked for does not exist, or a stock is above its bound, or is
      * not 0 where it must be. */
     RBATL_E_POSITION = 9,
-    /* The coalition's move is asked for where it does not win, or a reply
-     * where it does. */
+    /* The coalition's move, or a rehearsal, is asked for where it does not win, or
+     * a reply where it does. */
     RBATL_E_WRONG_SIDE = 10,
     /* The move to reply to is not available or not affordable. */
-    RBATL_E_MOVE = 11
+    RBATL_E_MOVE = 11,
+    /* A byte of a script is no available reply when its turn comes. */
+    RBATL_E_REPLY = 12
 };
 
 /* Checks a block: 0 if it holds a job; -RBATL_E_LENGTH for any other length;
@@ -312,6 +319,28 @@ int32_t rbatl_worksheet(const uint8_t *block, size_t block_len, uint8_t row, con
  * exist. A refused call leaves the list as it was. */
 int32_t rbatl_allowances(const uint8_t *block, size_t block_len, uint8_t row, uint8_t state,
                          uint8_t *list, size_t list_len, uint8_t *room, size_t room_len);
+
+/* Rehearses a row of kind next, always or until: from a state at full stock the
+ * coalition makes the moves of its table, and the script gives its opponents' reply
+ * to each, one byte a reply: 0, and the report of RBATL_REPORT_BYTES holds 1 for
+ * finished or 0 for unfinished, the number of moves made, and the number of the
+ * last position (rbatl_table), lowest byte first. A rehearsal of next ends after one
+ * move, one of until where right holds, at once if it does in the first state, and
+ * one of always when the script is used up: these are finished. It is unfinished
+ * exactly if the script runs out first, of next or until. Bytes past the end are
+ * not read. The moves never overspend the bounds, and of until there are at most as
+ * many as the rank of the first position. Where a rehearsal of next or until is
+ * finished, the row is true on every play of these moves that begins so; of always,
+ * left was true in every state so far. The script has 0 to RBATL_SCRIPT_BYTES. The
+ * room is RBATL_ROOM_BYTES of working room. -RBATL_E_LENGTH for a longer script, or
+ * for a block, a report or a room of any other length, and then nothing changes;
+ * else what rbatl_check answers on the block; else -RBATL_E_ROW_CHOICE; else
+ * -RBATL_E_POSITION for a state that does not exist; else -RBATL_E_WRONG_SIDE where
+ * the coalition does not win at full stock, also with an empty script; else
+ * -RBATL_E_REPLY. A refused call leaves the report as it was. */
+int32_t rbatl_rehearse(const uint8_t *block, size_t block_len, uint8_t row, uint8_t state,
+                       const uint8_t *script, size_t script_len, uint8_t *report,
+                       size_t report_len, uint8_t *room, size_t room_len);
 
 /* Lists the states in which a row, of any kind, is true: their count, and the
  * list of RBATL_STATES_BYTES holds them in rising order and zeros after them.

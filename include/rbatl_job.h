@@ -1,15 +1,15 @@
 /* rbatl_job.h: what stands in a block, in the sets of its rows, in the table of a
- * row, in a worksheet and in a list of allowances, by name; and the words of a
- * refusal.
+ * row, in a worksheet, in a list of allowances and in the report of a rehearsal, by
+ * name; and the words of a refusal.
  *
  * A block has RBATL_BLOCK_BYTES and passes rbatl_check, as every block does that
  * rbatl_read fills. Sets are those of rbatl_label, ranks and moves those of
- * rbatl_table, words those of rbatl_worksheet, and allowances those of
- * rbatl_allowances. None of the numbers handed over is tested: an agent, a resource,
- * a state, an action or a row has to be below its largest number (RBATL_MAX_..), a
- * joint action below RBATL_JOINT_ACTIONS, a position below rbatl_position_count, a
- * place of a worksheet below the number of its positions, and one of allowances
- * below their count.
+ * rbatl_table, words those of rbatl_worksheet, allowances those of
+ * rbatl_allowances, and a report that of rbatl_rehearse. None of the numbers handed
+ * over is tested: an agent, a resource, a state, an action or a row has to be below
+ * its largest number (RBATL_MAX_..), a joint action below RBATL_JOINT_ACTIONS, a
+ * position below rbatl_position_count, a place of a worksheet below the number of
+ * its positions, and one of allowances below their count.
  *
  * The offsets of the block stand here once; the comment of rbatl_check has them
  * as numbers.
@@ -277,6 +277,23 @@ static inline unsigned rbatl_allowance_at(const uint8_t *list, size_t place, uns
     return list[RBATL_MAX_RESOURCES * place + resource];
 }
 
+/* Of a report: whether the rehearsal is finished, the number of moves made, and the
+ * number of the last position. */
+static inline bool rbatl_report_finished(const uint8_t *report)
+{
+    return report[0] != 0;
+}
+
+static inline unsigned rbatl_report_moves(const uint8_t *report)
+{
+    return report[1];
+}
+
+static inline size_t rbatl_report_position(const uint8_t *report)
+{
+    return rbatl_word_at(report, 1);
+}
+
 /* The word of a row's set. */
 static inline uint32_t rbatl_set_of(const uint8_t *sets, unsigned row)
 {
@@ -321,6 +338,8 @@ static inline const char *rbatl_refusal_text(int32_t number)
                "where it does not";
     case RBATL_E_MOVE:
         return "the coalition's move is not available there, or not affordable";
+    case RBATL_E_REPLY:
+        return "a reply of the script is not available when its turn comes";
     default:
         return "no refusal has this number";
     }
