@@ -1,11 +1,11 @@
--- Document 01's numbers for what is turned down, which of several is given, and what a call leaves in lent buffers.
+-- The documents' numbers for what is turned down (01, and 02's requests after 11), which of several is given, and what a call leaves in lent buffers.
 use mathlib.Core.List.{List, [], _∷_}
 use mathlib.Core.Logic.{_⊎_}
 use mathlib.Core.Path.{_≡_}
 use Prim.Native.Nat.{ℕ}
 use lib.ListN.{length, replicate}
 use Rattle.block.specs.declared.refusal.Refusal.{Refusal}
-use Rattle.block.specs.declared.refusal.Refusal.the-variants.{Length, Sizes, State, Next, Row, Unused, Form, RowChoice, Position, WrongSide, Move}
+use Rattle.block.specs.declared.refusal.Refusal.the-variants.{Length, Sizes, State, Next, Row, Unused, Form, RowChoice, Position, WrongSide, Move, Reply}
 use Rattle.block.specs.declared.refusal.Answer.{Answer}
 use Rattle.block.specs.declared.refusal.Answer.the-variants.{Value, Refused}
 
@@ -21,6 +21,7 @@ numberOf RowChoice = 8
 numberOf Position = 9
 numberOf WrongSide = 10
 numberOf Move = 11
+numberOf Reply = 12
 
 -- a refusal, with the condition under which it is given
 infix 68 _when_

@@ -1,4 +1,4 @@
-// What is turned down, by document 01's numbers 1 to 11 in order.
+// What is turned down, by the numbers of documents 01 (1 to 11) and 02 in order.
 ghost use mathlib.Core.Path.{_≡_};
 ghost use Rattle.block.specs.Refusal.{numberOf};
 
@@ -14,6 +14,7 @@ pub enum Refusal {
     Position,
     WrongSide,
     Move,
+    Reply,
 }
 
 // What a call answers. One that gives no value answers 0.
@@ -22,7 +23,7 @@ pub enum Answer {
     Refused(Refusal),
 }
 
-// Document 01's number.
+// Its number.
 pub fn number(r: Refusal) -> u8
     ensures { λ n. ⌜ n ≡ numberOf r ⌝ }
 {
@@ -38,5 +39,6 @@ pub fn number(r: Refusal) -> u8
         Refusal::Position => 9,
         Refusal::WrongSide => 10,
         Refusal::Move => 11,
+        Refusal::Reply => 12,
     }
 }
