@@ -25,7 +25,7 @@ pub decides-as : {P Q : Type 0} {t : Bool} → Q ≡ P → Decides P t → Decid
 decides-as e told = D.same told (transport (sym e)) (transport e)
 
 -- a claim about what the row asks is what stands for its kind
-along-kind : (Q : Objective → Type 0) (k : ℕ) (o₃ o₄ o₅ : Objective) → byStrategy k (Q o₃) (Q o₄) (Q o₅) ≡ Q (byStrategy k o₃ o₄ o₅)
+pub along-kind : (Q : Objective → Type 0) (k : ℕ) (o₃ o₄ o₅ : Objective) → byStrategy k (Q o₃) (Q o₄) (Q o₅) ≡ Q (byStrategy k o₃ o₄ o₅)
 along-kind Q k o₃ o₄ o₅ = go (eqb k 3) (eqb k 4)
   where
     go : (t u : Bool) → cond t (Q o₃) (cond u (Q o₄) (Q o₅)) ≡ Q (cond t o₃ (cond u o₄ o₅))

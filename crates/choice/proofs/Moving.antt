@@ -8,14 +8,14 @@ use Prim.Native.Nat.{ℕ, _+_, _*_, _<_}
 use native.Mathlib.Omega.{arith}
 use lib.Dec.{eqb, ltb}
 use lib.ListN.{getD}
-use borrow.Author.Tests.{eqb-true}
+use borrow.Author.Tests.{eqb-true, ne-eqb}
 use Rattle.block.specs.Decide.{Bit}
 use Rattle.block.specs.Inner.Tests.{Decides}
 use Rattle.block.specs.Layout as L
 use Rattle.block.specs.Layout.{Block}
 use Rattle.block.specs.Inner.Valid.{Valid}
 use Rattle.block.proofs.Decide as D
-use Rattle.game.specs.Position.{Arena, Position, IsPosition, MoveOf, number, Reply, outcome}
+use Rattle.game.specs.Position.{Arena, Position, IsPosition, MoveOf, number, Reply, Allowed, outcome}
 use Rattle.game.specs.Inner.Stocks.{stockPlaces}
 use Rattle.game.specs.Play.{Objective}
 use Rattle.game.specs.Table.{Table, never, Aim, Good, Met, Smallest}
@@ -25,6 +25,8 @@ use Rattle.game.specs.Inner.Words.{objectiveBy}
 use Rattle.game.proofs.Blocks.Passing.{valid-proper}
 use Rattle.game.proofs.Blocks.Reading.{outcome-state}
 use Rattle.game.proofs.Local.Exist.{good-exists}
+use Rattle.game.proofs.Numbers.Decide.{eq?}
+use Rattle.game.proofs.Whole.Choices.{idle-allowed}
 use Rattle.turns.specs.Buffers.{rankIn}
 use Rattle.choice.specs.Tables.{tableWith, RanksOf, MoveFor}
 use Rattle.turns.specs.Inner.Rules.{ReplyTo}
@@ -33,7 +35,7 @@ use Rattle.ways.specs.Listing.{LeadsInto, Useful}
 use Rattle.ways.specs.Places.{PlacedAt}
 use Rattle.ways.specs.declared.rows.Row.{Row}
 use Rattle.ways.specs.Rows.{Playable}
-use Rattle.ways.proofs.Leading.{ever-allowed, free-allowed}
+use Rattle.ways.proofs.Leading.{ever-allowed, free-allowed, allowed-useful}
 use Rattle.ways.proofs.Placing.{number-placed}
 use Rattle.choice.specs.Choices.{Sought, GoodBy}
 use Rattle.choice.specs.Kinds.{ClaimsBy, MetBy, AimBy}
@@ -152,3 +154,25 @@ module _ (b : Block) (valid : Valid b) (row : Row) where
             let move : ℕ → ℕ = λ n. 0 in
             let (m, h) = good-exists G (X move) told (ranked .facts) p (placed .fits) (transport (claimed move) claim) (λ met. later (met-is move met)) in
             none m (by-good move m h)
+
+      -- the move that goes with the ranks is listed and paid, where the coalition wins
+      pub move-listed : ClaimsBy kind own → (m : ℕ) → MoveFor b (row .index) (row .set) right ranks p m → Useful b row s m × Allowed G p m
+      move-listed claim m found = go (eq? own 0) (eq? kind 3)
+        where
+          move : ℕ → ℕ
+          move n = 0
+
+          won : Claims G (X move) told p
+          won = transport (claimed move) claim
+
+          idle : Allowed G p 0
+          idle = idle-allowed G (valid-proper b valid) p (placed .fits)
+
+          go : Dec (own ≡ 0) → Dec (kind ≡ 3) → Useful b row s m × Allowed G p m
+          go (yes zero) (yes e) = absurd (omega (arith, subst (λ (k : ℕ). ClaimsBy k own) e claim))
+          go (yes zero) (no ne) =
+              subst (λ (k : ℕ). Useful b row s k × Allowed G p k) (sym (found move .met won (transport (meets move) (zero-met kind own claim zero))))
+              (allowed-useful b valid row (sought .playable) (sought .into-is ∙ ne-eqb kind 3 ne) s x p placed 0 idle, idle)
+          go (no later) _ =
+              let (here, none) = found move .best won (λ met. later (met-is move met)) in
+              (good-useful m (by-good move m here) (λ k less h. none k less (good move k h)), here .0)

@@ -33,7 +33,7 @@ use Rattle.choice.proofs.Moving.{outcome-next}
 -- a listed move where it lands
 pub way-makes : (b : Block) (row : Row) (s x m : ℕ) (r : Landing) → MoveOf (structureOf b) (coalitionOf b (row .index)) s m → Lands (arenaOf b (row .index)) s x m r → Makes b row s x m r
 way-makes b row s x m (At y) move lands = (move, lands)
-way-makes b row s x m Unpaid move lands = λ p placed allowed. lands p placed (allowed .1)
+way-makes b row s x m Unpaid move lands = λ p placed useful allowed. lands p placed (allowed .1)
 
 module _ (b : Block) (valid : Valid b) (row : Row) (playable : Playable b row) (ranks : List ℕ) (kind own s m y : ℕ) (made : Made b row s m y)
     (p : Position) (is-state : p .state ≡ s) (leaves : Leaves (arenaOf b (row .index)) p m y) where

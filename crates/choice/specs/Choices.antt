@@ -13,6 +13,7 @@ use Rattle.game.specs.Model.{structureOf, coalitionOf, arenaOf}
 use Rattle.turns.specs.Buffers.{rankIn}
 use Rattle.ways.specs.Landing.{Leaves, Lands}
 use Rattle.ways.specs.Lines.{countIn, takenIn}
+use Rattle.ways.specs.Listing.{Useful}
 use Rattle.ways.specs.Places.{PlacedAt}
 use Rattle.ways.specs.Rows.{Playable}
 use Rattle.ways.specs.declared.rows.Row.{Row}
@@ -58,10 +59,10 @@ module _ (b : Block) (row : Row) (ranks : List ℕ) (kind own : ℕ) where
 abbrev pub LastFree : List ℕ → ℕ → Type 0
 LastFree ways s = (0 < countIn ways s true) × (takenIn ways s (countIn ways s true - 1) ≡ 0)
 
--- whether the number m is a move that place x of state s pays, and the place that it leads to
+-- whether the number m is a move that matters to the row and that place x of state s pays, and the place that it leads to
 abbrev pub Makes : Block → Row → ℕ → ℕ → ℕ → Landing → Type 0
 Makes b row s x m (At y) = MoveOf (structureOf b) (coalitionOf b (row .index)) s m × Lands (arenaOf b (row .index)) s x m (At y)
-Makes b row s x m Unpaid = (p : Position) → PlacedAt (arenaOf b (row .index)) s x p → Allowed (arenaOf b (row .index)) p m → ⊥
+Makes b row s x m Unpaid = (p : Position) → PlacedAt (arenaOf b (row .index)) s x p → Useful b row s m → Allowed (arenaOf b (row .index)) p m → ⊥
 
 -- r is the reply to the move m from every position of rank own in state s that pays it and that it leaves with the stocks of place y
 abbrev pub Replied : Block → Row → ℕ → List ℕ → ℕ → ℕ → ℕ → ℕ → ℕ → Type 0

@@ -9,8 +9,6 @@ use ways::lines;
 use ways::rows::Row;
 use ways::rows::Spot;
 use ways::worst::Step;
-ghost use mathlib.Core.Bool.{false};
-ghost use mathlib.Core.Path.{_≡_};
 ghost use Prim.Native.Nat.{_≤_, _<_};
 ghost use lib.ListN.{length};
 ghost use Rattle.block.specs.Layout as L;
@@ -23,20 +21,18 @@ ghost use Rattle.choice.specs.Choices.{Makes, FirstCounter, Replied};
 ghost use Rattle.choice.specs.Kinds.{ClaimsBy};
 ghost use Rattle.choice.specs.Tables.{RanksOf};
 
-// Whether the number m is a move that the position pays, and where it lands.
+// Whether the number m is a move that matters to the row and that the position pays, and where it lands.
 pub fn way_to(block: &[u8], row: Row, ways: &[u8], spot: Spot, m: usize) -> Landing
     requires { ⌜ Valid (now block) ⌝ }
-    requires { ⌜ Playable (now block) row × (row .into ≡ false) × Listed (now block) row (now ways) ⌝ }
+    requires { ⌜ Playable (now block) row × Listed (now block) row (now ways) ⌝ }
     requires { ⌜ (spot .state < L.states (now block)) × (spot .place < row .places) ⌝ }
     ensures { λ r. ⌜ Makes (now (block .entry)) row (spot .state) (spot .place) m r ⌝ }
 {
-    let n = lines::count(ways, spot.state, true);
-    for k in 0..n {
-        if lines::number(ways, spot.state, true, k) == m {
-            return landing::lands(block, row, ways, spot, k);
-        }
+    let k = lines::find(ways, spot.state, true, m);
+    if k == lines::count(ways, spot.state, true) {
+        return Landing::Unpaid;
     }
-    Landing::Unpaid
+    landing::lands(block, row, ways, spot, k)
 }
 
 // The smallest reply that counters a move that is made, or 0 where none does.

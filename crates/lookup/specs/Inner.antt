@@ -1,2 +1,3 @@
 -- Definitions that serve proofs and the contracts of inner functions only.
+pub mod Spots
 pub mod Sheets

@@ -2,6 +2,6 @@
 mod admit;
 pub mod coalition;
 pub mod opponents;
-mod spots;
+pub mod spots;
 pub mod states;
 pub mod worksheet;

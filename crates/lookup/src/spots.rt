@@ -21,6 +21,7 @@ ghost use Rattle.ways.specs.Places.{PlacedAt};
 ghost use Rattle.lookup.specs.Positions.{NoPosition};
 ghost use Rattle.lookup.specs.Calls.{sideRules};
 ghost use Rattle.solver.specs.Inner.Ready.{MadeReady};
+ghost use Rattle.lookup.specs.Inner.Spots.{SpotMove};
 
 // Whether a stock of resource j is above its bound, or not 0 where it must be.
 fn above(block: &[u8], i: usize, j: usize, stock: usize) -> bool
@@ -64,6 +65,16 @@ pub fn spot_of(block: &[u8], i: usize, s: usize, stocks: &[u8]) -> Spot
     }
 }
 
+// The team's move at a spot of a row made ready, or that there is none.
+pub fn spot_move(block: &[u8], i: usize, ready: Ready, ways: &[u8], ranks: &[u8], spot: Spot) -> u8
+    requires { ⌜ MadeReady (now block) i ready (now ways) (now ranks) ⌝ }
+    requires { ⌜ (spot .state < L.states (now block)) × (spot .place < ready .row .places) ⌝ }
+    ensures { λ m. ⌜ ((p : P.Position) → PlacedAt (arenaOf (now (block .entry)) i) (spot .state) (spot .place) p → SpotMove (now (block .entry)) i (ready .row) p m) ⌝ }
+{
+    let kind = layout::kind(block, i);
+    moves::move_at(block, ready.row, ways, ranks, spot, kind)
+}
+
 // The team's move at a position of a row made ready.
 pub fn ready_move(
     block: &[u8],
@@ -79,8 +90,7 @@ pub fn ready_move(
     ensures { λ a. ⌜ Answers (sideRules (now (block .entry)) i (P.position s (now (stocks .entry)))) (RowMove (now (block .entry)) i (P.position s (now (stocks .entry)))) a ⌝ }
 {
     let spot = spot_of(block, i, s, stocks);
-    let kind = layout::kind(block, i);
-    let m = moves::move_at(block, ready.row, ways, ranks, spot, kind);
+    let m = spot_move(block, i, ready, ways, ranks, spot);
     if m == sizes::NO_MOVE {
         return Answer::Refused(Refusal::WrongSide);
     }

@@ -1,7 +1,8 @@
 -- The buffer that holds the listing of a row: first the packed stocks of each stock place, then for each state its fields.
 use mathlib.Core.Bool.{Bool, true, false}
 use mathlib.Core.List.{List}
-use Prim.Native.Nat.{ℕ, _+_, _*_}
+use mathlib.Core.Path.{_≡_}
+use Prim.Native.Nat.{ℕ, _+_, _*_, _≤_, _<_}
 use lib.ListN.{getD}
 use Rattle.block.specs.Layout.{maxStates, maxJoint}
 use Rattle.turns.specs.Buffers.{rankIn}
@@ -43,6 +44,12 @@ countIn l s ours = fieldIn l s (countAt ours)
 -- the k-th of them
 abbrev pub numberIn : List ℕ → ℕ → Bool → ℕ → ℕ
 numberIn l s ours k = fieldIn l s (lineAt ours + k)
+
+-- k is the place of the number m among them; where it is not there, their count
+pub record FoundAt (l : List ℕ) (s : ℕ) (ours : Bool) (m k : ℕ) : Type 0 where
+  pub within : k ≤ countIn l s ours
+  pub here : k < countIn l s ours → numberIn l s ours k ≡ m
+  pub before : (j : ℕ) → j < k → numberIn l s ours j ≡ m → ⊥
 
 -- what the k-th move takes
 abbrev pub takenIn : List ℕ → ℕ → ℕ → ℕ

@@ -11,7 +11,7 @@ ghost use Rattle.block.specs.Layout.{maxStates, maxJoint};
 ghost use Rattle.turns.specs.Sizes.{rankEnd, maxStockPlaces};
 ghost use Rattle.turns.specs.Buffers.{rankIn};
 ghost use Rattle.turns.specs.Inner.Stores.{Stored};
-ghost use Rattle.ways.specs.Lines.{stateBytes, waysBytes, fieldPlace, fieldIn, countAt, lineAt, takesAt, packedIn, countIn, numberIn, takenIn};
+ghost use Rattle.ways.specs.Lines.{stateBytes, waysBytes, fieldPlace, fieldIn, countAt, lineAt, takesAt, packedIn, countIn, numberIn, takenIn, FoundAt};
 
 // Where the states begin, and how many bytes each has: two counts, and three lines with a byte for each joint action.
 const STATES_BASE: usize = 2 * sizes::MAX_STOCK_PLACES;
@@ -73,6 +73,20 @@ pub fn number(ways: &[u8], s: usize, ours: bool, k: usize) -> usize
     ensures { λ r. ⌜ r ≡ numberIn (now (ways .entry)) s ours k ⌝ }
 {
     field(ways, s, line_at(ours) + k)
+}
+
+// The place of the number m among them, from the first; where it is not there, their count.
+pub fn find(ways: &[u8], s: usize, ours: bool, m: usize) -> usize
+    requires { ⌜ (length (now ways) ≡ waysBytes) × (s < maxStates) × (countIn (now ways) s ours ≤ maxJoint) ⌝ }
+    ensures { λ k. ⌜ FoundAt (now (ways .entry)) s ours m k ⌝ }
+{
+    let n = count(ways, s, ours);
+    for k in 0..n {
+        if number(ways, s, ours, k) == m {
+            return k;
+        }
+    }
+    n
 }
 
 pub fn set_number(ways: &mut [u8], s: usize, ours: bool, k: usize, m: usize)

@@ -1,82 +1,50 @@
 -- `way_to` looks for the number among the listed moves. Assumes nothing.
 use mathlib.Core.Bool.{true}
-use mathlib.Core.Path.{_≡_, sym, _∙_, subst}
-use Prim.Native.Nat.{ℕ, _-_, _≤_, _<_}
+use mathlib.Core.Path.{_≡_, subst}
+use Prim.Native.Nat.{ℕ, _<_}
 use native.Mathlib.Omega.{arith}
 use Rattle.ways.specs.Lines.{countIn, numberIn}
-use Rattle.ways.proofs.Leading.{allowed-useful}
+use Rattle.ways.specs.Listing.{Useful, LineOf}
 use Rattle.choice.specs.Choices.{Makes}
 use Rattle.choice.proofs.Replying.{way-makes}
-use Rattle.choice.proofs.Searching.{none-more}
 use Rattle.choice.proofs.replies.way_to.Statement.{statement}
 use Rattle.choice.proofs.replies.way_to.Tie as tie
 
-abbrev Inv-loop : tie.InvT-loop
-Inv-loop block row ways spot m n k₀ k = (k ≤ n) × ((j : ℕ) → j < k → numberIn ways (spot .state) true j ≡ m → ⊥)
+module _ (start : tie.Start) where
+  abbrev line : ℕ → ℕ
+  line = numberIn (start .args .ways .now) (start .args .spot .state) true
 
-abbrev μ-loop : tie.MeasureT-loop
-μ-loop block row ways spot m n k₀ k = n - k
+  listed : LineOf (Useful (start .args .block .now) (start .args .row) (start .args .spot .state)) line (countIn (start .args .ways .now) (start .args .spot .state) true)
+  listed = start .pre .1 .0 .1 .states (start .args .spot .state) (start .pre .1 .1 .0) .lines true
 
-state-small : (start : tie.Start Inv-loop μ-loop) → start .args .spot .state < 24
-state-small start = omega (arith, start .pre .1 .1 .0, start .pre .0 .sized .states-fit)
+  state-small : start .args .spot .state < 24
+  state-small = omega (arith, start .pre .1 .1 .0, start .pre .0 .sized .states-fit)
 
-count-requires : tie.Need-count-requires Inv-loop μ-loop
-count-requires c κs = (c .before .before .pre .1 .0 .2 .long, state-small (c .before .before))
+find-requires : tie.Need-find-requires
+find-requires c κs = (c .before .before .pre .1 .0 .1 .long, state-small (c .before .before), listed (c .before .before) .few)
 
-loop-holds : tie.Need-loop-holds Inv-loop μ-loop
-loop-holds c = (omega arith, λ j less. absurd (omega arith))
+count-requires : tie.Need-count-requires
+count-requires c κs = (c .before .before .before .pre .1 .0 .1 .long, state-small (c .before .before .before))
 
-within : (c : tie.In-loop Inv-loop μ-loop) → c .before .loop .k < countIn (c .before .before .before .before .before .args .ways .now) (c .before .before .before .before .before .args .spot .state) true
-within c = omega (arith, c .loop-test .taken, c .before .before .count .ensures)
+returns : tie.Need-returns
+returns c p here useful allowed =
+    let (j, small, e) = listed (c .before .before .before .before .before) .each (c .before .before .before .before .before .args .m) useful in
+    c .before .before .find .ensures .before j (omega (arith, c .if1 .taken, c .before .count .ensures)) e
 
-number-requires : tie.Need-number-requires Inv-loop μ-loop
-number-requires c κs =
-    let pre = c .before .before .before .before .before .pre in
-    (pre .1 .0 .2 .long, state-small (c .before .before .before .before .before), omega (arith, within (c), pre .1 .0 .2 .states (c .before .before .before .before .before .args .spot .state) (pre .1 .1 .0) .lines true .few))
+-- the number is found
+within : (c : tie.Else1) → c .before .before .find .result < countIn (c .before .before .before .before .before .args .ways .now) (c .before .before .before .before .before .args .spot .state) true
+within c = omega (arith, c .before .before .find .ensures .within, c .if1 .left, c .before .count .ensures)
 
-lands-requires : tie.Need-lands-requires Inv-loop μ-loop
-lands-requires c κs = let pre = c .before .before .before .before .before .before .before .pre in (pre .0, ((pre .1 .0 .0, pre .1 .0 .2), (pre .1 .1 .0, pre .1 .1 .1, within (c .before .before))))
+lands-requires : tie.Need-lands-requires
+lands-requires c κs = let pre = c .before .before .before .before .before .pre in (pre .0, (pre .1 .0, (pre .1 .1 .0, pre .1 .1 .1, within c)))
 
-returns : tie.Need-returns Inv-loop μ-loop
-returns c =
-    let args = c .before .before .before .before .before .before .before .before .args in
-    let pre = c .before .before .before .before .before .before .before .before .pre in
-    let useful = pre .1 .0 .2 .states (args .spot .state) (pre .1 .1 .0) .lines true .only (c .before .before .before .before .loop .k) (within (c .before .before .before)) in
-    subst (λ (m : ℕ). Makes (args .block .now) (args .row) (args .spot .state) (args .spot .place) m (c .lands .result)) (sym (c .before .before .number .ensures) ∙ c .before .if1 .taken)
-    (way-makes (args .block .now) (args .row) (args .spot .state) (args .spot .place) (numberIn (args .ways .now) (args .spot .state) true (c .before .before .before .before .loop .k)) (c .lands .result) (useful .0 .0) (c .lands .ensures))
-
-add-k : tie.Need-add-k Inv-loop μ-loop
-add-k c = omega arith
-
-loop-less : tie.Need-loop-less Inv-loop μ-loop
-loop-less c = omega (arith, c .before .before .loop-test .taken)
-
-loop-again : tie.Need-loop-again Inv-loop μ-loop
-loop-again c =
-    let args = c .before .before .before .before .before .before .before .args in (
-      omega (arith, c .before .before .loop-test .taken),
-      none-more (λ j. numberIn (args .ways .now) (args .spot .state) true j ≡ args .m) (c .before .before .before .loop .k) (c .before .before .before .loop .inv .1) (λ e. c .if1 .left (c .before .number .ensures ∙ e)),
-    )
-
-returns-2 : tie.Need-returns-2 Inv-loop μ-loop
-returns-2 c p here allowed =
-    let args = c .before .before .before .before .before .args in
-    let pre = c .before .before .before .before .before .pre in
-    let (j, small, e) = pre .1 .0 .2 .states (args .spot .state) (pre .1 .1 .0) .lines true .each (args .m) (allowed-useful (args .block .now) (pre .0) (args .row) (pre .1 .0 .0) (pre .1 .0 .1) (args .spot .state) (args .spot .place) p here (args .m) allowed) in
-    c .before .loop .inv .1 j (omega (arith, c .loop-test .left, c .before .before .count .ensures)) e
+returns-2 : tie.Need-returns-2
+returns-2 c =
+    let start = c .before .before .before .before .before .before in
+    let args = start .args in
+    let k = c .before .before .before .find .result in
+    subst (λ (m : ℕ). Makes (args .block .now) (args .row) (args .spot .state) (args .spot .place) m (c .lands .result)) (c .before .before .before .find .ensures .here (within (c .before)))
+    (way-makes (args .block .now) (args .row) (args .spot .state) (args .spot .place) (line start k) (c .lands .result) (listed start .only k (within (c .before)) .0 .0) (c .lands .ensures))
 
 pub way-to-spec : {M : Type 1} → statement M
-way-to-spec =
-    tie.close
-    (tie.spec
-    Inv-loop
-    μ-loop
-    count-requires
-    loop-holds
-    number-requires
-    lands-requires
-    returns
-    add-k
-    loop-less
-    loop-again
-    returns-2)
+way-to-spec = tie.close (tie.spec find-requires count-requires returns lands-requires returns-2)

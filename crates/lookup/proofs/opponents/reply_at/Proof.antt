@@ -16,7 +16,7 @@ use Rattle.choice.specs.Tables.{RanksOf, ReplyFor}
 use Rattle.choice.specs.Choices.{Makes}
 use Rattle.ways.specs.declared.landing.Landing.the-variants.{At}
 use Rattle.ways.specs.Places.{PlacedAt}
-use Rattle.ways.proofs.Leading.{number-inside, move-here}
+use Rattle.ways.proofs.Leading.{number-inside, move-here, allowed-useful}
 use Rattle.ways.proofs.Placing.{placed-number}
 use Rattle.solver.proofs.Readiness.{claimed-wins, wins-claimed-by}
 use Rattle.lookup.proofs.Replying.{opponents-found}
@@ -74,7 +74,7 @@ list-row-requires c κs =
 way-to-requires : tie.Need-way-to-requires
 way-to-requires c κs =
     let pre = c .before .before .before .before .before .before .before .before .before .before .before .before .before .before .before .before .pre in
-    (pre .0, ((c .before .before .before .before .before .before .before .before .before .before .before .before .row-of .ensures .0, c .before .before .before .before .before .before .before .before .before .before .before .before .row-of .ensures .2, c .before .before .before .list-row .ensures), (pre .1 .1 .1 .0, omega (arith, pre .1 .1 .1 .1, places ((c .before .before .before .before .before .before .before .before .before .before .before .before))))))
+    (pre .0, ((c .before .before .before .before .before .before .before .before .before .before .before .before .row-of .ensures .0, c .before .before .before .list-row .ensures), (pre .1 .1 .1 .0, omega (arith, pre .1 .1 .1 .1, places ((c .before .before .before .before .before .before .before .before .before .before .before .before))))))
 
 enum-known-y : tie.Need-enum-known-y
 enum-known-y c = search needs
@@ -146,7 +146,12 @@ returns-3 : tie.Need-returns-3
 returns-3 c p placed =
     let args = c .before .before .before .before .before .before .before .before .before .before .before .before .before .before .before .before .before .before .before .args in
     let pre = c .before .before .before .before .before .before .before .before .before .before .before .before .before .before .before .before .before .before .before .pre in
-    past (λ wins. lost ((c .before .before .before .before .before .before .before .before)) p placed (wins-claimed-by (pre .0) (pre .1 .0 .0) (pre .1 .0 .1) (pre .1 .1 .0) p (placed .fits) wins)) (turned-down (λ allowed. rw (c .enum-told .given .1) at (c .before .before .way-to .ensures) p (here ((c .before .before .before .before .before .before .before .before)) p placed) (subst (λ (i : ℕ). Allowed (arenaOf (args .block .now) i) p (args .m)) (sym (c .before .before .before .before .before .before .before .before .before .before .before .before .before .before .before .row-of .ensures .1)) allowed)))
+    past (λ wins. lost ((c .before .before .before .before .before .before .before .before)) p placed (wins-claimed-by (pre .0) (pre .1 .0 .0) (pre .1 .0 .1) (pre .1 .1 .0) p (placed .fits) wins)) (turned-down (λ allowed.
+    let row = c .before .before .before .before .before .before .before .before .before .before .before .before .before .before .before .row-of in
+    let there = here (c .before .before .before .before .before .before .before .before) p placed in
+    let paid = subst (λ (i : ℕ). Allowed (arenaOf (args .block .now) i) p (args .m)) (sym (row .ensures .1)) allowed in
+    let useful = allowed-useful (args .block .now) (pre .0) (row .result) (row .ensures .0) (row .ensures .2) (args .spot .state) (args .spot .place) p there (args .m) paid in
+    rw (c .enum-told .given .1) at (c .before .before .way-to .ensures) p there useful paid))
 
 pub reply-at-spec : {M : Type 1} → statement M
 reply-at-spec =
