@@ -1,6 +1,6 @@
 -- What the allowances call promises (document 02, R-4): the smallest bounds with which a state satisfies a row. All of it is about truth: of the
 -- row's formula with other bounds, over the same lower rows. Put into the job, they make the same row true (game, `put-in`).
-use mathlib.Core.List.{List, [], _∷_, _++_}
+use mathlib.Core.List.{List, _∷_}
 use mathlib.Core.Path.{_≡_}
 use Prim.Native.Nat.{ℕ, suc, _+_, _*_, _≤_, _<_}
 use lib.ListN.{getD, length}
@@ -8,11 +8,11 @@ use Rattle.block.specs.Decide.{Some}
 use Rattle.block.specs.Layout as L
 use Rattle.block.specs.Layout.{Block}
 use Rattle.block.specs.Refusal.{Rule, _when_, Answers, Kept, RoomAfter}
-use Rattle.block.specs.declared.refusal.Refusal.the-variants as refusal
+use Rattle.block.specs.declared.refusal.Refusal.the-variants.{Length}
 use Rattle.block.specs.declared.refusal.Answer.{Answer}
 use Rattle.game.specs.Model.{boundsBy, RowTrueWith}
 use Rattle.turns.specs.Sizes.{roomBytes}
-use Rattle.solver.specs.Calls.{rowRules}
+use Rattle.solver.specs.Calls.{stateRules}
 
 -- a number for each resource, as a row's bound has it
 abbrev pub Allowance : Type 0
@@ -60,12 +60,12 @@ pub record AllowancesIn (b : Block) (i q : ℕ) (list : List ℕ) (n : ℕ) : Ty
   pub fits : n ≤ maxAllowances
   pub long : length list ≡ allowancesBytes
 
--- a list or a room that has not its length, then the block and the row, then a state at or above M
+-- a list or a room that has not its length, then the block, the row and the state
 abbrev pub allowancesRules : Block → ℕ → ℕ → ℕ → ℕ → List Rule
 allowancesRules b i q list room =
-    refusal.Length when (list ≡ allowancesBytes → ⊥)
-    ∷ refusal.Length when (room ≡ roomBytes → ⊥)
-    ∷ rowRules b i ++ (refusal.Position when (L.states b ≤ q) ∷ [])
+    Length when (list ≡ allowancesBytes → ⊥)
+    ∷ Length when (room ≡ roomBytes → ⊥)
+    ∷ stateRules b i q
 
 -- list and room, before the call and after it
 pub record AllowancesCall (b : Block) (i q : ℕ) (list room list′ room′ : List ℕ) (a : Answer) : Type 0 where

@@ -31,15 +31,7 @@ fn turned_down(block: &[u8], i: usize, s: usize, list: usize, room: usize) -> An
     if room != sizes::ROOM_BYTES {
         return Answer::Refused(Refusal::Length);
     }
-    match admit::row(block, i) {
-        Answer::Value(_) => {
-            if layout::states(block) <= s {
-                return Answer::Refused(Refusal::Position);
-            }
-            Answer::Value(0)
-        }
-        Answer::Refused(r) => Answer::Refused(r),
-    }
+    admit::state(block, i, s)
 }
 
 // Lists them. The row is solved once, with its bounds raised in a copy of the job.

@@ -7,7 +7,7 @@ use Rattle.block.specs.Layout as L
 use Rattle.block.specs.Layout.{Block}
 use Rattle.block.specs.Refusal.{Rule, _when_, Answers, NoValue, Kept, RoomAfter}
 use Rattle.block.specs.Check.{blockRules}
-use Rattle.block.specs.declared.refusal.Refusal.the-variants.{Length, RowChoice}
+use Rattle.block.specs.declared.refusal.Refusal.the-variants.{Length, RowChoice, Position}
 use Rattle.block.specs.declared.refusal.Answer.{Answer}
 use Rattle.game.specs.Position.{positions}
 use Rattle.turns.specs.Sizes.{setsBytes, roomBytes, movesBytes}
@@ -22,6 +22,10 @@ setRules b i = blockRules b ++ (RowChoice when (L.rows b ≤ i) ∷ [])
 -- and where more than its set is wanted, a row of kind 0 to 2
 abbrev pub rowRules : Block → ℕ → List Rule
 rowRules b i = setRules b i ++ (RowChoice when (L.kind b i < L.nextKind) ∷ [])
+
+-- and where one of its states is wanted, a state at or above M
+abbrev pub stateRules : Block → ℕ → ℕ → List Rule
+stateRules b i q = rowRules b i ++ (Position when (L.states b ≤ q) ∷ [])
 
 -- sets or a room of another length, then the block
 abbrev pub labelRules : Block → List ℕ → List ℕ → List Rule
