@@ -9,3 +9,4 @@ pub mod Replies
 pub mod Decided
 pub mod Unique
 pub mod Demand
+pub mod Onward

@@ -57,7 +57,7 @@ module _ (G : Arena) (proper : Proper (G .structure)) (t : Objective) (X : Table
   table-move y inside m asked = asked .move ∙ sym (moves-agree G proper t X (asked .table) decided (asked .is-table) y inside)
 
   -- plays by the row's moves are plays by the table, and back
-  moves-table : (P : Play G) → ByMoves G t P → ByTable G X P
+  pub moves-table : (P : Play G) → ByMoves G t P → ByTable G X P
   moves-table P moves n = go (decided (P .at n) inside .one-side)
     where
       inside : IsPosition G (P .at n)
@@ -105,7 +105,7 @@ module _ (G : Arena) (proper : Proper (G .structure)) (t : Objective) (X : Table
   )
 
   module _ (p : Position) (fits : IsPosition G p) where
-    moves-win : CoalitionWins G t p → MovesWin G t p (rankAt G X p)
+    pub moves-win : CoalitionWins G t p → MovesWin G t p (rankAt G X p)
     moves-win wins = record {
       some-replies = ((λ _ _ _. 0), λ _ y m inside _. idle-reply G proper y inside);
       plays = λ ρ counter. let (P, from, by, answers) = at .table-plays ρ counter in (P, from, table-moves P by, answers);
