@@ -1,4 +1,4 @@
--- The number that a C caller is handed back: a value from 0, or minus document 01's number of a refusal.
+-- The number that a C caller is handed back: a value from 0, or minus the number of a refusal.
 use mathlib.Core.List.{List}
 use mathlib.Core.Path.{_≡_}
 use Prim.Native.Nat.{ℕ, _≤_}
@@ -13,6 +13,7 @@ use Rattle.solver.specs.Calls.{LabelCall, TableCall}
 use Rattle.lookup.specs.Calls.{MoveCall, ReplyCall}
 use Rattle.lookup.specs.Worksheet.{SheetCall}
 use Rattle.lookup.specs.States.{StatesCall, RefusalCall}
+use Rattle.rehearsal.specs.Rehearsal.{RehearsalCall}
 use Rattle.allowances.specs.Allowances.{AllowancesCall}
 use Rattle.report.specs.Call.{listingBytes, ListingCall}
 use Rattle.writer.specs.Call.{WriteCall}
@@ -61,6 +62,10 @@ ReplyAnswer b i s stocks m room room′ r = (a : Answer) × ReplyCall b i s stoc
 -- what the worksheet call promises of its answer, the words and the room, each before and after it
 abbrev pub SheetAnswer : Block → ℕ → List ℕ → List ℕ → List ℕ → List ℕ → List ℕ → ℤ → Type 0
 SheetAnswer b i list words room words′ room′ r = (a : Answer) × SheetCall b i list words room words′ room′ a × (r ≡ answerCode a)
+
+-- what the rehearsal call promises of its answer, the report and the room, each before and after it
+abbrev pub RehearsalAnswer : Block → ℕ → ℕ → List ℕ → List ℕ → List ℕ → List ℕ → List ℕ → ℤ → Type 0
+RehearsalAnswer b i s script report room report′ room′ r = (a : Answer) × RehearsalCall b i s script report room report′ room′ a × (r ≡ answerCode a)
 
 -- what the allowances call promises of its answer, the list and the room, each before and after it
 abbrev pub AllowancesAnswer : Block → ℕ → ℕ → List ℕ → List ℕ → List ℕ → List ℕ → ℤ → Type 0

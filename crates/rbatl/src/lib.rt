@@ -5,7 +5,7 @@ ghost use mathlib.Core.List.{[], _∷_};
 ghost use mathlib.Core.Path.{_≡_};
 ghost use Rattle.text.specs.Text.{readCall, blockAfter, Exact, Numbered};
 ghost use Rattle.game.specs.Demand.{Demand3};
-ghost use Rattle.rbatl.specs.Answer.{CheckAnswer, readAnswer, StopAnswer, WriteAnswer, LabelAnswer, TableAnswer, Small, answerCode, MoveAnswer, ReplyAnswer, SheetAnswer, AllowancesAnswer, StatesAnswer, RefusalAnswer, ListAnswer};
+ghost use Rattle.rbatl.specs.Answer.{CheckAnswer, readAnswer, StopAnswer, WriteAnswer, LabelAnswer, TableAnswer, Small, answerCode, MoveAnswer, ReplyAnswer, SheetAnswer, RehearsalAnswer, AllowancesAnswer, StatesAnswer, RefusalAnswer, ListAnswer};
 
 // The number that is handed back: a value, or minus the number of a refusal.
 fn code(a: Answer) -> i32
@@ -122,6 +122,28 @@ pub extern "C" fn rbatl_worksheet(
     ensures { λ _. ⌜ Demand3 (now (block .entry)) row ⌝ }
 {
     code(lookup::worksheet::worksheet(block, row as usize, list, words, room))
+}
+
+#[no_mangle]
+pub extern "C" fn rbatl_rehearse(
+    block: &[u8],
+    row: u8,
+    state: u8,
+    script: &[u8],
+    report: &mut [u8],
+    room: &mut [u8],
+) -> i32
+    ensures { λ r. ⌜ RehearsalAnswer (now (block .entry)) row state (now (script .entry)) (now (report .entry)) (now (room .entry)) (now (report .exit)) (now (room .exit)) r ⌝ }
+    ensures { λ _. ⌜ Demand3 (now (block .entry)) row ⌝ }
+{
+    code(rehearsal::call::rehearse(
+        block,
+        row as usize,
+        state as usize,
+        script,
+        report,
+        room,
+    ))
 }
 
 #[no_mangle]
