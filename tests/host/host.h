@@ -58,6 +58,7 @@ void check_move(void);
 void check_reply(void);
 void check_sheet(void);
 void check_needs(void);
+void check_rehearse(void);
 void check_list(void);
 
 #endif
