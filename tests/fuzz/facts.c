@@ -42,8 +42,7 @@ bool is_allowed(const struct view *view, size_t position, unsigned move)
     return true;
 }
 
-/* The position that an allowed move and a reply lead to. */
-static size_t outcome_of(const struct view *view, size_t position, unsigned move, unsigned reply)
+size_t outcome_of(const struct view *view, size_t position, unsigned move, unsigned reply)
 {
     unsigned state = state_of(view, position), left[RBATL_MAX_RESOURCES] = {0};
 
@@ -55,9 +54,9 @@ static size_t outcome_of(const struct view *view, size_t position, unsigned move
                              rbatl_next_state(view->block, state, move | reply), left[0], left[1]);
 }
 
-static bool is_reply(const struct view *view, unsigned state, unsigned reply)
+bool is_reply(const struct view *view, unsigned state, unsigned reply)
 {
-    return part_of(reply, coalition_of(view)) == 0 && has_joint(view->block, state, reply);
+    return reply < RBATL_JOINT_ACTIONS && part_of(reply, coalition_of(view)) == 0 && has_joint(view->block, state, reply);
 }
 
 bool is_won(const struct view *view, size_t position)
