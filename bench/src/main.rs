@@ -1,12 +1,14 @@
 //! How long `rbatl_table` and `rbatl_label` take on jobs of full size (24
 //! states, three agents with four actions, bounds 15 and 15), as ratios to a
 //! Rust program that does the same sweeps, to plain sweeps and to section 4 of
-//! document 003; how long a worksheet takes beside one move, a reply, and smallest allowances
-//! beside one table; what rows cost that the asked one does not need; how long a text
-//! of each edition takes to read and write; and how much stack every call uses.
+//! document 003; how long a worksheet takes beside one move, a reply, smallest allowances
+//! beside one table, and a rehearsal beside one move; what rows cost that the asked one
+//! does not need; how long a text of each edition takes to read and write; and how much
+//! stack every call uses.
 
 mod cases;
 mod needs;
+mod rehearsal;
 mod sheet;
 mod stack;
 mod sweeps;
@@ -20,7 +22,7 @@ use rbatl_tests::ffi;
 use rbatl_tests::layout::{resource_kind, row, BLOCK_BYTES, KIND, MAX_ROWS, NEXT, SUM};
 use rbatl_tests::listing::LISTING_BYTES;
 use rbatl_tests::model::{At, MOVES_BYTES, RANKS_BYTES, ROOM_BYTES, SETS_BYTES};
-use rbatl_tests::model::{ALLOWANCES_BYTES, SHEET_POSITIONS, STATES_BYTES};
+use rbatl_tests::model::{ALLOWANCES_BYTES, REPORT_BYTES, SHEET_POSITIONS, STATES_BYTES};
 use rbatl_tests::text::{self, EDITIONS};
 use std::hint::black_box;
 use sweeps::{Order, Sweeper};
@@ -43,6 +45,7 @@ struct Buffers {
     listing: Vec<u8>,
     words: Vec<u8>,
     allowances: Vec<u8>,
+    report: Vec<u8>,
 }
 
 impl Buffers {
@@ -57,6 +60,7 @@ impl Buffers {
             listing: vec![0; LISTING_BYTES],
             words: vec![0; 2 * SHEET_POSITIONS],
             allowances: vec![0; ALLOWANCES_BYTES],
+            report: vec![0; REPORT_BYTES],
         }
     }
 
@@ -98,6 +102,12 @@ impl Buffers {
         let (list, room) = (&mut self.allowances, &mut self.room);
         let answer = ffi::allowances(black_box(job), ROW as u8, state, list, room);
         usize::try_from(answer).expect("a count")
+    }
+
+    /// The answer: 0 and a report, or a refusal.
+    fn rehearse(&mut self, job: &[u8], state: u8, script: &[u8]) -> i32 {
+        let (report, room) = (&mut self.report, &mut self.room);
+        ffi::rehearse(black_box(job), ROW as u8, state, script, report, room)
     }
 
     /// The reply to idling at state 0 with no stock.
@@ -249,6 +259,7 @@ fn main() {
     }
     println!("largest ratio of a sheet to one move: {largest_sheet:.2}");
     needs::print();
+    rehearsal::print();
     print_crowd();
     texts::print();
     print_stack();
@@ -313,11 +324,12 @@ fn print_stack() {
         "reply",
         "worksheet",
         "allowances",
+        "rehearse",
         "states",
         "states_refusal",
         "list",
     ];
-    let mut largest = [0; 13];
+    let mut largest = [0; 14];
     let list = sheet::list();
     for case in cases::all() {
         let mut buffers = Buffers::new();
@@ -337,6 +349,7 @@ fn print_stack() {
             stack::used(|| buffers.reply(job)),
             stack::used(|| buffers.worksheet(job, &list)),
             stack::used(|| consume(buffers.allowances(job, 0))),
+            rehearsal::stack(job),
             stack::used(|| buffers.states(job)),
             stack::used(|| buffers.states_refusal(job)),
             of_texts(&mut |text| buffers.list(text)),

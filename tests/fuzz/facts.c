@@ -56,7 +56,8 @@ size_t outcome_of(const struct view *view, size_t position, unsigned move, unsig
 
 bool is_reply(const struct view *view, unsigned state, unsigned reply)
 {
-    return reply < RBATL_JOINT_ACTIONS && part_of(reply, coalition_of(view)) == 0 && has_joint(view->block, state, reply);
+    return reply < RBATL_JOINT_ACTIONS && part_of(reply, coalition_of(view)) == 0 &&
+           has_joint(view->block, state, reply);
 }
 
 bool is_won(const struct view *view, size_t position)

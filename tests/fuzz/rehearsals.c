@@ -29,10 +29,11 @@ static uint8_t random_reply(struct random *random, const struct view *view, size
 
     if (one_in(random, 24))
         return draw_byte(random);
-    for (unsigned agent = 0; agent < rbatl_job_agents(view->block); agent++)
-        if (!(rbatl_row_team(view->block, view->row) >> agent & 1))
-            reply = rbatl_with_action(
-                reply, agent, (unsigned)below(random, rbatl_action_count(view->block, state, agent)));
+    for (unsigned agent = 0; agent < rbatl_job_agents(view->block); agent++) {
+        unsigned count = rbatl_action_count(view->block, state, agent);
+        if (!in_coalition(rbatl_row_team(view->block, view->row), agent))
+            reply = rbatl_with_action(reply, agent, (unsigned)below(random, count));
+    }
     return (uint8_t)reply;
 }
 
