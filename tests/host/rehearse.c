@@ -41,12 +41,6 @@ static void expect_report(const char *name, const uint8_t *block, struct questio
     count_room(name, room, expected);
 }
 
-static void refuse(const char *name, const uint8_t *block, struct question asked,
-                   int32_t expected)
-{
-    expect_report(name, block, asked, NULL, expected);
-}
-
 /* A rehearsal of a row of Catch: its script, and the report or the answer. */
 struct rehearsal {
     uint8_t row, state;
@@ -124,14 +118,25 @@ static void check_longest(void)
     asked.row = 6;
     expect_report("255 bytes", block, asked, all_moves, 0);
     script[RBATL_SCRIPT_BYTES - 1] = 2;
-    refuse("255 bytes, the last wrong", block, asked, -RBATL_E_REPLY);
+    expect_report("255 bytes, the last wrong", block, asked, NULL, -RBATL_E_REPLY);
     asked.script++;
-    refuse("256 bytes", block, asked, -RBATL_E_LENGTH);
+    expect_report("256 bytes", block, asked, NULL, -RBATL_E_LENGTH);
 }
 
-/* Each wrong length, for the row and state and for none, with a wrong reply. */
-static void check_rehearsal_lengths(const char *name, const uint8_t *block, uint8_t row,
-                                    uint8_t state)
+/* With a wrong reply, which every other refusal comes before. */
+static void refuse_rehearsal(const char *name, const uint8_t *block, uint8_t row, uint8_t state,
+                             int32_t expected)
+{
+    struct question asked = right;
+
+    memset(script, FILL, sizeof script);
+    asked.row = row;
+    asked.state = state;
+    expect_report(name, block, asked, NULL, expected);
+}
+
+static void refuse_rehearsal_lengths(const char *name, const uint8_t *block, uint8_t row,
+                                     uint8_t state)
 {
     memset(script, FILL, sizeof script);
     for (int more = -1; more <= 1; more += 2) {
@@ -143,49 +148,14 @@ static void check_rehearsal_lengths(const char *name, const uint8_t *block, uint
         for (size_t i = 0; i < 4; i++) {
             asked[i].row = row;
             asked[i].state = state;
-            refuse(name, block, asked[i], -RBATL_E_LENGTH);
+            expect_report(name, block, asked[i], NULL, -RBATL_E_LENGTH);
         }
-    }
-}
-
-/* Rows without a table and absent ones, whatever the state, then absent states; a
- * wrong reply comes after both. */
-static void check_rehearsal_choices(const uint8_t *block)
-{
-    static const uint8_t tableless[] = {0, 1, 2, 6, 31, 32, 255};
-    static const uint8_t states[] = {3, 24, 255};
-    struct question asked = right;
-
-    memset(script, FILL, sizeof script);
-    for (size_t i = 0; i < sizeof tableless; i++) {
-        asked.row = tableless[i];
-        for (asked.state = 0; asked.state <= 3; asked.state++)
-            refuse("no table", block, asked, -RBATL_E_ROW_CHOICE);
-    }
-    for (size_t i = 0; i < sizeof states; i++) {
-        asked.row = 4;
-        asked.state = states[i];
-        refuse("an absent state", block, asked, -RBATL_E_POSITION);
     }
 }
 
 void check_rehearse(void)
 {
-    static uint8_t bytes[RBATL_BLOCK_BYTES + 1];
-    struct question absent = right;
-
-    absent.row = absent.state = 255;
     check_rehearsals();
     check_longest();
-    fill_catch(bytes);
-    check_rehearsal_choices(bytes);
-    check_rehearsal_lengths("Catch", bytes, right.row, right.state);
-    for (size_t i = 0; i < DAMAGES; i++) {
-        struct damage damage = fill_damaged(bytes, i);
-        if (damage.answer == 0)
-            continue;
-        refuse(damage.name, bytes, right, damage.answer);
-        refuse(damage.name, bytes, absent, damage.answer);
-        check_rehearsal_lengths(damage.name, bytes, absent.row, absent.state);
-    }
+    check_refusals((struct refuser){refuse_rehearsal, refuse_rehearsal_lengths});
 }
