@@ -22,13 +22,11 @@ static bool is_over(const struct view *view, const struct course *course)
     }
 }
 
-/* A reply of the state, or now and then any byte. */
+/* A reply of the state. */
 static uint8_t random_reply(struct random *random, const struct view *view, size_t position)
 {
     unsigned state = state_of(view, position), reply = 0;
 
-    if (one_in(random, 24))
-        return draw_byte(random);
     for (unsigned agent = 0; agent < rbatl_job_agents(view->block); agent++) {
         unsigned count = rbatl_action_count(view->block, state, agent);
         if (!in_coalition(rbatl_row_team(view->block, view->row), agent))
@@ -52,18 +50,22 @@ static void check_step(struct run *run, const struct view *view, size_t before, 
 }
 
 /* Writes a script of that length as the play goes, with any bytes past its end, and
- * says how it should come out. */
+ * says how it should come out. In half of the scripts one bit is changed. */
 static struct course random_course(struct run *run, const struct view *view, size_t start,
                                    struct request *request)
 {
     struct course course = {start, 0, false, false};
+    size_t length = request->list_length;
+    size_t changed = length == 0 || one_in(&run->random, 2) ? length : below(&run->random, length);
 
-    for (size_t i = 0; i < request->list_length; i++) {
+    for (size_t i = 0; i < length; i++) {
         uint8_t *reply = &request->list[i];
         *reply = draw_byte(&run->random);
         if (course.refused || is_over(view, &course))
             continue;
         *reply = random_reply(&run->random, view, course.position);
+        if (i == changed)
+            *reply ^= (uint8_t)(1u << below(&run->random, 8));
         course.refused = !is_reply(view, state_of(view, course.position), *reply);
         if (course.refused)
             continue;
