@@ -211,7 +211,8 @@ fn longest_rank(case: &Case) -> u16 {
     finite.max().unwrap_or(0)
 }
 
-fn main() {
+/// What the columns of the first table are.
+fn print_legend() {
     println!(
         "Times in milliseconds, and as ratios to other programs that come to the same result:"
     );
@@ -232,6 +233,10 @@ fn main() {
     println!("        /move: its ratio to one single move at one of them, at most 1.3; move: that");
     println!("        move; reply: the reply to idling at state 0 with no stock.");
     println!();
+}
+
+fn main() {
+    print_legend();
     print!("{:30} {:>5}", "case", "rank");
     for call in ["table", "label"] {
         print!(
@@ -311,56 +316,50 @@ fn texts_of(job: &[u8]) -> Vec<Vec<u8>> {
     }
 }
 
+/// The stack that each call takes on a job.
+fn stacks(job: &[u8]) -> Vec<(&'static str, usize)> {
+    let (mut buffers, texts, list) = (Buffers::new(), texts_of(job), sheet::list());
+    let of_texts = |call: &mut dyn FnMut(&[u8])| {
+        let used = texts.iter().map(|text| stack::used(|| call(text)));
+        used.max().unwrap_or(0)
+    };
+    vec![
+        ("check", stack::used(|| consume(ffi::check(job)))),
+        ("read", of_texts(&mut |text| buffers.read(text))),
+        ("read_at", of_texts(&mut |text| consume(ffi::read_at(text)))),
+        ("write", stack::used(|| buffers.write(job))),
+        ("label", stack::used(|| buffers.label(job))),
+        ("table", stack::used(|| buffers.table(job))),
+        ("move", stack::used(|| buffers.coalition_move(job, EMPTY))),
+        ("reply", stack::used(|| buffers.reply(job))),
+        ("worksheet", stack::used(|| buffers.worksheet(job, &list))),
+        (
+            "allowances",
+            stack::used(|| consume(buffers.allowances(job, 0))),
+        ),
+        ("rehearse", rehearsal::stack(job)),
+        ("states", stack::used(|| buffers.states(job))),
+        (
+            "states_refusal",
+            stack::used(|| buffers.states_refusal(job)),
+        ),
+        ("list", of_texts(&mut |text| buffers.list(text))),
+    ]
+}
+
 /// The most that each call takes over all jobs.
 fn print_stack() {
-    let names = [
-        "check",
-        "read",
-        "read_at",
-        "write",
-        "label",
-        "table",
-        "move",
-        "reply",
-        "worksheet",
-        "allowances",
-        "rehearse",
-        "states",
-        "states_refusal",
-        "list",
-    ];
-    let mut largest = [0; 14];
-    let list = sheet::list();
+    let mut largest: Vec<(&str, usize)> = Vec::new();
     for case in cases::all() {
-        let mut buffers = Buffers::new();
-        let (job, texts) = (&case.job, texts_of(&case.job));
-        let of_texts = |call: &mut dyn FnMut(&[u8])| {
-            let used = texts.iter().map(|text| stack::used(|| call(text)));
-            used.max().unwrap_or(0)
-        };
-        let used = [
-            stack::used(|| consume(ffi::check(job))),
-            of_texts(&mut |text| buffers.read(text)),
-            of_texts(&mut |text| consume(ffi::read_at(text))),
-            stack::used(|| buffers.write(job)),
-            stack::used(|| buffers.label(job)),
-            stack::used(|| buffers.table(job)),
-            stack::used(|| buffers.coalition_move(job, EMPTY)),
-            stack::used(|| buffers.reply(job)),
-            stack::used(|| buffers.worksheet(job, &list)),
-            stack::used(|| consume(buffers.allowances(job, 0))),
-            rehearsal::stack(job),
-            stack::used(|| buffers.states(job)),
-            stack::used(|| buffers.states_refusal(job)),
-            of_texts(&mut |text| buffers.list(text)),
-        ];
-        largest = std::array::from_fn(|k| largest[k].max(used[k]));
+        let stacks = stacks(&case.job);
+        largest.resize(stacks.len(), ("", 0));
+        for (most, used) in largest.iter_mut().zip(stacks) {
+            *most = (used.0, most.1.max(used.1));
+        }
     }
     println!("largest stack in bytes, the caller's frame included:");
-    let each: Vec<String> = names
+    let each = largest
         .iter()
-        .zip(largest)
-        .map(|(name, bytes)| format!("{name} {bytes}"))
-        .collect();
-    println!("{}", each.join(", "));
+        .map(|(name, bytes)| format!("{name} {bytes}"));
+    println!("{}", Vec::from_iter(each).join(", "));
 }

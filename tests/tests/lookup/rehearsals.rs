@@ -111,8 +111,8 @@ impl Seen {
         self.right_at_first(rng, asked, start, &script);
     }
 
-    /// The report has as many moves as turns came, and one byte more or less than they
-    /// take makes no other.
+    /// The report has as many moves as turns came, and is that of the bytes up to the
+    /// last of them.
     fn right(&mut self, asked: &Asked, start: At, script: &Script) {
         let read = script.turns.len();
         let found = self.rehearse(asked, start, &script.bytes);
