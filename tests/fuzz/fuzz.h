@@ -156,7 +156,7 @@ bool is_allowed(const struct view *view, size_t position, unsigned move);
 /* The position that an allowed move and a reply lead to. */
 size_t outcome_of(const struct view *view, size_t position, unsigned move, unsigned reply);
 /* Whether the coalition's opponents may make the reply there. */
-bool is_reply(const struct view *view, unsigned state, unsigned reply);
+bool can_reply(const struct view *view, unsigned state, unsigned reply);
 /* The reply that is due to an allowed move where the coalition does not win. */
 unsigned due_reply(const struct view *view, size_t position, unsigned move);
 

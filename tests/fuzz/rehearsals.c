@@ -66,7 +66,7 @@ static struct course random_course(struct run *run, const struct view *view, siz
         *reply = random_reply(&run->random, view, course.position);
         if (i == changed)
             *reply ^= (uint8_t)(1u << below(&run->random, 8));
-        course.refused = !is_reply(view, state_of(view, course.position), *reply);
+        course.refused = !can_reply(view, state_of(view, course.position), *reply);
         if (course.refused)
             continue;
         size_t after = outcome_of(view, course.position, view->moves[course.position], *reply);
