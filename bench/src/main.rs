@@ -1,12 +1,14 @@
 //! How long `rbatl_table` and `rbatl_label` take on jobs of full size (24
 //! states, three agents with four actions, bounds 15 and 15), as ratios to a
 //! Rust program that does the same sweeps, to plain sweeps and to section 4 of
-//! document 003; how long a worksheet takes beside one move, a reply, and smallest allowances
-//! beside one table; what rows cost that the asked one does not need; how long a text
-//! of each edition takes to read and write; and how much stack every call uses.
+//! document 003; how long a worksheet takes beside one move, a reply, smallest allowances
+//! beside one table, and a rehearsal beside one move; what rows cost that the asked one
+//! does not need; how long a text of each edition takes to read and write; and how much
+//! stack every call uses.
 
 mod cases;
 mod needs;
+mod rehearsal;
 mod sheet;
 mod stack;
 mod sweeps;
@@ -20,7 +22,7 @@ use rbatl_tests::ffi;
 use rbatl_tests::layout::{resource_kind, row, BLOCK_BYTES, KIND, MAX_ROWS, NEXT, SUM};
 use rbatl_tests::listing::LISTING_BYTES;
 use rbatl_tests::model::{At, MOVES_BYTES, RANKS_BYTES, ROOM_BYTES, SETS_BYTES};
-use rbatl_tests::model::{ALLOWANCES_BYTES, SHEET_POSITIONS, STATES_BYTES};
+use rbatl_tests::model::{ALLOWANCES_BYTES, REPORT_BYTES, SHEET_POSITIONS, STATES_BYTES};
 use rbatl_tests::text::{self, EDITIONS};
 use std::hint::black_box;
 use sweeps::{Order, Sweeper};
@@ -43,6 +45,7 @@ struct Buffers {
     listing: Vec<u8>,
     words: Vec<u8>,
     allowances: Vec<u8>,
+    report: Vec<u8>,
 }
 
 impl Buffers {
@@ -57,6 +60,7 @@ impl Buffers {
             listing: vec![0; LISTING_BYTES],
             words: vec![0; 2 * SHEET_POSITIONS],
             allowances: vec![0; ALLOWANCES_BYTES],
+            report: vec![0; REPORT_BYTES],
         }
     }
 
@@ -98,6 +102,12 @@ impl Buffers {
         let (list, room) = (&mut self.allowances, &mut self.room);
         let answer = ffi::allowances(black_box(job), ROW as u8, state, list, room);
         usize::try_from(answer).expect("a count")
+    }
+
+    /// The answer: 0 and a report, or a refusal.
+    fn rehearse(&mut self, job: &[u8], state: u8, script: &[u8]) -> i32 {
+        let (report, room) = (&mut self.report, &mut self.room);
+        ffi::rehearse(black_box(job), ROW as u8, state, script, report, room)
     }
 
     /// The reply to idling at state 0 with no stock.
@@ -201,7 +211,8 @@ fn longest_rank(case: &Case) -> u16 {
     finite.max().unwrap_or(0)
 }
 
-fn main() {
+/// What the columns of the first table are.
+fn print_legend() {
     println!(
         "Times in milliseconds, and as ratios to other programs that come to the same result:"
     );
@@ -222,6 +233,10 @@ fn main() {
     println!("        /move: its ratio to one single move at one of them, at most 1.3; move: that");
     println!("        move; reply: the reply to idling at state 0 with no stock.");
     println!();
+}
+
+fn main() {
+    print_legend();
     print!("{:30} {:>5}", "case", "rank");
     for call in ["table", "label"] {
         print!(
@@ -249,6 +264,7 @@ fn main() {
     }
     println!("largest ratio of a sheet to one move: {largest_sheet:.2}");
     needs::print();
+    rehearsal::print();
     print_crowd();
     texts::print();
     print_stack();
@@ -300,54 +316,50 @@ fn texts_of(job: &[u8]) -> Vec<Vec<u8>> {
     }
 }
 
+/// The stack that each call takes on a job.
+fn stacks(job: &[u8]) -> Vec<(&'static str, usize)> {
+    let (mut buffers, texts, list) = (Buffers::new(), texts_of(job), sheet::list());
+    let of_texts = |call: &mut dyn FnMut(&[u8])| {
+        let used = texts.iter().map(|text| stack::used(|| call(text)));
+        used.max().unwrap_or(0)
+    };
+    vec![
+        ("check", stack::used(|| consume(ffi::check(job)))),
+        ("read", of_texts(&mut |text| buffers.read(text))),
+        ("read_at", of_texts(&mut |text| consume(ffi::read_at(text)))),
+        ("write", stack::used(|| buffers.write(job))),
+        ("label", stack::used(|| buffers.label(job))),
+        ("table", stack::used(|| buffers.table(job))),
+        ("move", stack::used(|| buffers.coalition_move(job, EMPTY))),
+        ("reply", stack::used(|| buffers.reply(job))),
+        ("worksheet", stack::used(|| buffers.worksheet(job, &list))),
+        (
+            "allowances",
+            stack::used(|| consume(buffers.allowances(job, 0))),
+        ),
+        ("rehearse", rehearsal::stack(job)),
+        ("states", stack::used(|| buffers.states(job))),
+        (
+            "states_refusal",
+            stack::used(|| buffers.states_refusal(job)),
+        ),
+        ("list", of_texts(&mut |text| buffers.list(text))),
+    ]
+}
+
 /// The most that each call takes over all jobs.
 fn print_stack() {
-    let names = [
-        "check",
-        "read",
-        "read_at",
-        "write",
-        "label",
-        "table",
-        "move",
-        "reply",
-        "worksheet",
-        "allowances",
-        "states",
-        "states_refusal",
-        "list",
-    ];
-    let mut largest = [0; 13];
-    let list = sheet::list();
+    let mut largest: Vec<(&str, usize)> = Vec::new();
     for case in cases::all() {
-        let mut buffers = Buffers::new();
-        let (job, texts) = (&case.job, texts_of(&case.job));
-        let of_texts = |call: &mut dyn FnMut(&[u8])| {
-            let used = texts.iter().map(|text| stack::used(|| call(text)));
-            used.max().unwrap_or(0)
-        };
-        let used = [
-            stack::used(|| consume(ffi::check(job))),
-            of_texts(&mut |text| buffers.read(text)),
-            of_texts(&mut |text| consume(ffi::read_at(text))),
-            stack::used(|| buffers.write(job)),
-            stack::used(|| buffers.label(job)),
-            stack::used(|| buffers.table(job)),
-            stack::used(|| buffers.coalition_move(job, EMPTY)),
-            stack::used(|| buffers.reply(job)),
-            stack::used(|| buffers.worksheet(job, &list)),
-            stack::used(|| consume(buffers.allowances(job, 0))),
-            stack::used(|| buffers.states(job)),
-            stack::used(|| buffers.states_refusal(job)),
-            of_texts(&mut |text| buffers.list(text)),
-        ];
-        largest = std::array::from_fn(|k| largest[k].max(used[k]));
+        let stacks = stacks(&case.job);
+        largest.resize(stacks.len(), ("", 0));
+        for (most, used) in largest.iter_mut().zip(stacks) {
+            *most = (used.0, most.1.max(used.1));
+        }
     }
     println!("largest stack in bytes, the caller's frame included:");
-    let each: Vec<String> = names
+    let each = largest
         .iter()
-        .zip(largest)
-        .map(|(name, bytes)| format!("{name} {bytes}"))
-        .collect();
-    println!("{}", each.join(", "));
+        .map(|(name, bytes)| format!("{name} {bytes}"));
+    println!("{}", Vec::from_iter(each).join(", "));
 }

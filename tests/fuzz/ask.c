@@ -50,6 +50,10 @@ static const struct shape shapes[ENTRIES] = {
                     {{FILLED, RBATL_ALLOWANCES_BYTES}, {ROOM, RBATL_ROOM_BYTES}},
                     RBATL_MAX_ALLOWANCES,
                     OF_ROW | BIT(RBATL_E_POSITION)},
+    [REHEARSE] = {"rehearse",
+                  {{FILLED, RBATL_REPORT_BYTES}, {ROOM, RBATL_ROOM_BYTES}},
+                  0,
+                  OF_MOVE | BIT(RBATL_E_REPLY)},
     [STATES] = {"states",
                 {{FILLED, RBATL_STATES_BYTES}, {ROOM, RBATL_ROOM_BYTES}},
                 RBATL_MAX_STATES,
@@ -63,6 +67,11 @@ static const struct shape shapes[ENTRIES] = {
 bool takes_text(enum entry entry)
 {
     return entry == READ || entry == READ_AT || entry == LIST;
+}
+
+bool takes_list(enum entry entry)
+{
+    return entry == SHEET || entry == REHEARSE;
 }
 
 const char *entry_name(enum entry entry)
@@ -140,6 +149,8 @@ static int32_t call(const struct request *r, const struct lent *in, const struct
         return rbatl_worksheet(LENT(in), r->row, LENT(list), LENT(a), LENT(b));
     case ALLOWANCES:
         return rbatl_allowances(LENT(in), r->row, r->state, LENT(a), LENT(b));
+    case REHEARSE:
+        return rbatl_rehearse(LENT(in), r->row, r->state, LENT(list), LENT(a), LENT(b));
     case STATES:
         return rbatl_states(LENT(in), r->row, LENT(a), LENT(b));
     case REFUSAL:
@@ -157,6 +168,8 @@ static bool bad_length(const struct request *r)
                                     : r->input_length != RBATL_BLOCK_BYTES;
     if (r->entry == SHEET)
         bad |= r->list_length > RBATL_SHEET_BYTES || r->list_length % RBATL_POSITION_BYTES != 0;
+    if (r->entry == REHEARSE)
+        bad |= r->list_length > RBATL_SCRIPT_BYTES;
     for (unsigned i = 0; i < lent_count(r->entry); i++)
         bad |= r->skew[i] != 0;
     return bad;
@@ -168,7 +181,7 @@ static void check_answer(const struct run *run, const struct request *request, i
     bool refused = answer < 0;
 
     expect(run, answer <= shape->largest_answer, shape->name, "an answer out of range");
-    expect(run, answer >= -RBATL_E_MOVE, shape->name, "an unknown refusal");
+    expect(run, answer >= -RBATL_E_REPLY, shape->name, "an unknown refusal");
     expect(run, !refused || shape->refusals & BIT((unsigned)-answer), shape->name,
            "a refusal that the call does not have");
     expect(run, (answer == -RBATL_E_LENGTH) == bad_length(request), shape->name,

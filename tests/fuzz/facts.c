@@ -42,8 +42,7 @@ bool is_allowed(const struct view *view, size_t position, unsigned move)
     return true;
 }
 
-/* The position that an allowed move and a reply lead to. */
-static size_t outcome_of(const struct view *view, size_t position, unsigned move, unsigned reply)
+size_t outcome_of(const struct view *view, size_t position, unsigned move, unsigned reply)
 {
     unsigned state = state_of(view, position), left[RBATL_MAX_RESOURCES] = {0};
 
@@ -55,9 +54,10 @@ static size_t outcome_of(const struct view *view, size_t position, unsigned move
                              rbatl_next_state(view->block, state, move | reply), left[0], left[1]);
 }
 
-static bool is_reply(const struct view *view, unsigned state, unsigned reply)
+bool can_reply(const struct view *view, unsigned state, unsigned reply)
 {
-    return part_of(reply, coalition_of(view)) == 0 && has_joint(view->block, state, reply);
+    return reply < RBATL_JOINT_ACTIONS && part_of(reply, coalition_of(view)) == 0 &&
+           has_joint(view->block, state, reply);
 }
 
 bool is_won(const struct view *view, size_t position)
@@ -84,7 +84,7 @@ static unsigned move_value(const struct view *view, size_t position, unsigned mo
     unsigned state = state_of(view, position), best = smallest ? RBATL_NEVER : 0;
 
     for (unsigned reply = 0; reply < RBATL_JOINT_ACTIONS; reply++) {
-        if (!is_reply(view, state, reply))
+        if (!can_reply(view, state, reply))
             continue;
         unsigned value = value_of(view, position, move, reply);
         if (smallest ? value < best : value > best)
@@ -153,7 +153,7 @@ unsigned due_reply(const struct view *view, size_t position, unsigned move)
     if (is_settled(view, position, &settled))
         return 0;
     for (unsigned reply = 0; reply < RBATL_JOINT_ACTIONS; reply++) {
-        if (!is_reply(view, state_of(view, position), reply))
+        if (!can_reply(view, state_of(view, position), reply))
             continue;
         unsigned value = value_of(view, position, move, reply);
         if (kind == RBATL_ALWAYS ? value < rank_in(view, position) : value == RBATL_NEVER)

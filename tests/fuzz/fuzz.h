@@ -24,6 +24,7 @@ enum entry {
     REPLY,
     SHEET,
     ALLOWANCES,
+    REHEARSE,
     STATES,
     REFUSAL,
     ENTRIES
@@ -32,11 +33,11 @@ enum entry {
 /* How many buffers beside its inputs a call is lent at most. */
 #define MAX_LENT 3
 
-/* The longest list of a worksheet, and some bytes too many. */
-#define LIST_ROOM (RBATL_SHEET_BYTES + 64)
+/* The longest script, which no list of a worksheet exceeds, and some bytes too many. */
+#define LIST_ROOM (RBATL_SCRIPT_BYTES + 64)
 
 /* What a call is asked: the input is a text for READ, READ_AT and LIST, and a
- * block for the rest. SHEET takes the list too. */
+ * block for the rest. SHEET takes the list too, and REHEARSE as its script. */
 struct request {
     enum entry entry;
     const uint8_t *input;
@@ -115,6 +116,9 @@ void try_damaged_text(struct run *run, uint8_t *text, size_t length);
 /* Lists the text of a passing block. */
 void try_listing(struct run *run, const uint8_t *block, const uint8_t *text, size_t length);
 
+/* Whether a call takes a list. */
+bool takes_list(enum entry entry);
+
 /* A list of any bytes that has a right length, and one of a wrong length. */
 void random_list(struct random *random, struct request *request);
 void misfit_list(struct random *random, struct request *request);
@@ -122,8 +126,14 @@ void misfit_list(struct random *random, struct request *request);
 /* A worksheet of a row, by its table and by single calls. */
 void try_sheet(struct run *run, const struct view *view);
 
+/* The request at a state that there is not. */
+void try_absent_state(struct run *run, struct request request);
+
 /* The smallest allowances of a row in its states, by all pairs of bounds. */
 void try_needs(struct run *run, const uint8_t *block, unsigned row);
+
+/* Rehearsals of a row, by its table and the sets of its operands. */
+void try_rehearsals(struct run *run, const struct view *view);
 
 /* Random jobs, and damage to them. */
 void random_job(struct random *random, uint8_t *block);
@@ -143,6 +153,10 @@ unsigned due_move(const struct view *view, size_t position);
 bool is_won(const struct view *view, size_t position);
 /* Whether the coalition may make the move there. */
 bool is_allowed(const struct view *view, size_t position, unsigned move);
+/* The position that an allowed move and a reply lead to. */
+size_t outcome_of(const struct view *view, size_t position, unsigned move, unsigned reply);
+/* Whether the coalition's opponents may make the reply there. */
+bool can_reply(const struct view *view, unsigned state, unsigned reply);
 /* The reply that is due to an allowed move where the coalition does not win. */
 unsigned due_reply(const struct view *view, size_t position, unsigned move);
 

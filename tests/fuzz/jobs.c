@@ -159,7 +159,7 @@ static void random_row(struct random *random, uint8_t *block, unsigned row, unsi
     if (!rbatl_row_is_strategic(block, row))
         return;
     block[rbatl_place_of_field(row, RBATL_FIELD_TEAM)] =
-        (uint8_t)within(random, 1, all_agents(block));
+        (uint8_t)within(random, 1, (1u << rbatl_job_agents(block)) - 1);
     for (unsigned resource = 0; resource < rbatl_job_resources(block); resource++)
         block[rbatl_place_of_field(row, RBATL_FIELD_BOUND + resource)] = random_bound(random, most);
 }

@@ -95,15 +95,11 @@ static void try_state(struct run *run, const struct request *request, const stru
  * both resources are limited, so that large jobs are left out, and half of the rest. */
 void try_needs(struct run *run, const uint8_t *block, unsigned row)
 {
-    static struct outcome outcome;
     static struct trials trials;
     unsigned states = rbatl_job_states(block);
     struct request request = request_of(ALLOWANCES, block, row);
 
-    request.state = (uint8_t)(one_in(&run->random, 2) ? states
-                                                      : within(&run->random, states, UINT8_MAX));
-    ask(run, &request, &outcome);
-    expect(run, outcome.answer == -RBATL_E_POSITION, "allowances", "a state that there is not");
+    try_absent_state(run, request);
     if (states > 8 || one_in(&run->random, 2))
         return;
     try_pairs(run, block, row, &trials);

@@ -5,20 +5,25 @@
 
 void random_list(struct random *random, struct request *request)
 {
-    request->list_length = RBATL_POSITION_BYTES * below(random, RBATL_SHEET_POSITIONS + 1);
+    request->list_length = request->entry == REHEARSE
+                               ? below(random, RBATL_SCRIPT_BYTES + 1)
+                               : RBATL_POSITION_BYTES * below(random, RBATL_SHEET_POSITIONS + 1);
     for (size_t i = 0; i < LIST_ROOM; i++)
         request->list[i] = draw_byte(random);
 }
 
-/* One position or some bytes too many, or a part of a position at its end. */
+/* One position or reply or some bytes too many, or a part of a position at its end. */
 void misfit_list(struct random *random, struct request *request)
 {
-    switch (below(random, 3)) {
+    bool script = request->entry == REHEARSE;
+    unsigned most = script ? RBATL_SCRIPT_BYTES : RBATL_SHEET_BYTES;
+
+    switch (below(random, script ? 2 : 3)) {
     case 0:
-        request->list_length = RBATL_SHEET_BYTES + RBATL_POSITION_BYTES;
+        request->list_length = most + (script ? 1 : RBATL_POSITION_BYTES);
         break;
     case 1:
-        request->list_length = within(random, RBATL_SHEET_BYTES + 1, LIST_ROOM);
+        request->list_length = within(random, most + 1, LIST_ROOM);
         break;
     default:
         request->list_length += within(random, 1, RBATL_POSITION_BYTES - 1);

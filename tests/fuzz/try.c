@@ -101,6 +101,18 @@ static void try_no_position(struct run *run, const struct view *view, size_t pos
            "a position that there is not");
 }
 
+void try_absent_state(struct run *run, struct request request)
+{
+    static struct outcome outcome;
+    unsigned states = rbatl_job_states(request.input);
+
+    request.state = (uint8_t)(one_in(&run->random, 2) ? states
+                                                      : within(&run->random, states, UINT8_MAX));
+    ask(run, &request, &outcome);
+    expect(run, outcome.answer == -RBATL_E_POSITION, entry_name(request.entry),
+           "a state that there is not");
+}
+
 /* All positions of a small table, and some of a large one. */
 static void try_entries(struct run *run, const struct view *view, size_t positions)
 {
@@ -139,14 +151,15 @@ static void try_table(struct run *run, const uint8_t *block, unsigned row, const
     try_no_position(run, &view, below(&run->random, positions));
     try_sheet(run, &view);
     try_needs(run, block, row);
+    try_rehearsals(run, &view);
 }
 
 /* A row without a table, or no row. */
 static void try_no_table(struct run *run, const uint8_t *block, unsigned row)
 {
     static struct outcome outcome;
-    static const enum entry entries[] = {TABLE, MOVE, REPLY, SHEET, ALLOWANCES};
-    struct request request = request_of(entries[below(&run->random, 5)], block, row);
+    static const enum entry entries[] = {TABLE, MOVE, REPLY, SHEET, ALLOWANCES, REHEARSE};
+    struct request request = request_of(entries[below(&run->random, 6)], block, row);
 
     request.state = draw_byte(&run->random);
     request.stock0 = draw_byte(&run->random);
@@ -204,7 +217,7 @@ static void try_refused(struct run *run, const uint8_t *block, int32_t answer)
 {
     static struct outcome outcome;
     static const enum entry entries[] = {
-        WRITE, LABEL, TABLE, MOVE, REPLY, SHEET, ALLOWANCES, STATES, REFUSAL,
+        WRITE, LABEL, TABLE, MOVE, REPLY, SHEET, ALLOWANCES, REHEARSE, STATES, REFUSAL,
     };
 
     for (size_t i = 0; i < sizeof entries / sizeof entries[0]; i++) {
@@ -246,7 +259,7 @@ static struct request misfit(struct run *run, enum entry entry, const uint8_t *i
 
     request.input_length = length;
     random_list(&run->random, &request);
-    if (entry == SHEET && one_in(&run->random, 2))
+    if (takes_list(entry) && one_in(&run->random, 2))
         misfit_list(&run->random, &request);
     else if (which < buffers)
         request.skew[which] = random_skew(&run->random, lent_length(&request, which));

@@ -252,6 +252,7 @@ int main(void)
     check_reply();
     check_sheet();
     check_needs();
+    check_rehearse();
     check_list();
     printf("%d passed, %d failed\n", passed, failed);
     return failed != 0;

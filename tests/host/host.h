@@ -44,6 +44,17 @@ void fill_catch(uint8_t *block);
 void fill_row(uint8_t *block, unsigned row, const uint8_t *fields);
 struct damage fill_damaged(uint8_t *block, size_t i);
 
+/* A call on a row and a state: asked there, it must answer as expected; with each
+ * wrong length, RBATL_E_LENGTH. */
+struct refuser {
+    void (*refuse)(const char *name, const uint8_t *block, uint8_t row, uint8_t state,
+                   int32_t expected);
+    void (*refuse_lengths)(const char *name, const uint8_t *block, uint8_t row, uint8_t state);
+};
+
+/* Each refusal up to RBATL_E_POSITION, on Catch and on its damages. */
+void check_refusals(struct refuser call);
+
 void count(int good, const char *name, const char *what);
 void count_answer(const char *name, const char *call, int32_t answer, int32_t expected);
 void count_room(const char *name, const uint8_t *room, int32_t expected);
@@ -58,6 +69,7 @@ void check_move(void);
 void check_reply(void);
 void check_sheet(void);
 void check_needs(void);
+void check_rehearse(void);
 void check_list(void);
 
 #endif

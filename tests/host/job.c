@@ -138,19 +138,33 @@ static void check_answers(void)
         count_answer("a worksheet", "answer_at", rbatl_answer_at(words, place), answers[place]);
 }
 
+/* Not finished and finished, no move and as many as there can be, and a position
+ * whose number takes two bytes. */
+static void check_reports(void)
+{
+    static const uint8_t first[] = {0, 0, 5, 0}, last[] = {1, 255, 0xFF, 0x17};
+
+    count(!rbatl_report_finished(first), "a report", "finished too early");
+    count(rbatl_report_finished(last), "a report", "not finished");
+    same("moves of a report", rbatl_report_moves(first), 0);
+    same("moves of a report", rbatl_report_moves(last), RBATL_SCRIPT_BYTES);
+    same("position of a report", rbatl_report_position(first), 5);
+    same("position of a report", rbatl_report_position(last), RBATL_MAX_POSITIONS - 1);
+}
+
 /* Each refusal has words of its own, and no other number has them. */
 static void check_refusal_texts(void)
 {
     const char *none = rbatl_refusal_text(0);
 
-    for (int32_t number = RBATL_E_LENGTH; number <= RBATL_E_MOVE; number++) {
+    for (int32_t number = RBATL_E_LENGTH; number <= RBATL_E_REPLY; number++) {
         const char *words = rbatl_refusal_text(number);
         count(strcmp(words, none) != 0, words, "a refusal without words");
         for (int32_t other = RBATL_E_LENGTH; other < number; other++)
             count(strcmp(words, rbatl_refusal_text(other)) != 0, words,
                   "the words of two refusals");
     }
-    count(strcmp(rbatl_refusal_text(RBATL_E_MOVE + 1), none) == 0, none, "words of no refusal");
+    count(strcmp(rbatl_refusal_text(RBATL_E_REPLY + 1), none) == 0, none, "words of no refusal");
     count(strcmp(rbatl_refusal_text(-RBATL_E_LENGTH), none) == 0, none, "words of an answer");
 }
 
@@ -167,5 +181,6 @@ void check_job(void)
     check_bounds(block);
     check_words();
     check_answers();
+    check_reports();
     check_refusal_texts();
 }

@@ -36,9 +36,13 @@ static void expect_needs(const char *name, const uint8_t *block, struct question
     count_room(name, room, expected);
 }
 
-static void refuse_needs(const char *name, const uint8_t *block, struct question asked,
+static void refuse_needs(const char *name, const uint8_t *block, uint8_t row, uint8_t state,
                          int32_t expected)
 {
+    struct question asked = right;
+
+    asked.row = row;
+    asked.state = state;
     expect_needs(name, block, asked, NULL, expected);
 }
 
@@ -92,8 +96,7 @@ static void check_catch(const uint8_t *block)
     }
 }
 
-/* Each wrong length, for the row and state and for none. */
-static void check_needs_lengths(const char *name, const uint8_t *block, uint8_t row, uint8_t state)
+static void refuse_needs_lengths(const char *name, const uint8_t *block, uint8_t row, uint8_t state)
 {
     for (int more = -1; more <= 1; more += 2) {
         struct question asked[3] = {right, right, right};
@@ -103,47 +106,17 @@ static void check_needs_lengths(const char *name, const uint8_t *block, uint8_t 
         for (size_t i = 0; i < 3; i++) {
             asked[i].row = row;
             asked[i].state = state;
-            refuse_needs(name, block, asked[i], -RBATL_E_LENGTH);
+            expect_needs(name, block, asked[i], NULL, -RBATL_E_LENGTH);
         }
-    }
-}
-
-/* Rows without bounds and absent ones, whatever the state, then absent states. */
-static void check_choices(const uint8_t *block)
-{
-    static const uint8_t boundless[] = {0, 1, 2, 6, 31, 32, 255};
-    static const uint8_t states[] = {3, 24, 255};
-    struct question asked = right;
-
-    for (size_t i = 0; i < sizeof boundless; i++) {
-        asked.row = boundless[i];
-        for (asked.state = 0; asked.state <= 3; asked.state++)
-            refuse_needs("no bounds", block, asked, -RBATL_E_ROW_CHOICE);
-    }
-    for (size_t i = 0; i < sizeof states; i++) {
-        asked.row = 4;
-        asked.state = states[i];
-        refuse_needs("an absent state", block, asked, -RBATL_E_POSITION);
     }
 }
 
 void check_needs(void)
 {
-    static uint8_t bytes[RBATL_BLOCK_BYTES + 1];
-    struct question absent = right;
+    static uint8_t block[RBATL_BLOCK_BYTES];
 
-    absent.row = absent.state = 255;
     check_trade();
-    fill_catch(bytes);
-    check_catch(bytes);
-    check_choices(bytes);
-    check_needs_lengths("Catch", bytes, right.row, right.state);
-    for (size_t i = 0; i < DAMAGES; i++) {
-        struct damage damage = fill_damaged(bytes, i);
-        if (damage.answer == 0)
-            continue;
-        refuse_needs(damage.name, bytes, right, damage.answer);
-        refuse_needs(damage.name, bytes, absent, damage.answer);
-        check_needs_lengths(damage.name, bytes, absent.row, absent.state);
-    }
+    fill_catch(block);
+    check_catch(block);
+    check_refusals((struct refuser){refuse_needs, refuse_needs_lengths});
 }

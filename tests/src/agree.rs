@@ -9,7 +9,7 @@ mod solver;
 use crate::random::Rng;
 use crate::{ffi, text};
 pub use listing::list;
-pub use lookup::{allowances, coalition_move, reply, worksheet};
+pub use lookup::{allowances, coalition_move, rehearse, reply, worksheet};
 pub use solver::{label, states, states_refusal, table};
 
 /// Bytes on both sides of a lent buffer, which no call may touch.

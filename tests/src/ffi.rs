@@ -171,5 +171,5 @@ mod rows {
     }
 }
 
-pub use lookup::{allowances, coalition_move, reply, worksheet};
+pub use lookup::{allowances, coalition_move, rehearse, reply, worksheet};
 pub use rows::{label, states, states_refusal, table};

@@ -32,4 +32,5 @@ pub mod refusal {
     pub const POSITION: u8 = 9;
     pub const WRONG_SIDE: u8 = 10;
     pub const MOVE: u8 = 11;
+    pub const REPLY: u8 = 12;
 }

@@ -1,14 +1,17 @@
 //! The calls that solve rows, from document 01 and by the checker's search on
 //! positions: those that label rows, fill tables and list states, those that give
-//! a move or a reply at one position, the worksheet, and the smallest allowances.
+//! a move or a reply at one position, the worksheet, the smallest allowances, and the
+//! rehearsal.
 
 mod allowances;
+mod rehearsal;
 
 use crate::checker::allowances::Trials;
 use crate::checker::search::{self, Table};
 use crate::checker::structure::{contains, Set, Structure};
 use crate::checker::NO_MOVE;
 use crate::layout::*;
+use crate::play::Game;
 use crate::{block, refusal};
 use std::cell::OnceCell;
 
@@ -25,6 +28,9 @@ pub const SHEET_BYTES: usize = POSITION_BYTES * SHEET_POSITIONS;
 pub const WORD_REFUSED: u16 = 256;
 /// At most 16 smallest allowances, a bound for each resource.
 pub const ALLOWANCES_BYTES: usize = 16 * MAX_RESOURCES;
+/// The longest script of a rehearsal, and its report: finished, moves, position.
+pub const SCRIPT_BYTES: usize = 255;
+pub const REPORT_BYTES: usize = 4;
 
 /// What a call at one position is asked for: a row, a state and a stock for each
 /// resource.
@@ -51,6 +57,7 @@ struct Job {
 /// A strategic row.
 pub struct Row {
     pub table: Table,
+    pub game: Game,
     /// The largest stocks: the bound, or 0 where unlimited or absent.
     pub largest: [u8; MAX_RESOURCES],
     /// Each allowance in its place, tried when it is first asked for.
@@ -272,6 +279,7 @@ impl Job {
             let table = search::table(&self.structure, i, &self.sets)?;
             Some(Row {
                 table,
+                game: Game::over(&self.structure, i, &self.sets),
                 largest: largest_stocks(&self.block, i),
                 trials: OnceCell::new(),
             })

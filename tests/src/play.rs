@@ -32,7 +32,12 @@ impl Game {
     pub fn of(block: &[u8], row: u8) -> Game {
         let structure = Structure::of(block);
         let sets = search::label(&structure);
-        let (ability, aim) = aim(structure.formulas[usize::from(row)], &sets);
+        Game::over(&structure, row.into(), &sets)
+    }
+
+    /// Over the sets of the lower rows.
+    pub fn over(structure: &Structure, row: usize, sets: &[Set]) -> Game {
+        let (ability, aim) = aim(structure.formulas[row], sets);
         Game {
             moves: structure.moves(ability.coalition),
             limited: ability.bound.map(|bound| bound != INFINITE),
@@ -70,11 +75,29 @@ impl Game {
     }
 
     pub fn go(&self, play: &mut Play, mv: u8, reply: u8) {
+        let went = self.try_go(play, mv, reply);
+        assert!(went, "no reply {reply} at {:?}", play.at);
+    }
+
+    /// Whether the reply is available; the play goes on only then.
+    pub fn try_go(&self, play: &mut Play, mv: u8, reply: u8) -> bool {
         let mv = self.find(play.at, mv);
         let found = mv.replies.iter().find(|found| found.number == reply);
-        let found = found.unwrap_or_else(|| panic!("no reply {reply} at {:?}", play.at));
-        play.at = self.outcome(play.at, mv, found);
-        play.states.push(found.target);
+        if let Some(found) = found {
+            play.at = self.outcome(play.at, mv, found);
+            play.states.push(found.target);
+        }
+        found.is_some()
+    }
+
+    /// Whether a rehearsal ends with these states, whatever is left of its script
+    /// (document 02, R-6).
+    pub fn ends(&self, states: &[usize]) -> bool {
+        match self.aim {
+            Aim::Next { .. } => states.len() > 1,
+            Aim::Always { .. } => false,
+            Aim::Until { right, .. } => states.iter().any(|&state| contains(right, state)),
+        }
     }
 
     /// Whether the states so far make the row true or false; none if they do

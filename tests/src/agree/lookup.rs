@@ -1,5 +1,6 @@
-//! The calls at one position, which are lent a room alone, and the worksheet and the
-//! allowances, in whose outcomes the room follows the words or the list.
+//! The calls at one position, which are lent a room alone, and the worksheet, the
+//! allowances and the rehearsal, in whose outcomes the room follows the words, the list
+//! or the report.
 
 use super::{compare, lend, lend_two, Outcome};
 use crate::ffi;
@@ -70,4 +71,24 @@ pub fn allowances(
         ffi::allowances(block, row, state, list, room)
     });
     compare("rbatl_allowances", expected, found, what)
+}
+
+/// What the rehearsal of the row from the state gives in the lent report and room.
+pub fn rehearse(
+    block: &[u8],
+    model: &Model,
+    row: u8,
+    state: u8,
+    script: &[u8],
+    lent: [&[u8]; 2],
+    what: impl Fn() -> String,
+) -> Outcome {
+    let what = || format!("{script:?} from state {state} for row {row} of {}", what());
+    let expected = lend_two(lent, |report, room| {
+        model.rehearse(row, state, script, report, room)
+    });
+    let found = lend_two(lent, |report, room| {
+        ffi::rehearse(block, row, state, script, report, room)
+    });
+    compare("rbatl_rehearse", expected, found, what)
 }

@@ -1,5 +1,5 @@
-//! The calls at positions: at one, and at those of a worksheet; and the smallest
-//! allowances for a state.
+//! The calls at positions: at one, and at those of a worksheet; the smallest
+//! allowances for a state, and the rehearsal from one.
 
 use crate::model::At;
 
@@ -43,6 +43,18 @@ extern "C" {
         state: u8,
         list: *mut u8,
         list_len: usize,
+        room: *mut u8,
+        room_len: usize,
+    ) -> i32;
+    fn rbatl_rehearse(
+        block: *const u8,
+        block_len: usize,
+        row: u8,
+        state: u8,
+        script: *const u8,
+        script_len: usize,
+        report: *mut u8,
+        report_len: usize,
         room: *mut u8,
         room_len: usize,
     ) -> i32;
@@ -116,6 +128,33 @@ pub fn allowances(block: &[u8], row: u8, state: u8, list: &mut [u8], room: &mut 
             state,
             list.as_mut_ptr(),
             list.len(),
+            room.as_mut_ptr(),
+            room.len(),
+        )
+    }
+}
+
+/// 0, or minus the refusal number.
+pub fn rehearse(
+    block: &[u8],
+    row: u8,
+    state: u8,
+    script: &[u8],
+    report: &mut [u8],
+    room: &mut [u8],
+) -> i32 {
+    // SAFETY: each pointer is valid for the length beside it, and the two
+    // buffers, borrowed mutably, overlap nothing.
+    unsafe {
+        rbatl_rehearse(
+            block.as_ptr(),
+            block.len(),
+            row,
+            state,
+            script.as_ptr(),
+            script.len(),
+            report.as_mut_ptr(),
+            report.len(),
             room.as_mut_ptr(),
             room.len(),
         )

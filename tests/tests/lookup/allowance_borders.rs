@@ -44,7 +44,7 @@ fn exchanged_lengths() {
 }
 
 /// A row of each kind, in a job of this many states.
-fn each_kind(states: usize) -> Vec<u8> {
+pub fn each_kind(states: usize) -> Vec<u8> {
     let mut job = jobs::smallest(1, 1, states, 1, 7);
     for kind in PROP..=UNTIL {
         let i = 1 + usize::from(kind);

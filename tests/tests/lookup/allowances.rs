@@ -14,7 +14,7 @@ const CASES: u64 = 250;
 const FULL_CASES: u64 = 40;
 
 /// Whether each resource is limited in a row, and its kind.
-type Resources = Vec<(bool, u8)>;
+pub type Resources = Vec<(bool, u8)>;
 
 /// Lists of all states of strategic rows.
 #[derive(Default, Debug)]
@@ -31,14 +31,14 @@ fn bounds(block: &[u8], i: u8) -> &[u8] {
     &block[row(i.into(), BOUND)..row(i.into(), PADDING)]
 }
 
-fn resources(block: &[u8], i: u8) -> Resources {
+pub fn resources(block: &[u8], i: u8) -> Resources {
     let of = |j: usize| (bounds(block, i)[j] != UNLIMITED, block[resource_kind(j)]);
     (0..Sizes::of(block).resources).map(of).collect()
 }
 
 impl Seen {
     fn row(&mut self, asked: &Asked, i: u8) {
-        let kind = usize::from(asked.block[row(i.into(), KIND)] - NEXT);
+        let kind = kind(asked.block, i);
         let larger = |pair: &Pair| pair.iter().zip(bounds(asked.block, i)).any(|(a, b)| a > b);
         for state in 0..Sizes::of(asked.block).states as u8 {
             let pairs = asked.allowances(i, state);

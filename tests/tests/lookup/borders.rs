@@ -49,6 +49,10 @@ fn refused_everywhere(asked: &Asked, number: u8) {
         assert_eq!(asked.reply(at, mv), -i32::from(number), "{what}");
         let (answer, _) = asked.allowances_in(ALLOWANCES_BYTES, at.row, at.state);
         assert_eq!(answer, -i32::from(number), "{what}");
+        for script in [&[][..], &[mv]] {
+            let found = asked.rehearse(at.row, at.state, script);
+            assert_eq!(found, Err(-i32::from(number)), "{what}");
+        }
         expect_sheets(asked, at.row, -i32::from(number));
     }
 }
@@ -82,7 +86,7 @@ fn block_lengths() {
     }
 }
 
-/// The block's number comes before 8 to 11.
+/// The block's number comes before 8 to 12.
 #[test]
 fn block_numbers() {
     for (block, number) in whole_and_damaged().into_iter().skip(1) {
@@ -110,6 +114,7 @@ fn row_numbers() {
             assert_eq!(asked.reply(at(i, 255, [255; 2]), 255), beyond, "row {i}");
             let (answer, _) = asked.allowances_in(ALLOWANCES_BYTES, i, 255);
             assert_eq!(answer, beyond, "row {i}");
+            assert_eq!(asked.rehearse(i, 255, &[255]), Err(beyond), "row {i}");
             let first = at(i, 0, [0, 0]);
             assert_eq!(asked.coalition_move(first) == -8, !strategic, "row {i}");
             assert_eq!(asked.reply(first, 0) == -8, !strategic, "row {i}");

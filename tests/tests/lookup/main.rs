@@ -1,6 +1,6 @@
-//! `rbatl_move`, `rbatl_reply`, `rbatl_worksheet` and `rbatl_allowances` beside the
-//! checker made from document 003: the same answers and zeros in the room, and plays
-//! that they decide.
+//! `rbatl_move`, `rbatl_reply`, `rbatl_worksheet`, `rbatl_allowances` and
+//! `rbatl_rehearse` beside the checker made from document 003: the same answers and
+//! zeros in the room, and plays that they decide.
 
 mod allowance_borders;
 mod allowance_jobs;
@@ -11,15 +11,19 @@ mod catch;
 mod every_play;
 mod plays;
 mod random;
+mod rehearsal_borders;
+mod rehearsal_plays;
+mod rehearsals;
 mod sheet_borders;
 mod sheets;
 
 use rbatl_tests::agree::{self, Outcome};
 use rbatl_tests::answers::{assert_each_came, number};
-use rbatl_tests::damage::damage;
+use rbatl_tests::damage::{damage, BORDERS};
 use rbatl_tests::games;
 use rbatl_tests::jobs;
-use rbatl_tests::model::{At, Model, ALLOWANCES_BYTES, ROOM_BYTES};
+use rbatl_tests::layout::{row, KIND, NEXT};
+use rbatl_tests::model::{At, Model, ALLOWANCES_BYTES, REPORT_BYTES, ROOM_BYTES};
 use rbatl_tests::random::Rng;
 
 /// The room after a call.
@@ -101,6 +105,23 @@ impl Asked<'_> {
         pairs.chunks(2).map(|pair| [pair[0], pair[1]]).collect()
     }
 
+    /// The rehearsal of the row from the state, in a report of this length that holds a
+    /// pattern beforehand: the answer, and the report afterwards.
+    fn rehearse_in(&self, length: usize, row: u8, state: u8, script: &[u8]) -> (i32, Vec<u8>) {
+        let (what, lent) = (|| self.what.clone(), agree::pattern(length));
+        let buffers = [&lent[..], &self.room];
+        let outcome = agree::rehearse(self.block, &self.model, row, state, script, buffers, what);
+        self.filled(outcome, &lent)
+    }
+
+    /// The report, or the answer that refuses it.
+    fn rehearse(&self, row: u8, state: u8, script: &[u8]) -> Result<Report, i32> {
+        match self.rehearse_in(REPORT_BYTES, row, state, script) {
+            (0, report) => Ok(report.try_into().expect("four bytes")),
+            (answer, _) => Err(answer),
+        }
+    }
+
     /// The answer, and the buffer that was lent before the room, which a refusal
     /// leaves as it was.
     fn filled(&self, mut outcome: Outcome, lent: &[u8]) -> (i32, Vec<u8>) {
@@ -122,6 +143,9 @@ impl Asked<'_> {
         outcome.answer
     }
 }
+
+/// Finished or not, the moves, and the last position, lowest byte first.
+type Report = [u8; REPORT_BYTES];
 
 /// A job and what it is.
 type Named = (Vec<u8>, String);
@@ -165,6 +189,20 @@ fn damaged(rng: &mut Rng, case: u64) -> Named {
     let mut job = games::few(rng);
     let how = damage(rng, &mut job);
     (job, format!("case {case}, damage: {how}"))
+}
+
+/// A row with a table, or now and then any.
+fn any_row(rng: &mut Rng, model: &Model) -> u8 {
+    let rows = model.rows();
+    match rng.one_in(12) || rows.is_empty() {
+        true => rng.pick(&BORDERS),
+        false => rng.pick(&rows),
+    }
+}
+
+/// The kind of a strategic row: 0 for next, 1 for always, 2 for until.
+fn kind(block: &[u8], i: u8) -> usize {
+    usize::from(block[row(i.into(), KIND)] - NEXT)
 }
 
 const fn at(row: u8, state: u8, stock: [u8; 2]) -> At {

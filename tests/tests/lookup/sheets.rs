@@ -58,15 +58,6 @@ fn any_list(rng: &mut Rng, asked: &Asked, row: u8) -> Vec<[u8; POSITION_BYTES]> 
     list
 }
 
-/// A row with a table, or now and then any.
-fn any_row(rng: &mut Rng, model: &Model) -> u8 {
-    let rows = model.rows();
-    match rng.one_in(12) || rows.is_empty() {
-        true => rng.pick(&BORDERS),
-        false => rng.pick(&rows),
-    }
-}
-
 impl Seen {
     /// The worksheet, beside a single call of the library for each of its words.
     fn sheet(&mut self, asked: &Asked, row: u8, list: &[[u8; POSITION_BYTES]]) {
@@ -98,11 +89,6 @@ impl Seen {
         }
         assert!(self.repeated >= least, "{self:?}");
     }
-}
-
-/// 0 for next, 1 for always, 2 for until.
-fn kind(block: &[u8], i: u8) -> usize {
-    usize::from(block[row(i.into(), KIND)] - NEXT)
 }
 
 fn try_any(rng: &mut Rng, asked: &Asked, seen: &mut Seen) {
