@@ -34,6 +34,7 @@ void show_commands(void)
         print_line(commands[i].name, commands[i].words, commands[i].summary);
     putchar('\n');
     print_line("help", " COMMAND", "what a command does, takes and prints");
+    print_line("--job", " FILE COMMAND", "a command on the job of a file");
     print_line("--help", "", "these lines");
     print_line("--version", "", "the version");
     printf("\n"
