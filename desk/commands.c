@@ -150,7 +150,7 @@ const struct command commands[] = {
         "         up to 255 of them, and those past the end are not used\n"
         "ROW may be left out only where no REPLY is given: one number is STATE, and two\n"
         "or more have ROW in front.\n",
-        .prints = "Output: the row, a line for each turn, the last position, and how it ends, as in\n"
+        .prints = "Output: the row, a line for each turn, the last position, how it ends, as in\n"
                   "  row 3: coalition 0 within 5: row 2 until row 0\n"
                   "  state 1, stock 5: move 1: agent 0 action 1; reply 0: agent 1 idle\n"
                   "  state 2, stock 2\n"
