@@ -40,7 +40,8 @@ void show_commands(void)
     printf("\n"
            "ROW may be left out where the job has exactly one row of kind next, always or\n"
            "until. STOCK.. is one number for each resource of the job, so that the count of\n"
-           "the numbers tells whether ROW is among them; a sheet has it without a colon.\n"
+           "the numbers tells whether ROW is among them; a sheet has it without a colon,\n"
+           "and before a REPLY it always stands.\n"
            "\n"
            "Exit status: 0 answered; 1 refused, with the number and its words on standard\n"
            "error; 2 wrong arguments, or input or output that failed.\n");

@@ -107,9 +107,9 @@ static void print_reason(const struct rehearsal *rehearsal)
 static void print_end(const struct rehearsal *rehearsal)
 {
     unsigned moves = rbatl_report_moves(rehearsal->report);
+    bool finished = rbatl_report_finished(rehearsal->report);
 
-    printf("%s after ", rbatl_report_finished(rehearsal->report) ? "finished" : "unfinished");
-    print_count("", moves, "move");
+    print_count(finished ? "finished after " : "unfinished after ", moves, "move");
     printf(": ");
     print_reason(rehearsal);
     putchar('\n');
