@@ -6,8 +6,7 @@
 
 #define NOT_THE_STOCKS "not one stock for each resource of the job"
 
-/* Adds 0 to 255 without leading zeros, as in the text of a job. */
-static enum status add_number(const char *word, size_t length, struct numbers *numbers)
+bool parse_number(const char *word, size_t length, uint8_t *number)
 {
     unsigned value = 0;
     bool good = length >= 1 && length <= 3 && (length == 1 || word[0] != '0');
@@ -16,9 +15,15 @@ static enum status add_number(const char *word, size_t length, struct numbers *n
         good = word[i] >= '0' && word[i] <= '9';
         value = 10 * value + (unsigned)(word[i] - '0');
     }
-    if (!good || value > UINT8_MAX)
-        return usage("not a number from 0 to 255 without leading zeros");
-    numbers->at[numbers->count++] = (uint8_t)value;
+    *number = (uint8_t)value;
+    return good && value <= UINT8_MAX;
+}
+
+static enum status add_number(const char *word, size_t length, struct numbers *numbers)
+{
+    if (!parse_number(word, length, &numbers->at[numbers->count]))
+        return usage(NOT_A_NUMBER);
+    numbers->count++;
     return DONE;
 }
 
@@ -65,11 +70,14 @@ enum status parse_numbers(const struct command *command, size_t count, char **wo
                           struct numbers *numbers)
 {
     size_t least = command->others + (command->stocks ? 1 : 0);
-    size_t most = command->row + command->others + (command->stocks ? RBATL_MAX_RESOURCES : 0);
+    size_t most = command->row + command->others + (command->stocks ? RBATL_MAX_RESOURCES : 0) +
+                  (command->script ? RBATL_SCRIPT_BYTES : 0);
     enum status status = DONE;
 
     if (command->sheet)
         return parse_sheet(count, words, numbers);
+    if (command->script && count > most)
+        return usage("a script has 0 to 255 replies");
     if (count < least || count > most)
         return usage("wrong count of numbers");
     for (size_t i = 0; status == DONE && i < count; i++)
@@ -91,7 +99,7 @@ static bool find_only_row(const uint8_t *block, uint8_t *only)
 }
 
 /* With the job known, the count tells whether the row was left out; then it is
- * put in front. */
+ * put in front. A script has it always. */
 enum status complete_numbers(const struct command *command, const uint8_t *block,
                              struct numbers *numbers)
 {
@@ -102,7 +110,7 @@ enum status complete_numbers(const struct command *command, const uint8_t *block
         return usage(NOT_THE_STOCKS);
     if (command->sheet)
         due = numbers->count / due * due;
-    if (numbers->count == due + command->row)
+    if (numbers->count == due + command->row || (command->script && numbers->count > due))
         return DONE;
     if (numbers->count != due)
         return usage(NOT_THE_STOCKS);

@@ -5,16 +5,24 @@
 #include <stdio.h>
 #include <string.h>
 
-enum status read_text(struct text *text)
+enum status cannot_read(const char *what)
 {
-    setvbuf(stdin, NULL, _IONBF, 0);
+    fprintf(stderr, "desk: cannot read %s: %s\n", what, strerror(errno));
+    return FAILED;
+}
+
+enum status read_text(const char *file, struct text *text)
+{
     errno = 0;
-    text->length = fread(text->bytes, 1, sizeof text->bytes, stdin);
-    if (ferror(stdin)) {
-        fprintf(stderr, "desk: cannot read the job: %s\n", strerror(errno));
-        return FAILED;
-    }
-    return DONE;
+    FILE *stream = file == NULL ? stdin : fopen(file, "rb");
+    if (stream == NULL)
+        return cannot_read("the job");
+    setvbuf(stream, NULL, _IONBF, 0);
+    text->length = fread(text->bytes, 1, sizeof text->bytes, stream);
+    enum status status = ferror(stream) ? cannot_read("the job") : DONE;
+    if (stream != stdin)
+        fclose(stream);
+    return status;
 }
 
 enum status read_job(const struct text *text, uint8_t *block)

@@ -6,14 +6,15 @@
 
 /* The numbers of a command are a row, if it is asked about one, then others and,
  * between them, perhaps a stock for each resource of the job. In a sheet those
- * after the row come once for each position. It starts from the job's block, or
- * else from its text. */
+ * after the row come once for each position, and the replies of a script follow
+ * them. It starts from the job's block, or else from its text. */
 struct command {
     const char *name;
     bool row;
     size_t others;
     bool stocks;
     bool sheet;
+    bool script;
     enum status (*run)(const uint8_t *block, const struct numbers *numbers);
     enum status (*run_on_text)(const struct text *text);
 

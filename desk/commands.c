@@ -131,6 +131,33 @@ const struct command commands[] = {
                   "whether the row is true.\n",
     },
     {
+        .name = "rehearse",
+        .row = true,
+        .others = 1,
+        .script = true,
+        .run = show_rehearsal,
+        .words = " [ROW] STATE [REPLY ..]",
+        .summary = "the coalition's play against given replies",
+        .does = "Rehearses a row from a state at full stock: the coalition makes the moves of its\n"
+                "table, and the replies of all other agents are given. A row of kind next ends\n"
+                "after one move, until where the right row is true, always with the last reply.\n"
+                "Without a REPLY, a terminal on standard input is asked for each: the replies\n"
+                "that are available are shown, and an empty line or Ctrl-D ends the rehearsal.\n"
+                "--job FILE leaves the terminal free for that; else the job is typed first, up\n"
+                "to its own Ctrl-D. Where standard input is no terminal, there are no replies.\n",
+        .takes = STRATEGIC_ROW STATE
+        "  REPLY  a reply's number, a0 + 4 * a1 + 16 * a2 by the other agents' actions;\n"
+        "         up to 255 of them, and those past the end are not used\n"
+        "ROW may be left out only where no REPLY is given: one number is STATE, and two\n"
+        "or more have ROW in front.\n",
+        .prints = "Output: the row, a line for each turn, the last position, how it ends, as in\n"
+                  "  row 3: coalition 0 within 5: row 2 until row 0\n"
+                  "  state 1, stock 5: move 1: agent 0 action 1; reply 0: agent 1 idle\n"
+                  "  state 2, stock 2\n"
+                  "  finished after 1 move: row 0 is true in state 2\n"
+                  "It is unfinished where the replies of next or until end too soon.\n",
+    },
+    {
         .name = "dot",
         .row = true,
         .run = draw,

@@ -7,8 +7,12 @@
 /* The exit status of the program. */
 enum status { DONE = 0, REFUSED = 1, FAILED = 2 };
 
-/* The most numbers that a command takes: a row, and the positions of a sheet. */
-#define MAX_NUMBERS (1 + RBATL_SHEET_BYTES)
+/* The most numbers that a command takes: a row, a state and a script, which are
+ * more than a row and the positions of a sheet. */
+#define MAX_NUMBERS (2 + RBATL_SCRIPT_BYTES)
+
+/* What is said of a word that is no number. */
+#define NOT_A_NUMBER "not a number from 0 to 255 without leading zeros"
 
 /* The numbers that a command was given, and how many of them each position of a
  * sheet has. */
@@ -31,8 +35,15 @@ struct text {
     size_t length;
 };
 
-/* Takes the job's text from standard input. */
-enum status read_text(struct text *text);
+/* The number that the bytes of a word write, as in the text of a job; false where
+ * it is none. */
+bool parse_number(const char *word, size_t length, uint8_t *number);
+
+/* Takes the job's text from a file, or from standard input without one. */
+enum status read_text(const char *file, struct text *text);
+
+/* Says on standard error why something was not read; the status for it. */
+enum status cannot_read(const char *what);
 
 /* Reads the text into a block. */
 enum status read_job(const struct text *text, uint8_t *block);
@@ -58,6 +69,7 @@ enum status show_move(const uint8_t *block, const struct numbers *numbers);
 enum status show_reply(const uint8_t *block, const struct numbers *numbers);
 enum status show_sheet(const uint8_t *block, const struct numbers *numbers);
 enum status show_needs(const uint8_t *block, const struct numbers *numbers);
+enum status show_rehearsal(const uint8_t *block, const struct numbers *numbers);
 enum status draw(const uint8_t *block, const struct numbers *numbers);
 
 #endif

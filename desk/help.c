@@ -34,12 +34,14 @@ void show_commands(void)
         print_line(commands[i].name, commands[i].words, commands[i].summary);
     putchar('\n');
     print_line("help", " COMMAND", "what a command does, takes and prints");
+    print_line("--job", " FILE COMMAND", "a command on the job of a file");
     print_line("--help", "", "these lines");
     print_line("--version", "", "the version");
     printf("\n"
            "ROW may be left out where the job has exactly one row of kind next, always or\n"
            "until. STOCK.. is one number for each resource of the job, so that the count of\n"
-           "the numbers tells whether ROW is among them; a sheet has it without a colon.\n"
+           "the numbers tells whether ROW is among them; a sheet has it without a colon,\n"
+           "and before a REPLY it always stands.\n"
            "\n"
            "Exit status: 0 answered; 1 refused, with the number and its words on standard\n"
            "error; 2 wrong arguments, or input or output that failed.\n");

@@ -5,9 +5,10 @@ bool in_coalition(unsigned coalition, unsigned agent)
     return coalition >> agent & 1;
 }
 
-unsigned all_agents(const uint8_t *block)
+unsigned opponents_of(const uint8_t *block, unsigned row)
 {
-    return (1u << rbatl_job_agents(block)) - 1;
+    unsigned all = (1u << rbatl_job_agents(block)) - 1;
+    return all & ~rbatl_row_team(block, row);
 }
 
 bool has_joint(const uint8_t *block, unsigned state, unsigned joint)
@@ -25,6 +26,11 @@ unsigned part_of(unsigned joint, unsigned agents)
         if (in_coalition(agents, agent))
             part = rbatl_with_action(part, agent, rbatl_action_of(joint, agent));
     return part;
+}
+
+bool is_reply(const uint8_t *block, unsigned row, unsigned state, unsigned number)
+{
+    return part_of(number, opponents_of(block, row)) == number && has_joint(block, state, number);
 }
 
 /* Agents outside the coalition have action 0 in its move, which costs nothing. */

@@ -6,14 +6,17 @@
 
 bool in_coalition(unsigned coalition, unsigned agent);
 
-/* All agents of the job as a mask. */
-unsigned all_agents(const uint8_t *block);
+/* The agents outside the coalition of a strategic row, as a mask. */
+unsigned opponents_of(const uint8_t *block, unsigned row);
 
 /* Whether the state has the joint action. */
 bool has_joint(const uint8_t *block, unsigned state, unsigned joint);
 
 /* The part of a joint action that the agents of the mask take. */
 unsigned part_of(unsigned joint, unsigned agents);
+
+/* Whether the number is an available reply to the row's coalition in the state. */
+bool is_reply(const uint8_t *block, unsigned row, unsigned state, unsigned number);
 
 /* What a coalition's move takes of a resource, by its kind. */
 unsigned move_cost(const uint8_t *block, unsigned state, unsigned move, unsigned resource);

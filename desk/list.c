@@ -4,11 +4,6 @@
 
 #include <stdio.h>
 
-static void print_count(const char *before, unsigned count, const char *noun)
-{
-    printf("%s%u %s%s", before, count, noun, count == 1 ? "" : "s");
-}
-
 enum status check(const struct text *text)
 {
     uint8_t block[RBATL_BLOCK_BYTES];

@@ -1,4 +1,5 @@
-/* The desk: reads a job on standard input and answers about its rows.
+/* The desk: reads a job on standard input, or from a file, and answers about its
+ * rows.
  *
  * Exit status: 0 answered, 1 refused by the library, 2 wrong arguments, or
  * input or output that failed. */
@@ -33,8 +34,8 @@ static enum status answer(const struct command *command, const struct text *text
     return status == DONE ? command->run(block, numbers) : status;
 }
 
-/* The arguments are tried before the job is read. */
-static enum status run_command(size_t count, char **words)
+/* The arguments are tried before the job is read, from a file if there is one. */
+static enum status run_command(const char *file, size_t count, char **words)
 {
     struct numbers numbers = {.count = 0};
     struct text text;
@@ -44,8 +45,16 @@ static enum status run_command(size_t count, char **words)
         return usage("unknown command");
     enum status status = parse_numbers(command, count - 1, words + 1, &numbers);
     if (status == DONE)
-        status = read_text(&text);
+        status = read_text(file, &text);
     return status == DONE ? answer(command, &text, &numbers) : status;
+}
+
+/* The words are the option, its file, and a command with its own. */
+static enum status run_on_file(size_t count, char **words)
+{
+    if (count < 3)
+        return usage("--job takes a file and a command");
+    return run_command(words[1], count - 2, words + 2);
 }
 
 static enum status help(size_t count, char **words)
@@ -80,7 +89,9 @@ static enum status run(size_t count, char **words)
         return run_option(count, show_version);
     if (strcmp(words[0], "help") == 0)
         return help(count, words);
-    return run_command(count, words);
+    if (strcmp(words[0], "--job") == 0)
+        return run_on_file(count, words);
+    return run_command(NULL, count, words);
 }
 
 int main(int argc, char **argv)

@@ -42,8 +42,7 @@ enum status show_reply(const uint8_t *block, const struct numbers *numbers)
                                 move, room, sizeof room);
     if (reply < 0)
         return refuse(reply);
-    printf("reply %ld: ", (long)reply);
-    print_actions((unsigned)reply, all_agents(block) & ~rbatl_row_team(block, at.row));
+    print_reply(block, at.row, (unsigned)reply);
     putchar('\n');
     return DONE;
 }

@@ -34,9 +34,7 @@ enum status show_table(const uint8_t *block, const struct numbers *numbers)
     print_states(set);
     putchar('\n');
     for (size_t position = 0; position < rbatl_position_count(block, row); position++) {
-        print_position(block, rbatl_state_of(block, row, position),
-                       rbatl_stock_of(block, row, position, 0),
-                       rbatl_stock_of(block, row, position, 1));
+        print_numbered(block, row, position);
         print_entry(block, row, rbatl_rank_at(table.ranks, position),
                     rbatl_move_at(table.moves, position));
     }

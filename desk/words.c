@@ -111,11 +111,29 @@ void print_move(const uint8_t *block, unsigned row, unsigned move)
     print_actions(move, rbatl_row_team(block, row));
 }
 
+void print_reply(const uint8_t *block, unsigned row, unsigned reply)
+{
+    printf("reply %u: ", reply);
+    print_actions(reply, opponents_of(block, row));
+}
+
 void print_position(const uint8_t *block, unsigned state, unsigned stock0, unsigned stock1)
 {
     printf("state %u, stock %u", state, stock0);
     if (rbatl_job_resources(block) > 1)
         printf(", %u", stock1);
+}
+
+void print_numbered(const uint8_t *block, unsigned row, size_t position)
+{
+    print_position(block, rbatl_state_of(block, row, position),
+                   rbatl_stock_of(block, row, position, 0),
+                   rbatl_stock_of(block, row, position, 1));
+}
+
+void print_count(const char *before, unsigned count, const char *noun)
+{
+    printf("%s%u %s%s", before, count, noun, count == 1 ? "" : "s");
 }
 
 void print_states(uint32_t set)

@@ -20,8 +20,17 @@ void print_actions(unsigned joint, unsigned agents);
 /* A coalition's move in words, as in `move 1: agent 0 action 1, agent 1 idle`. */
 void print_move(const uint8_t *block, unsigned row, unsigned move);
 
+/* A reply to the row's coalition in words, as in `reply 4: agent 1 action 1`. */
+void print_reply(const uint8_t *block, unsigned row, unsigned reply);
+
 /* A state with a stock for each resource, as in `state 0, stock 5`. */
 void print_position(const uint8_t *block, unsigned state, unsigned stock0, unsigned stock1);
+
+/* The same of the position with this number. */
+void print_numbered(const uint8_t *block, unsigned row, size_t position);
+
+/* A count of things, as in `2 moves`, after some words. */
+void print_count(const char *before, unsigned count, const char *noun);
 
 /* The states of a set, with spaces between them; `none` for the empty one. */
 void print_states(uint32_t set);

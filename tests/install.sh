@@ -110,9 +110,10 @@ page=$there/share/man/man1/desk.1
 table() { "$there/bin/desk" table 2 < jobs/first.job; }
 sheet() { "$there/bin/desk" sheet 2 0:2 0:1 < jobs/first.job; }
 needs() { "$there/bin/desk" needs 2 0 < jobs/first.job; }
+rehearsal() { "$there/bin/desk" --job jobs/first.job rehearse 2 0 0; }
 has_example() {
-    [[ -n $(table) && -n $(sheet) && -n $(needs) ]] &&
-        ! grep -qvxF -f "$page" jobs/first.job <(table) <(sheet) <(needs)
+    [[ -n $(table) && -n $(sheet) && -n $(needs) && -n $(rehearsal) ]] &&
+        ! grep -qvxF -f "$page" jobs/first.job <(table) <(sheet) <(needs) <(rehearsal)
 }
 try 'the example of the man page' has_example
 if command -v groff > /dev/null; then
@@ -148,6 +149,7 @@ done << 'end'
 9 s/^// move 2 9 0
 10 s/^// move 2 0 1
 11 s/^// reply 2 0 1 1
+12 s/^// rehearse 2 0 1
 end
 
 gone() { [[ -d $root && -z $(find "$root" ! -type d) ]]; }

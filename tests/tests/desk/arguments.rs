@@ -1,6 +1,6 @@
 //! Wrong arguments: a reason and a usage line on standard error, status 2.
 
-use super::{complains, desk, run, Says, COUNT, NUMBER, POSITION, SHEET, STOCKS};
+use super::{complains, desk, run, Says, COUNT, NUMBER, POSITION, SCRIPT, SHEET, STOCKS};
 use rbatl_tests::jobs;
 
 /// The reason is the same whatever the job is.
@@ -38,6 +38,7 @@ fn wrong_counts() {
         "reply 4 0 5 1 0 0",
         "needs",
         "needs 4 0 0",
+        "rehearse",
     ] {
         complains_first(line, COUNT);
     }
@@ -62,6 +63,9 @@ fn counts_that_wait_for_the_job() {
         "reply 4 0 5 0 1",
         "needs 0",
         "needs 4 0",
+        "rehearse 0",
+        "rehearse 4 0",
+        "rehearse 4 0 0",
         "sheet 0:5",
         "sheet 4 0:5",
         "sheet 0:5:0 1:5:0",
@@ -121,6 +125,11 @@ fn no_numbers() {
             format!("needs {word}"),
             format!("needs {word} 0"),
             format!("needs 4 {word}"),
+            format!("rehearse {word}"),
+            format!("rehearse {word} 0"),
+            format!("rehearse 4 {word}"),
+            format!("rehearse 4 0 {word}"),
+            format!("rehearse 4 0 0 {word} 0"),
             format!("sheet {word} 0:5"),
             format!("sheet 4 {word}:5"),
             format!("sheet 4 0:5 1:{word}"),
@@ -152,6 +161,18 @@ fn counts_of_positions() {
         for count in [65, 66, 1000] {
             complains_first(&format!("sheet{row}{}", " 0:5".repeat(count)), SHEET);
         }
+    }
+}
+
+/// None to 255 replies, and 256.
+#[test]
+fn counts_of_replies() {
+    for count in [0, 1, 2, 254, 255] {
+        let line = format!("rehearse 4 0{}", " 0".repeat(count));
+        assert!(desk(&line, b"").refused(7), "{count}");
+    }
+    for count in [256, 257, 1000] {
+        complains_first(&format!("rehearse 4 0{}", " 0".repeat(count)), SCRIPT);
     }
 }
 

@@ -19,8 +19,9 @@ fn the_overview() {
         "reply [ROW] STATE STOCK.. MOVE",
         "sheet [ROW] STATE:STOCK[:STOCK] ..",
         "needs [ROW] STATE",
+        "rehearse [ROW] STATE [REPLY ..]",
     ];
-    let others = ["help COMMAND", "--help", "--version"];
+    let others = ["help COMMAND", "--job FILE COMMAND", "--help", "--version"];
     for start in words.into_iter().chain(positions).chain(others) {
         let start = format!("  {start}  ");
         let lines = overview.lines().filter(|line| line.starts_with(&start));
@@ -40,7 +41,7 @@ fn the_version() {
     let version = header.split("#define RBATL_VERSION \"").nth(1);
     let version = version.and_then(|rest| rest.split('"').next());
     assert_eq!(said("--version"), format!("desk {}\n", version.unwrap()));
-    assert_eq!(said("--version"), "desk 3.1.0\n");
+    assert_eq!(said("--version"), "desk 3.2.0\n");
 }
 
 /// The call as in the overview, then what it does, takes and prints.

@@ -44,12 +44,16 @@ fn with_one_resource() {
     same(&job, "reply 0 5 1", "reply 3 0 5 1");
     same(&job, "sheet 1:3 0:5", "sheet 3 1:3 0:5");
     same(&job, "needs 1", "needs 3 1");
+    same(&job, "rehearse 1", "rehearse 3 1");
     assert_eq!(desk("needs 1", &job).status, super::DONE);
+    assert_eq!(desk("rehearse 1", &job).status, super::DONE);
     assert_eq!(desk("move 1 3", &job).status, super::DONE);
     assert_eq!(desk("reply 0 5 1", &job).status, super::DONE);
     assert_eq!(desk("sheet 1:3 0:5", &job).status, super::DONE);
     // Refusals too.
     same(&job, "needs 3", "needs 3 3");
+    same(&job, "rehearse 0", "rehearse 3 0");
+    same(&job, "rehearse 3", "rehearse 3 3");
     same(&job, "move 3 3", "move 3 3 3");
     same(&job, "move 1 6", "move 3 1 6");
     same(&job, "move 1 2", "move 3 1 2");
@@ -67,6 +71,7 @@ fn with_two_resources() {
     same(&job, "reply 0 0 0 0", "reply 3 0 0 0 0");
     same(&job, "sheet 0:3:1 0:0:0", "sheet 3 0:3:1 0:0:0");
     same(&job, "needs 0", "needs 3 0");
+    same(&job, "rehearse 0", "rehearse 3 0");
     assert_eq!(desk("move 0 3 1", &job).status, super::DONE);
     assert_eq!(desk("reply 0 0 0 0", &job).status, super::DONE);
     // Three numbers are a row, a state and a stock with one resource only.
@@ -85,6 +90,17 @@ fn of_the_first_job() {
     same(&job, "reply 0 1 0", "reply 2 0 1 0");
     same(&job, "sheet 0:2", "sheet 2 0:2");
     same(&job, "needs 0", "needs 2 0");
+    same(&job, "rehearse 0", "rehearse 2 0");
+}
+
+/// With replies it is never left out: two numbers are a row and a state, whatever
+/// the job.
+#[test]
+fn of_a_script() {
+    let job = one_resource();
+    assert!(desk("rehearse 1 0", &job).refused(8));
+    assert!(desk("rehearse 1 0 0", &job).refused(8));
+    assert_eq!(desk("rehearse 3 1 0", &job).status, super::DONE);
 }
 
 #[test]
@@ -110,6 +126,7 @@ fn of_several_rows_or_none() {
             "reply 0 5 1",
             "sheet 0:5 0:4",
             "needs 0",
+            "rehearse 0",
         ] {
             assert!(complains(line, &job, NO_ROW), "{line}");
         }

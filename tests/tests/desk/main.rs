@@ -2,15 +2,19 @@
 
 mod answers;
 mod arguments;
+mod asked;
 mod drawing;
 mod help;
+mod job_file;
 mod left_out;
 mod needs;
 mod random;
 mod refusals;
+mod rehearse;
 mod sheets;
 mod stops;
 mod streams;
+mod terminal;
 
 use rbatl_tests::jobs;
 use rbatl_tests::process::{self, built, Ran};
@@ -21,7 +25,7 @@ const REFUSED: i32 = 1;
 const FAILED: i32 = 2;
 
 /// Each command with arguments that Catch has an answer to.
-const ANSWERED: [&str; 8] = [
+const ANSWERED: [&str; 9] = [
     "check",
     "list",
     "table 4",
@@ -29,6 +33,7 @@ const ANSWERED: [&str; 8] = [
     "reply 3 0 5 1",
     "sheet 4 0:5 0:4",
     "needs 5 0",
+    "rehearse 3 1 0",
     "dot 4",
 ];
 
@@ -37,6 +42,7 @@ const COUNT: &str = "wrong count of numbers";
 const NUMBER: &str = "not a number from 0 to 255 without leading zeros";
 const POSITION: &str = "not a position STATE:STOCK[:STOCK]";
 const SHEET: &str = "a sheet has 1 to 64 positions";
+const SCRIPT: &str = "a script has 0 to 255 replies";
 const STOCKS: &str = "not one stock for each resource of the job";
 const NO_ROW: &str = "no row given, and the job has not exactly one of kind next, always or until";
 
@@ -60,12 +66,13 @@ impl Says for Ran {
     }
 
     /// That the library refused: the number in words on standard error, and of a
-    /// text perhaps where it stops.
+    /// text perhaps where it stops, of a script which reply it is.
     fn refused(&self, number: u8) -> bool {
         let start = format!("desk: refused, {number}: ");
         let words = self.err.strip_prefix(&start);
         let lines = self.err.lines().count();
-        let in_words = words.is_some_and(|words| words.len() > 10 && [1, 4].contains(&lines));
+        let due = if number == 12 { &[2][..] } else { &[1, 4] };
+        let in_words = words.is_some_and(|words| words.len() > 10 && due.contains(&lines));
         self.status == REFUSED && self.out.is_empty() && in_words
     }
 

@@ -134,6 +134,8 @@ fn row_choices() {
             format!("sheet {row} 0:0 9:9"),
             format!("needs {row} 0"),
             format!("needs {row} 9"),
+            format!("rehearse {row} 0"),
+            format!("rehearse {row} 9 99"),
         ] {
             assert!(catch(&line).refused(8), "{line}");
         }
@@ -161,6 +163,9 @@ fn positions() {
     assert_eq!(catch("needs 3 2").status, 0);
     assert!(catch("needs 3 3").refused(9));
     assert!(catch("needs 3 255").refused(9));
+    assert_eq!(catch("rehearse 3 2").status, 0);
+    assert!(catch("rehearse 3 3").refused(9));
+    assert!(catch("rehearse 3 255 99").refused(9));
     let sensor = jobs::text("sensor.job");
     assert_eq!(desk("move 3 0 3 1", &sensor).status, 0);
     assert!(desk("move 3 0 4 1", &sensor).refused(9));
@@ -178,6 +183,11 @@ fn sides() {
     assert_eq!(catch("move 4 0 5").status, 0);
     assert!(catch("reply 4 0 5 1").refused(10));
     assert_eq!(catch("reply 4 0 4 1").status, 0);
+    for replies in ["", " 0", " 99", " 0 4 0"] {
+        assert!(catch(&format!("rehearse 3 0{replies}")).refused(10));
+        assert!(catch(&format!("rehearse 5 0{replies}")).refused(10));
+    }
+    assert_eq!(catch("rehearse 4 0").status, 0);
 }
 
 #[test]
@@ -189,4 +199,18 @@ fn moves() {
     assert_eq!(catch("reply 4 0 4 5").status, 0);
     assert!(catch("reply 4 0 4 6").refused(11));
     assert!(catch("reply 4 0 4 255").refused(11));
+}
+
+/// In state 1 of Catch agent 1 can idle alone, and nobody is outside row 4's team.
+#[test]
+fn replies() {
+    assert_eq!(catch("rehearse 3 1 0").status, 0);
+    for number in [1, 3, 4, 5, 8, 16, 63, 64, 255] {
+        assert!(catch(&format!("rehearse 3 1 {number}")).refused(12));
+        assert!(catch(&format!("rehearse 4 0 {number}")).refused(12));
+        assert!(catch(&format!("rehearse 4 0 0 {number}")).refused(12));
+        // Past the end it is not looked at.
+        assert_eq!(catch(&format!("rehearse 3 1 0 {number}")).status, 0);
+        assert_eq!(catch(&format!("rehearse 3 2 {number}")).status, 0);
+    }
 }
