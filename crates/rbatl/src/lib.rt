@@ -136,14 +136,7 @@ pub extern "C" fn rbatl_rehearse(
     ensures { λ r. ⌜ RehearsalAnswer (now (block .entry)) row state (now (script .entry)) (now (report .entry)) (now (room .entry)) (now (report .exit)) (now (room .exit)) r ⌝ }
     ensures { λ _. ⌜ Demand3 (now (block .entry)) row ⌝ }
 {
-    code(rehearsal::call::rehearse(
-        block,
-        row as usize,
-        state as usize,
-        script,
-        report,
-        room,
-    ))
+    code(rehearsal::call::rehearse(block, row as usize, state as usize, script, report, room))
 }
 
 #[no_mangle]

@@ -85,7 +85,7 @@ module _ (c : tie.At-loop Inv-loop μ-loop) where
   )
 
 is-finished-requires : tie.Need-is-finished-requires Inv-loop μ-loop
-is-finished-requires c κs = state-small (c .before)
+is-finished-requires c κs = let pre = c .before .before .before .before .before .before .before .before .pre in omega (arith, state-small (c .before), pre .1 .0, pre .0 .valid .sized .states-fit)
 
 returns : tie.Need-returns Inv-loop μ-loop
 returns c = ended (c .before .before .before) (D.truth (c .before .is-finished .ensures) (c .if1 .taken))
