@@ -1,9 +1,7 @@
 -- The opponents' reply: where the listed replies lead, and from the first that counters to the reply of the table. Assumes nothing.
-use mathlib.Core.Bool.{false}
 use mathlib.Core.List.{List}
 use mathlib.Core.Path.{_≡_, refl, sym, _∙_, ap, subst, transport}
 use Prim.Native.Nat.{ℕ, _+_, _*_}
-use native.Mathlib.Omega.{arith}
 use Rattle.block.specs.Layout as L
 use Rattle.block.specs.Layout.{Block}
 use Rattle.block.specs.Inner.Valid.{Valid}
@@ -18,8 +16,6 @@ use Rattle.turns.specs.Buffers.{rankIn}
 use Rattle.choice.specs.Tables.{tableWith, RanksOf, ReplyFor}
 use Rattle.turns.specs.Inner.Rules.{ReplyTo}
 use Rattle.ways.specs.Landing.{Leaves, Lands, Made}
-use Rattle.ways.specs.Listing.{Useful}
-use Rattle.ways.specs.Places.{PlacedAt}
 use Rattle.ways.specs.Rows.{Playable}
 use Rattle.ways.specs.declared.rows.Row.{Row}
 use Rattle.ways.specs.declared.landing.Landing.{Landing}

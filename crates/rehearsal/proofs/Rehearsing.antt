@@ -1,7 +1,7 @@
 -- A script has one rehearsal from a position that the coalition wins, and what holds on the plays that begin with it. Assumes nothing.
 use mathlib.Core.List.{List}
-use mathlib.Core.Logic.{_⊎_, inl, inr}
-use mathlib.Core.Path.{_≡_, refl, sym, _∙_, ap, subst}
+use mathlib.Core.Logic.{inl, inr}
+use mathlib.Core.Path.{_≡_, sym, _∙_, ap, subst}
 use Prim.Native.Nat.{ℕ, _≤_, _<_}
 use native.Mathlib.Omega.{arith}
 use lib.ListN.{getD, length}
@@ -15,7 +15,7 @@ use Rattle.game.proofs.Numbers.Decide.{lt?}
 use Rattle.game.proofs.Whole.Demand.{moves-win}
 use Rattle.game.proofs.Whole.Onward.{same-so-far}
 use Rattle.game.proofs.Whole.Unique.{rank-unique}
-use Rattle.rehearsal.specs.Rehearsal.{Finished, Shows, WithinRank, Scripted, Unavailable, Ends, Reports, movesIn, finishedIn, lastIn, reportBytes}
+use Rattle.rehearsal.specs.Rehearsal.{Finished, Shows, WithinRank, Scripted, Unavailable, Status, Ends, Reports, movesIn, finishedIn, lastIn, reportBytes}
 
 -- whether a row is finished goes by the state alone
 pub finished-same : (t : Objective) (bytes : ℕ) (λs μs : Computation) (n : ℕ) → λs n ≡ μs n → Finished t bytes λs n → Finished t bytes μs n
@@ -36,9 +36,9 @@ module _ (G : Arena) (proper : Proper (G .structure)) (t : Objective) (X : Table
 
   -- where one rehearsal has ended, none goes on
   no-further : (P Q : Play G) (m f n : ℕ) → Ends G t script p P m f → Scripted G t script p Q n → n ≤ length script → m < n → ⊥
-  no-further P Q m f n end other inside less = go (end .ended)
+  no-further P Q m f n end other inside less = go (end .status)
     where
-      go : ((f ≡ 1) × Finished t (length script) (states G P) m) ⊎ ((f ≡ 0) × (Finished t (length script) (states G P) m → ⊥) × (m ≡ length script)) → ⊥
+      go : Status G t script p P m f → ⊥
       go (inl (_, done)) = other .unfinished m less (done-too P Q m n (end .scripted) other m (omega arith) (omega arith) done)
       go (inr (_, _, out)) = omega arith
 
@@ -51,7 +51,7 @@ module _ (G : Arena) (proper : Proper (G .structure)) (t : Objective) (X : Table
       go (no a) (no b) = omega arith
 
   pub one-end : (P Q : Play G) (m f n g : ℕ) → Ends G t script p P m f → Ends G t script p Q n g → (m ≡ n) × (f ≡ g) × (P .at m ≡ Q .at m)
-  one-end P Q m f n g one other = (same, status (one .ended) (other .ended), agree P Q m n (one .scripted) (other .scripted) m (omega arith) (omega (arith, same)))
+  one-end P Q m f n g one other = (same, same-status (one .status) (other .status), agree P Q m n (one .scripted) (other .scripted) m (omega arith) (omega (arith, same)))
     where
       same : m ≡ n
       same = same-length P Q m f n g one other
@@ -62,12 +62,11 @@ module _ (G : Arena) (proper : Proper (G .structure)) (t : Objective) (X : Table
       done′ : Finished t (length script) (states G Q) n → Finished t (length script) (states G P) m
       done′ h = subst (Finished t (length script) (states G P)) (sym same) (done-too Q P n m (other .scripted) (one .scripted) n (omega arith) (omega (arith, same)) h)
 
-      status : ((f ≡ 1) × Finished t (length script) (states G P) m) ⊎ ((f ≡ 0) × (Finished t (length script) (states G P) m → ⊥) × (m ≡ length script))
-          → ((g ≡ 1) × Finished t (length script) (states G Q) n) ⊎ ((g ≡ 0) × (Finished t (length script) (states G Q) n → ⊥) × (n ≡ length script)) → f ≡ g
-      status (inl (e, _)) (inl (e′, _)) = e ∙ sym e′
-      status (inl (_, h)) (inr (_, not-done, _)) = absurd (not-done (done h))
-      status (inr (_, not-done, _)) (inl (_, h)) = absurd (not-done (done′ h))
-      status (inr (e, _, _)) (inr (e′, _, _)) = e ∙ sym e′
+      same-status : Status G t script p P m f → Status G t script p Q n g → f ≡ g
+      same-status (inl (e, _)) (inl (e′, _)) = e ∙ sym e′
+      same-status (inl (_, h)) (inr (_, not-done, _)) = absurd (not-done (done h))
+      same-status (inr (_, not-done, _)) (inl (_, h)) = absurd (not-done (done′ h))
+      same-status (inr (e, _, _)) (inr (e′, _, _)) = e ∙ sym e′
 
   -- every byte was available when its turn came
   pub all-available : (P : Play G) (n f : ℕ) → Ends G t script p P n f → Unavailable G t script p → ⊥
@@ -84,14 +83,27 @@ module _ (G : Arena) (proper : Proper (G .structure)) (t : Objective) (X : Table
           bad .none (subst (λ (x : Position). Reply G x (getD script k 0)) (agree P Q n k (end .scripted) (bad .scripted) k (omega arith) (omega arith))
           (subst (Reply G (P .at k)) (end .scripted .replies k less) (P .replied k)))
       go (no _) (yes less) = no-further P Q n f k end (bad .scripted) (omega (arith, bad .inside)) less
-      go (no a) (no b) = last (end .ended)
+      go (no a) (no b) = last (end .status)
         where
           same : n ≡ k
           same = omega arith
 
-          last : ((f ≡ 1) × Finished t (length script) (states G P) n) ⊎ ((f ≡ 0) × (Finished t (length script) (states G P) n → ⊥) × (n ≡ length script)) → ⊥
+          last : Status G t script p P n f → ⊥
           last (inl (_, done)) = bad .goes-on (subst (Finished t (length script) (states G Q)) same (done-too P Q n k (end .scripted) (bad .scripted) n (omega arith) (omega arith) done))
           last (inr (_, _, out)) = omega (arith, bad .inside)
+
+  -- bytes past the end play no part
+  unread : (P : Play G) (n f : ℕ) → Ends G t script p P n f → (other : List ℕ) → length other ≡ length script → ((k : ℕ) → k < n → getD other k 0 ≡ getD script k 0) → Ends G t other p P n f
+  unread P n f end other long same = record {
+    scripted = record {
+      from = end .scripted .from;
+      by-moves = end .scripted .by-moves;
+      replies = λ k less. end .scripted .replies k less ∙ sym (same k less);
+      unfinished = λ k less. rw long (end .scripted .unfinished k less);
+    };
+    inside = rw long (end .inside);
+    status = rw long (end .status);
+  }
 
   -- what the coalition's moves bring
   module _ (fits : IsPosition G p) (wins : CoalitionWins G t p) where
@@ -125,6 +137,7 @@ module _ (G : Arena) (proper : Proper (G .structure)) (t : Objective) (X : Table
       ends = rw moves (rw finished end);
       last = rw moves last;
       only = λ Q m g other. rw moves (rw finished (one-end Q P m g n f other end));
+      unread = rw moves (rw finished (unread P n f end));
       within-rank = rw moves (within-rank P n (end .scripted));
       paid = λ Q scripted. brought .won Q (scripted .from) (scripted .by-moves) .0;
       shows = λ _ Q scripted. shown Q (movesIn report) scripted;

@@ -1,17 +1,16 @@
 -- From one turn of a rehearsal to the next, and to its end. Assumes nothing.
-use mathlib.Core.Bool.{Bool, true, false}
 use mathlib.Core.List.{List}
-use mathlib.Core.Logic.{_↔_, inl, inr}
+use mathlib.Core.Logic.{inl, inr}
 use mathlib.Core.Path.{_≡_, refl, sym, _∙_, ap, subst}
 use Prim.Native.Nat.{ℕ, suc, _+_, _≤_, _<_}
 use native.Mathlib.Numerals.{add-one}
 use native.Mathlib.Omega.{arith}
 use lib.ListN.{getD, length}
 use borrow.Author.Count.{below-more}
-use Rattle.game.specs.Position.{Arena, Position, IsPosition, Reply, number, outcome}
+use Rattle.game.specs.Position.{Arena, Position, IsPosition, outcome}
 use Rattle.game.specs.Play.{Objective, next, always, until, Play, states, CoalitionWins}
 use Rattle.game.specs.Table.{Table}
-use Rattle.game.specs.Demand.{IsTable, CoalitionMove}
+use Rattle.game.specs.Demand.{IsTable}
 use Rattle.game.proofs.Bridge.Proper.{Proper}
 use Rattle.game.proofs.Bridge.Plays.{at-fits}
 use Rattle.game.proofs.Numbers.Decide.{eq?, lt?}
@@ -20,7 +19,7 @@ use Rattle.game.proofs.Whole.Onward.{GoesOn, onward, script-play}
 use Rattle.ways.specs.Places.{PlacedAt}
 use Rattle.ways.specs.declared.rows.Spot.{Spot}
 use Rattle.rehearsal.specs.Rehearsal.{Finished, Scripted, Unavailable, Ends}
-use Rattle.rehearsal.specs.Inner.Turns.{Turned, Stands, EndsAs}
+use Rattle.rehearsal.specs.Inner.Turns.{Turned, Stands}
 use Rattle.rehearsal.specs.declared.turn.Turn.the-variants.{To, NoReply}
 
 module _ (G : Arena) (proper : Proper (G .structure)) (t : Objective) (script : List ℕ) (p : Position) where
@@ -95,8 +94,8 @@ module _ (G : Arena) (proper : Proper (G .structure)) (t : Objective) (script : 
 
     -- the script is used up
     pub stands-out : n ≡ length script → Ends G t script p P n 0
-    stands-out out = record { scripted = stands .scripted; inside = omega arith; ended = inr (refl, goes-on, out) }
+    stands-out out = record { scripted = stands .scripted; inside = omega arith; status = inr (refl, goes-on, out) }
 
   -- the row is finished
   pub stands-done : (n s x : ℕ) (stands : Stands G t script p n s x) → n ≤ length script → Finished t (length script) (states G (stands .play)) n → Ends G t script p (stands .play) n 1
-  stands-done n s x stands inside done = record { scripted = stands .scripted; inside = inside; ended = inl (refl, done) }
+  stands-done n s x stands inside done = record { scripted = stands .scripted; inside = inside; status = inl (refl, done) }

@@ -1,7 +1,7 @@
 -- One turn, by what is listed of a row. Assumes nothing.
 use mathlib.Core.Logic.{_↔_}
 use mathlib.Core.List.{List}
-use mathlib.Core.Path.{_≡_, refl, sym, _∙_, ap, subst, transport}
+use mathlib.Core.Path.{_≡_, sym, _∙_, ap, subst, transport}
 use Prim.Native.Nat.{ℕ, _+_, _<_}
 use Rattle.block.specs.Decide.{Bit}
 use Rattle.block.specs.Layout as L

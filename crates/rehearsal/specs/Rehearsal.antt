@@ -72,24 +72,34 @@ module _ (G : Arena) (t : Objective) (script : List ℕ) (p : Position) where
     pub goes-on : Finished t (length script) (states G play) turn → ⊥
     pub none : Reply G (play .at turn) (getD script turn 0) → ⊥
 
-  -- the rehearsal ends after n moves of such a play: the row is finished, or the script ran out first. f is 1 or 0 for which
+  -- f is 1 where the row is finished after n moves, and 0 where the script ran out first; always is then finished
+  abbrev pub Status : Play G → ℕ → ℕ → Type 0
+  Status P n f =
+      ((f ≡ 1) × Finished t (length script) (states G P) n)
+      ⊎ ((f ≡ 0) × (Finished t (length script) (states G P) n → ⊥) × (n ≡ length script))
+
+  -- so the rehearsal ends after n moves of such a play
   pub record Ends (P : Play G) (n f : ℕ) : Type 0 where
     pub scripted : Scripted P n
     pub inside : n ≤ length script
-    pub ended :
-        ((f ≡ 1) × Finished t (length script) (states G P) n)
-        ⊎ ((f ≡ 0) × (Finished t (length script) (states G P) n → ⊥) × (n ≡ length script))
+    pub status : Status P n f
 
-  -- the report is that of a play, and of no other. On every play that begins so the stock is never overspent, and a finished row shows what it shows
-  pub record Reports (report : List ℕ) : Type 0 where
-    pub play : Play G
-    pub ends : Ends play (movesIn report) (finishedIn report)
-    pub last : lastIn report ≡ number G (play .at (movesIn report))
-    pub only : (P : Play G) (n f : ℕ) → Ends P n f → (n ≡ movesIn report) × (f ≡ finishedIn report) × (P .at n ≡ play .at n)
-    pub within-rank : WithinRank G t p (movesIn report)
-    pub paid : (P : Play G) → Scripted P (movesIn report) → Paid G P
-    pub shows : finishedIn report ≡ 1 → (P : Play G) → Scripted P (movesIn report) → Shows t (states G P) (movesIn report)
-    pub long : length report ≡ reportBytes
+-- what is reported of a script from p
+pub record Reports (G : Arena) (t : Objective) (script : List ℕ) (p : Position) (report : List ℕ) : Type 0 where
+  -- it is that of a play, and no other play ends otherwise
+  pub play : Play G
+  pub ends : Ends G t script p play (movesIn report) (finishedIn report)
+  pub last : lastIn report ≡ number G (play .at (movesIn report))
+  pub only : (P : Play G) (n f : ℕ) → Ends G t script p P n f → (n ≡ movesIn report) × (f ≡ finishedIn report) × (P .at n ≡ play .at n)
+  -- bytes past the end are not read: with others in their place it ends so too
+  pub unread :
+      (other : List ℕ) → length other ≡ length script → ((k : ℕ) → k < movesIn report → getD other k 0 ≡ getD script k 0)
+      → Ends G t other p play (movesIn report) (finishedIn report)
+  pub within-rank : WithinRank G t p (movesIn report)
+  -- every play that begins so never overspends the stock, and where the row is finished it shows what it shows
+  pub paid : (P : Play G) → Scripted G t script p P (movesIn report) → Paid G P
+  pub shows : finishedIn report ≡ 1 → (P : Play G) → Scripted G t script p P (movesIn report) → Shows t (states G P) (movesIn report)
+  pub long : length report ≡ reportBytes
 
 -- a script that is longer, a report or a room of another length; then the block, the row and the state
 abbrev pub admissionRules : Block → ℕ → ℕ → ℕ → ℕ → ℕ → List Rule

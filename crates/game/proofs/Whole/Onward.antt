@@ -6,8 +6,8 @@ use Prim.Native.Nat.{ℕ, zero, suc, _≤_, _<_}
 use native.Mathlib.Omega.{arith}
 use lib.ListN.{getD, length}
 use Rattle.game.specs.Position.{Arena, Position, IsPosition, Reply, outcome}
-use Rattle.game.specs.Play.{Objective, next, always, until, Play, RecallCounter, From, past, IsRecallCounter, CoalitionWins, OpponentsWin, EnforcesWithin, ForcesWithin}
-use Rattle.game.specs.Table.{Table, never, shown, rankAt, moveAt, Fewest, RankIs, Good, Met}
+use Rattle.game.specs.Play.{Objective, next, always, until, Play, RecallCounter, From, past, IsRecallCounter, CoalitionWins, OpponentsWin, ForcesWithin}
+use Rattle.game.specs.Table.{Table, never, shown, rankAt, moveAt, RankIs, Good, Met}
 use Rattle.game.specs.Demand.{IsTable, CoalitionMove, ByMoves}
 use Rattle.game.proofs.Bridge.Proper.{Proper}
 use Rattle.game.proofs.Bridge.Plays.{outcome-fits}

@@ -1,6 +1,6 @@
 -- `way_to` looks for the number among the listed moves. Assumes nothing.
 use mathlib.Core.Bool.{true}
-use mathlib.Core.Path.{_≡_, subst}
+use mathlib.Core.Path.{subst}
 use Prim.Native.Nat.{ℕ, _<_}
 use native.Mathlib.Omega.{arith}
 use Rattle.ways.specs.Lines.{countIn, numberIn}

@@ -1,6 +1,6 @@
 -- `rehearse_row` makes the row ready, looks whether the team wins at full stock, plays, and stores the report. Assumes nothing.
 use mathlib.Core.List.{List}
-use mathlib.Core.Path.{_≡_, refl, sym, _∙_, ap, subst, subst₂}
+use mathlib.Core.Path.{_≡_, refl, sym, _∙_, ap, subst₂}
 use Prim.Native.Nat.{ℕ, _+_, _*_, _<_}
 use native.Mathlib.Omega.{arith}
 use borrow.Author.Needs.{needs}
@@ -11,17 +11,15 @@ use Rattle.game.specs.Position.{Arena, IsPosition, number, full}
 use Rattle.game.specs.Play.{Objective, CoalitionWins}
 use Rattle.game.specs.Model.{arenaOf, objectiveOf}
 use Rattle.game.proofs.Blocks.Passing.{valid-proper, few-positions}
-use Rattle.game.proofs.Bridge.Plays.{at-fits}
 use Rattle.game.proofs.Bridge.Truth.{full-fits}
 use Rattle.game.proofs.Local.Same.{number-below}
 use Rattle.turns.specs.Buffers.{rankIn}
 use Rattle.ways.proofs.Placing.{placed-number}
 use Rattle.choice.specs.Kinds.{ClaimsBy}
 use Rattle.choice.proofs.Moving.{places-of}
-use Rattle.solver.specs.Inner.Ready.{MadeReady}
 use Rattle.solver.proofs.Readiness.{ready-table, ready-decided, claimed-wins, wins-claimed-by}
 use Rattle.rehearsal.specs.Inner.Turns.{EndsAs}
-use Rattle.rehearsal.specs.declared.script.Ending.the-variants.{After, NoReply}
+use Rattle.rehearsal.specs.declared.script.Ending.the-variants.{After}
 use Rattle.rehearsal.proofs.Rehearsing.{all-available, reported}
 use Rattle.rehearsal.proofs.call.rehearse_row.Statement.{statement}
 use Rattle.rehearsal.proofs.call.rehearse_row.Tie as tie

@@ -1,9 +1,9 @@
 -- `find` looks for a number along a line. Assumes nothing.
-use mathlib.Core.Path.{_≡_, refl, sym, _∙_}
+use mathlib.Core.Path.{_≡_, sym, _∙_}
 use Prim.Native.Nat.{ℕ, _-_, _≤_, _<_}
 use native.Mathlib.Omega.{arith}
 use borrow.Author.Count.{below-more}
-use Rattle.ways.specs.Lines.{countIn, numberIn}
+use Rattle.ways.specs.Lines.{numberIn}
 use Rattle.ways.proofs.lines.find.Statement.{statement}
 use Rattle.ways.proofs.lines.find.Tie as tie
 
