@@ -33,14 +33,15 @@
  *
  * Stack: any call takes at most RBATL_STACK_BYTES, and none allocates. As
  * bench/run measures it, in bytes: check 191, states_refusal 239, write 383, read
- * and read_at 3111, label 6417, table 6449, move and reply 6513, states 6529,
- * worksheet 6545, allowances 8945, list 9137.
+ * and read_at 3111, label 6417, table 6449, reply 6513, move and states 6529,
+ * worksheet and rehearse 6593, allowances 8945, list 9137.
  *
  * Cost: rbatl_move and rbatl_reply solve the row anew at each call. For the moves
- * of up to 64 positions ask rbatl_worksheet, which solves it once; for those of all
- * positions fetch the row's table. rbatl_allowances solves the row once, with bounds
- * of RBATL_MAX_BOUND, and takes about as long as the table with them. rbatl_job.h
- * reads all of these by name, as it does sets and blocks.
+ * of up to 64 positions ask rbatl_worksheet, which solves it once, as
+ * rbatl_rehearse does; for those of all positions fetch the row's table.
+ * rbatl_allowances solves the row once, with bounds of RBATL_MAX_BOUND, and takes
+ * about as long as the table with them. rbatl_job.h reads all of these by name, as
+ * it does sets and blocks.
  *
  * Machine: x86-64 with the calling convention of System V, and no other.
  *

@@ -334,8 +334,8 @@ static inline const char *rbatl_refusal_text(int32_t number)
         return "the state does not exist, or a stock is above its bound, or not 0 where the "
                "resource is unlimited or absent";
     case RBATL_E_WRONG_SIDE:
-        return "the coalition has a move only where it wins, and its opponents a reply only "
-               "where it does not";
+        return "the coalition has a move or a rehearsal only where it wins, and its opponents "
+               "a reply only where it does not";
     case RBATL_E_MOVE:
         return "the coalition's move is not available there, or not affordable";
     case RBATL_E_REPLY:
