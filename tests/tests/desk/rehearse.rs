@@ -3,30 +3,8 @@
 use super::{desk, Says};
 use rbatl_tests::{jobs, text};
 
-/// Agent 0 works against the plant, agent 1. In state 0 its action costs 1 and leads to
-/// state 2, done, unless the plant acts, and then to state 1; there its action costs 2
-/// and leads to state 2. Where it idles in state 0, the plant's action 2 leads to state 1.
-pub const PLANT: &str = "\
-job2,2,1,3,1,6,sum
-state,0,0
-acts,0,0,2,0,1
-acts,0,1,3,0,0,0
-go,0,0,2,0,1,1,1
-state,1,0
-acts,1,0,2,0,2
-acts,1,1,2,0,0
-go,1,1,2,1,2
-state,2,1
-acts,2,0,1,0
-acts,2,1,4,0,0,0,0
-go,2,2,2,2,2
-prop,0
-not,0
-or,0,1
-until,1,3,2,0
-next,1,2,0
-always,1,0,1
-";
+/// A job with a plant, agent 1, that has something to choose.
+pub const PLANT: &str = include_str!("../../../jobs/plant.job");
 
 /// What is printed after the row.
 fn lines(line: &str, job: &[u8]) -> Vec<String> {
