@@ -9,13 +9,14 @@ use Rattle.block.specs.Layout as L
 use Rattle.block.specs.Layout.{Block, digit, Acts, Strategic}
 use Rattle.block.specs.Inner.Valid.{Valid, RowFits}
 use Rattle.game.specs.Rbatl.{Joint, Available}
-use Rattle.game.specs.Position.{places, joint, positionsUpTo, positions}
+use Rattle.game.specs.Position.{Position, IsPosition, places, joint, number, positionsUpTo, positions}
 use Rattle.game.specs.Inner.Stocks.{stockPlacesUpTo}
 use Rattle.game.specs.Model.{structureOf, boundsOf, arenaOf}
 use Rattle.game.proofs.Numbers.Decide.{eq?}
 use Rattle.game.proofs.Numbers.Joint.{joint-cong, joint-below, digit-joint}
 use Rattle.game.proofs.Bridge.Proper.{Proper}
 use Rattle.game.proofs.Bridge.Costs.{combine-none}
+use Rattle.game.proofs.Local.Same.{number-below}
 use Rattle.game.proofs.Blocks.Reading.{bound-unlimited, bound-limited, bound-small}
 
 digit-beyond : (n m a : ℕ) → m < 4 ^ n → n ≤ a → digit m a ≡ 0
@@ -79,3 +80,7 @@ module _ (b : Block) (valid : Valid b) where
 
   pub few-positions : (i : ℕ) → i < L.rows b → Strategic (L.kind b i) → positions (arenaOf b i) ≤ 6144
   few-positions i inside strategic = few-upto i inside strategic (L.resources b) (omega arith)
+
+  -- so the number of a position is below that
+  pub number-few : (i : ℕ) → i < L.rows b → Strategic (L.kind b i) → (p : Position) → IsPosition (arenaOf b i) p → number (arenaOf b i) p < 6144
+  number-few i inside strategic p fits = omega (arith, number-below (arenaOf b i) p fits, few-positions i inside strategic)

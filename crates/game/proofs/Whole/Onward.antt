@@ -6,13 +6,14 @@ use Prim.Native.Nat.{ℕ, zero, suc, _≤_, _<_}
 use native.Mathlib.Omega.{arith}
 use lib.ListN.{getD, length}
 use Rattle.game.specs.Position.{Arena, Position, IsPosition, Reply, outcome}
-use Rattle.game.specs.Play.{Objective, next, always, until, Play, RecallCounter, From, past, IsRecallCounter, CoalitionWins, OpponentsWin, ForcesWithin}
+use Rattle.game.specs.Play.{Objective, next, always, until, Play, RecallCounter, states, From, past, IsRecallCounter, CoalitionWins, OpponentsWin, ForcesWithin}
 use Rattle.game.specs.Table.{Table, never, shown, rankAt, moveAt, RankIs, Good, Met}
 use Rattle.game.specs.Demand.{IsTable, CoalitionMove, ByMoves}
 use Rattle.game.proofs.Bridge.Proper.{Proper}
 use Rattle.game.proofs.Bridge.Plays.{outcome-fits}
 use Rattle.game.proofs.Local.Decidable.{reply?}
 use Rattle.game.proofs.Whole.Choices.{idle-reply}
+use Rattle.game.proofs.Whole.Winning.{won-true}
 use Rattle.game.proofs.Whole.Demand.{moves-table, moves-win}
 
 -- a row that is not done with in state q, so that its next position has to be won too
@@ -60,7 +61,7 @@ module _ (G : Arena) (proper : Proper (G .structure)) where
             bounded (inr (e, _)) = omega arith
 
         go : RankIs G t x (rankAt G X x) → CoalitionWins G t x
-        go (inl (_, ((F, keeps, met), _))) = (F, keeps, λ P from follows. let (k, _, here, before) = met P from follows in (k, here, before))
+        go (inl (_, ((F, keeps, met), _))) = (F, keeps, λ P from follows. won-true t (rankAt G X x) (states G P) (met P from follows))
         go (inr (e, _)) = absurd (omega (arith, good .1 r reply, finite))
 
     always-onward : (left : ℕ → Type 0) (X : Table) → IsTable G (always left) X → CoalitionWins G (always left) y → CoalitionWins G (always left) (outcome G y (moveAt G X y) r)

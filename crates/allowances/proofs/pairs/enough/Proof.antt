@@ -7,8 +7,7 @@ use Rattle.block.specs.Inner.Tests.{Decides}
 use Rattle.block.proofs.Decide as D
 use Rattle.game.specs.Position.{position, IsPosition, number}
 use Rattle.game.specs.Model.{arenaOf}
-use Rattle.game.proofs.Local.Same.{number-below}
-use Rattle.game.proofs.Blocks.Passing.{few-positions}
+use Rattle.game.proofs.Blocks.Passing.{number-few}
 use Rattle.turns.specs.Buffers.{rankIn}
 use Rattle.choice.specs.Kinds.{ClaimsBy}
 use Rattle.allowances.proofs.Pairing.{shows-byte}
@@ -42,7 +41,7 @@ kind-requires c κs = search needs
 rank-at-requires : tie.Need-rank-at-requires
 rank-at-requires c κs =
     let t = c .before .before .before .before .before .before .before .pre .0 in
-    omega (arith, c .before .number .ensures, number-below (arenaOf (c .before .before .before .before .before .before .before .args .block .now) (c .before .before .before .before .before .before .before .args .i)) _ (fits (c .before .before)), few-positions (c .before .before .before .before .before .before .before .args .block .now) (t .valid) (c .before .before .before .before .before .before .before .args .i) (t .inside) (t .strategic), t .long)
+    omega (arith, c .before .number .ensures, number-few (c .before .before .before .before .before .before .before .args .block .now) (t .valid) (c .before .before .before .before .before .before .before .args .i) (t .inside) (t .strategic) _ (fits (c .before .before)), t .long)
 
 claims-requires : tie.Need-claims-requires
 claims-requires c κs = search needs

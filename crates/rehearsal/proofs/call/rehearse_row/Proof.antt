@@ -10,9 +10,8 @@ use Rattle.block.proofs.Refusals.{turned-down, past, answered}
 use Rattle.game.specs.Position.{Arena, IsPosition, number, full}
 use Rattle.game.specs.Play.{Objective, CoalitionWins}
 use Rattle.game.specs.Model.{arenaOf, objectiveOf}
-use Rattle.game.proofs.Blocks.Passing.{valid-proper, few-positions}
+use Rattle.game.proofs.Blocks.Passing.{valid-proper, number-few}
 use Rattle.game.proofs.Bridge.Truth.{full-fits}
-use Rattle.game.proofs.Local.Same.{number-below}
 use Rattle.turns.specs.Buffers.{rankIn}
 use Rattle.ways.proofs.Placing.{placed-number}
 use Rattle.choice.specs.Kinds.{ClaimsBy}
@@ -41,7 +40,7 @@ module _ (start : tie.Start) where
   first-fits = full-fits G (start .args .s) (start .pre .1 .0 .2)
 
   few : number G (full G (start .args .s)) < 6144
-  few = omega (arith, number-below G (full G (start .args .s)) first-fits, few-positions (start .args .block .now) (start .pre .0) (start .args .i) (start .pre .1 .0 .0) (start .pre .1 .0 .1))
+  few = number-few (start .args .block .now) (start .pre .0) (start .args .i) (start .pre .1 .0 .0) (start .pre .1 .0 .1) (full G (start .args .s)) first-fits
 
 full-requires : tie.Need-full-requires
 full-requires c κs = search needs
@@ -109,7 +108,7 @@ module _ (c : tie.After-moves) where
   last-small : last < 6144
   last-small =
       let start = c .before .before .before .before .before .before .before .before .before .before .before .before .before .before .before .before .before .before .before .before .before in
-      omega (arith, last-number, number-below (G start) (ends .0 .at (c .moves .given .0 .0)) (ends .2 .fits), few-positions (start .args .block .now) (start .pre .0) (start .args .i) (start .pre .1 .0 .0) (start .pre .1 .0 .1))
+      omega (arith, last-number, number-few (start .args .block .now) (start .pre .0) (start .args .i) (start .pre .1 .0 .0) (start .pre .1 .0 .1) (ends .0 .at (c .moves .given .0 .0)) (ends .2 .fits))
 
 mul-position : tie.Need-mul-position
 mul-position c = record { fits = omega (arith, last-small (c .before .before .before)) }

@@ -3,9 +3,8 @@ use Prim.Native.Nat.{_<_}
 use native.Mathlib.Omega.{arith}
 use Rattle.game.specs.Model.{arenaOf}
 use Rattle.game.specs.Position.{full}
-use Rattle.game.proofs.Local.Same.{number-below}
 use Rattle.game.proofs.Bridge.Truth.{full-fits}
-use Rattle.game.proofs.Blocks.Passing.{few-positions}
+use Rattle.game.proofs.Blocks.Passing.{number-few}
 use borrow.Author.Needs.{needs}
 use Rattle.report.proofs.plans.plan_at.Statement.{statement}
 use Rattle.report.proofs.plans.plan_at.Tie as tie
@@ -16,7 +15,7 @@ below c =
     let args = c .before .before .before .before .before .args in
     let pre = c .before .before .before .before .before .pre in
     let G = arenaOf (args .block .now) (args .i) in
-    omega (arith, c .full .ensures, number-below G (full G (args .s)) (full-fits G (args .s) (pre .1 .0 .2)), few-positions (args .block .now) (pre .0) (args .i) (pre .1 .0 .0) (pre .1 .0 .1))
+    omega (arith, c .full .ensures, number-few (args .block .now) (pre .0) (args .i) (pre .1 .0 .0) (pre .1 .0 .1) (full G (args .s)) (full-fits G (args .s) (pre .1 .0 .2)))
 
 full-requires : tie.Need-full-requires
 full-requires c κs = search needs

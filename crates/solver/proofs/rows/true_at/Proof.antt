@@ -10,9 +10,8 @@ use Rattle.block.proofs.Decide as D
 use Rattle.game.specs.Position.{number, full}
 use Rattle.turns.specs.Buffers.{rankIn}
 use Rattle.game.specs.Model.{byKind, arenaOf}
-use Rattle.game.proofs.Local.Same.{number-below}
 use Rattle.game.proofs.Bridge.Truth.{full-fits}
-use Rattle.game.proofs.Blocks.Passing.{few-positions}
+use Rattle.game.proofs.Blocks.Passing.{number-few}
 use Rattle.choice.specs.Kinds.{ClaimsBy}
 use Rattle.solver.specs.Inner.Rows.{TrueBy}
 use Rattle.solver.proofs.Words.{strategic-stands}
@@ -107,9 +106,8 @@ rank-at-requires c κs =
     omega (
       arith,
       c .full .ensures,
-      number-below G (full G (start .args .s)) (full-fits G (start .args .s) (start .pre .1 .1)),
       start .pre .1 .2,
-      few-positions b (start .pre .0) (start .args .i) (start .pre .1 .0) (strategic start (c .before .before .before .before .kind .result) (c .before .before .before .before .kind .ensures) (c .before .before .before .if1 .left) (c .before .before .if2 .left) (c .before .if3 .left)),
+      number-few b (start .pre .0) (start .args .i) (start .pre .1 .0) (strategic start (c .before .before .before .before .kind .result) (c .before .before .before .before .kind .ensures) (c .before .before .before .if1 .left) (c .before .before .if2 .left) (c .before .if3 .left)) (full G (start .args .s)) (full-fits G (start .args .s) (start .pre .1 .1)),
     )
 
 claims-requires : tie.Need-claims-requires
