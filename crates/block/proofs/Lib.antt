@@ -9,3 +9,4 @@ pub mod Passing
 pub mod Zeros
 pub mod Copies
 pub mod Refusals
+pub mod Signed

@@ -147,9 +147,12 @@ module _ {i : ℕ} {Changed : ℕ → Type 0} {b b′ : Block} (valid : Valid b)
       sized = sized;
       counted = λ s a l la. omega (arith, same-count s a (state s l) (agent a la), valid .counted s a (state s l) (agent a la));
       mask-fits = λ s l. rw (same-mask s (state s l), same-propositions) (valid .mask-fits s (state s l));
-      cost-fits = λ s a k j l la lk lj.
+      cost-fits = λ s a k j l la lk lj more.
           let few : k < L.count b s a = omega (arith, same-count s a (state s l) (agent a la)) in
-          omega (arith, same-cost s a k j (state s l) (agent a la) few (resource j lj), valid .cost-fits s a k j (state s l) (agent a la) few (resource j lj));
+          omega (arith, same-cost s a k j (state s l) (agent a la) few (resource j lj), valid .cost-fits s a k j (state s l) (agent a la) few (resource j lj) (omega (arith, same-cost s a k j (state s l) (agent a la) few (resource j lj))));
+      charge-sums = λ s a k j l la lk lj charge kind.
+          let few : k < L.count b s a = omega (arith, same-count s a (state s l) (agent a la)) in
+          valid .charge-sums s a k j (state s l) (agent a la) few (resource j lj) (omega (arith, same-cost s a k j (state s l) (agent a la) few (resource j lj))) (sym (same-kind j) ∙ kind);
       idle-free = λ s a j l la lj.
           let some : 0 < L.count b s a = omega (arith, valid .counted s a (state s l) (agent a la)) in
           same-cost s a 0 j (state s l) (agent a la) some (resource j lj) ∙ valid .idle-free s a j (state s l) (agent a la) (resource j lj);

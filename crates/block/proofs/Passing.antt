@@ -11,10 +11,10 @@ use Rattle.block.specs.Decide.{Some, Outside, BitFrom}
 use Rattle.block.specs.Inner.Tests.{Decides, holds, fails}
 use Rattle.block.specs.Refusal.{Meets}
 use Rattle.block.specs.Layout.{Block, blockBytes, maxJoint, agents, resources, states, rows, cost}
-use Rattle.block.specs.Check.{BadSizes, agents-range, resources-range, states-range, propositions-range, rows-range, kinds-range, BadState, BadNext, BadRow, BadPlace, kind-unknown, operands, coalition, prop-range, left-range, right-range, team-empty, team-absent, bound-range, blockRules, Verdict}
+use Rattle.block.specs.Check.{BadSizes, agents-range, resources-range, states-range, propositions-range, rows-range, kinds-range, BadState, BadCharges, BadNext, BadRow, BadPlace, kind-unknown, operands, coalition, prop-range, left-range, right-range, team-empty, team-absent, bound-range, blockRules, Verdict}
 use Rattle.block.specs.Inner.Valid.{Range, Sized, Counted, RowFits, Valid}
 use Rattle.block.specs.declared.refusal.Refusal.{Refusal}
-use Rattle.block.specs.declared.refusal.Refusal.the-variants.{Length, Sizes, State, Next, Row, Unused}
+use Rattle.block.specs.declared.refusal.Refusal.the-variants.{Length, Sizes, State, Charge, Next, Row, Unused}
 use Rattle.block.specs.declared.refusal.Answer.the-variants.{Value}
 use Rattle.block.proofs.Decide as D
 use Rattle.block.proofs.Masks.{bit-above}
@@ -84,17 +84,19 @@ row-valid {b} {i} h = record {
 pub unbroken : (b : Block) → Fails (blockRules b) → Valid b
 unbroken b none =
     let no : (r : Refusal) → Meets (blockRules b) r → ⊥ = unmet (blockRules b) none in
-    let no-length : (length b ≡ blockBytes → ⊥) → ⊥ = λ x. no Length (search (inl, inr) depth 8) in
-    let no-sizes : BadSizes b → ⊥ = λ x. no Sizes (search (inl, inr) depth 8) in
-    let no-state : Some (states b) (BadState b) → ⊥ = λ x. no State (search (inl, inr) depth 8) in
-    let no-next : Some (states b) (λ s. Some maxJoint (BadNext b s)) → ⊥ = λ x. no Next (search (inl, inr) depth 8) in
-    let no-row : Some (rows b) (BadRow b) → ⊥ = λ x. no Row (search (inl, inr) depth 8) in
-    let no-unused : Some blockBytes (BadPlace b) → ⊥ = λ x. no Unused (search (inl, inr) depth 8) in
+    let no-length : (length b ≡ blockBytes → ⊥) → ⊥ = λ x. no Length (search (inl, inr) depth 9) in
+    let no-sizes : BadSizes b → ⊥ = λ x. no Sizes (search (inl, inr) depth 9) in
+    let no-state : Some (states b) (BadState b) → ⊥ = λ x. no State (search (inl, inr) depth 9) in
+    let no-charge : Some (states b) (BadCharges b) → ⊥ = λ x. no Charge (search (inl, inr) depth 9) in
+    let no-next : Some (states b) (λ s. Some maxJoint (BadNext b s)) → ⊥ = λ x. no Next (search (inl, inr) depth 9) in
+    let no-row : Some (rows b) (BadRow b) → ⊥ = λ x. no Row (search (inl, inr) depth 9) in
+    let no-unused : Some blockBytes (BadPlace b) → ⊥ = λ x. no Unused (search (inl, inr) depth 9) in
     record {
       sized = sized (stable _ _ no-length) no-sizes;
       counted = counted b no-state;
       mask-fits = λ s hs. below-bit _ _ (λ x. no-state (s, hs, inl x));
-      cost-fits = λ s a k j hs ha hk hj. at-most (λ x. no-state (s, hs, inr (a, ha, inr (k, hk, (j, hj, inl x)))));
+      cost-fits = λ s a k j hs ha hk hj more. at-most (λ x. no-state (s, hs, inr (a, ha, inr (k, hk, (j, hj, inl (more, x))))));
+      charge-sums = λ s a k j hs ha hk hj charge kind. no-charge (s, hs, (a, ha, (k, hk, (j, hj, (kind, charge)))));
       idle-free = idle-valid b no-state;
       next-fits = λ s joint hs av. below (λ x. no-next (s, hs, (joint, av .0, (av, x))));
       row-fits = λ i hi. row-valid (λ x. no-row (i, hi, x));

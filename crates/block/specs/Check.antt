@@ -1,4 +1,4 @@
--- The conditions of numbers 1 to 6 (document 01, "Numbers for what is turned down"), each with its witness, and the verdict on a block.
+-- The conditions of numbers 1 to 6 (document 01, "Numbers for what is turned down") and 13 (document 02, R-7), each with its witness, and the verdict on a block.
 -- A condition looks only at places in use, as the conditions before it leave them; number 6 looks at every other place.
 use mathlib.Core.List.{List, [], _∷_}
 use mathlib.Core.Logic.{_⊎_}
@@ -6,9 +6,9 @@ use mathlib.Core.Path.{_≡_}
 use Prim.Native.Nat.{ℕ, _≤_, _<_}
 use lib.ListN.{length}
 use Rattle.block.specs.Decide.{Some, Outside, BitFrom}
-use Rattle.block.specs.Layout.{Block, blockBytes, maxAgents, maxResources, maxStates, maxPropositions, maxRows, maxActions, maxUnits, maxJoint, byteAt, agents, resources, states, propositions, rows, mask, count, cost, next, kind, left, right, team, bound, resourceKind, unlimited, maxKind, propKind, untilKind, Strategic, Binary, Available, Used}
+use Rattle.block.specs.Layout.{Block, blockBytes, maxAgents, maxResources, maxStates, maxPropositions, maxRows, maxActions, maxUnits, maxJoint, byteAt, agents, resources, states, propositions, rows, mask, count, cost, next, kind, left, right, team, bound, resourceKind, unlimited, chargeByte, maxKind, propKind, untilKind, Strategic, Binary, Available, Used}
 use Rattle.block.specs.Refusal.{Rule, _when_, Answers, NoValue}
-use Rattle.block.specs.declared.refusal.Refusal.the-variants.{Length, Sizes, State, Next, Row, Unused}
+use Rattle.block.specs.declared.refusal.Refusal.the-variants.{Length, Sizes, State, Charge, Next, Row, Unused}
 use Rattle.block.specs.declared.refusal.Answer.{Answer}
 use Rattle.block.specs.declared.refusal.Answer.the-variants.{Value}
 
@@ -21,9 +21,9 @@ pub data BadSizes (b : Block) : Type 0 where
   rows-range : Outside 1 maxRows (rows b) → BadSizes b
   kinds-range : Some (resources b) (λ j. maxKind < resourceKind b j) → BadSizes b
 
--- a cost above 15 units, or idle with a cost
+-- a cost byte 16 to 240, of more than 15 units taken or given, or idle with a cost
 abbrev pub BadCost : Block → ℕ → ℕ → ℕ → ℕ → Type 0
-BadCost b s a k j = (maxUnits < cost b s a k j) ⊎ ((k ≡ 0) × (0 < cost b s a k j))
+BadCost b s a k j = ((maxUnits < cost b s a k j) × (cost b s a k j < chargeByte)) ⊎ ((k ≡ 0) × (0 < cost b s a k j))
 
 -- a count that is not 1 to 4, or a bad cost of an action that the agent has
 abbrev pub BadActions : Block → ℕ → ℕ → Type 0
@@ -32,6 +32,13 @@ BadActions b s a = Outside 1 maxActions (count b s a) ⊎ Some (count b s a) (λ
 -- 3: in some state, a mask with a bit at or above P, or bad actions of some agent
 abbrev pub BadState : Block → ℕ → Type 0
 BadState b s = BitFrom (propositions b) (mask b s) ⊎ Some (agents b) (BadActions b s)
+
+-- 13: in some state, a charge on a max resource by an action that an agent has
+abbrev pub BadCharge : Block → ℕ → ℕ → ℕ → ℕ → Type 0
+BadCharge b s a k j = (resourceKind b j ≡ maxKind) × (chargeByte ≤ cost b s a k j)
+
+abbrev pub BadCharges : Block → ℕ → Type 0
+BadCharges b s = Some (agents b) (λ a. Some (count b s a) (λ k. Some (resources b) (λ j. BadCharge b s a k j)))
 
 -- 4: in some state, an available joint action whose next state is at or above M
 abbrev pub BadNext : Block → ℕ → ℕ → Type 0
@@ -63,12 +70,13 @@ pub data BadRow (b : Block) (i : ℕ) : Type 0 where
 abbrev pub BadPlace : Block → ℕ → Type 0
 BadPlace b p = (Used b p → ⊥) × (byteAt b p ≡ 0 → ⊥)
 
--- 1, then 2, 3, 4, 5, 6, each over the whole block
+-- 1, then 2, 3, 13, 4, 5, 6, each over the whole block
 abbrev pub blockRules : Block → List Rule
 blockRules b =
     Length when (length b ≡ blockBytes → ⊥)
     ∷ Sizes when BadSizes b
     ∷ State when Some (states b) (BadState b)
+    ∷ Charge when Some (states b) (BadCharges b)
     ∷ Next when Some (states b) (λ s. Some maxJoint (BadNext b s))
     ∷ Row when Some (rows b) (BadRow b)
     ∷ Unused when Some blockBytes (BadPlace b)

@@ -1,8 +1,11 @@
 -- The bytes of a job (document 01, "The job"): which place holds which field. A block is the list of its bytes, and no other file writes an offset.
+use mathlib.Core.Bool.{cond}
 use mathlib.Core.List.{List}
 use mathlib.Core.Logic.{_⊎_}
 use mathlib.Core.Path.{_≡_}
-use Prim.Native.Nat.{ℕ, _+_, _*_, _/_, _%_, _^_, _≤_, _<_}
+use Prim.Native.Nat.{ℕ, _+_, _*_, _-_, _/_, _%_, _^_, _≤_, _<_}
+use lib.Dec.{ltb}
+use lib.IntN.{ℤ, subℕ}
 use lib.ListN.{getD}
 use Rattle.block.specs.declared.layout.Place.{Place}
 use Rattle.block.specs.declared.layout.Place.the-variants.{Header, Mask, Count, Cost, Next, Field, ResourceKind}
@@ -29,7 +32,7 @@ maxRows = 32
 abbrev pub maxActions : ℕ
 maxActions = 4
 
--- the most units of a resource that an action takes or a limited bound grants
+-- the most units of a resource that an action takes or gives, or a limited bound grants
 abbrev pub maxUnits : ℕ
 maxUnits = 15
 
@@ -146,7 +149,7 @@ mask b s = at b (Mask s)
 abbrev pub count : Block → ℕ → ℕ → ℕ
 count b s a = at b (Count s a)
 
--- what agent a's action k takes of resource j in state s
+-- the byte of what agent a's action k costs of resource j in state s
 abbrev pub cost : Block → ℕ → ℕ → ℕ → ℕ → ℕ
 cost b s a k j = at b (Cost s a k j)
 
@@ -177,6 +180,23 @@ resourceKind b j = at b (ResourceKind j)
 -- the byte of an unlimited bound
 abbrev pub unlimited : ℕ
 unlimited = 255
+
+-- a charge is held as 256 minus it (document 02, R-7): its bytes begin here
+abbrev pub byteValues : ℕ
+byteValues = 256
+
+abbrev pub chargeByte : ℕ
+chargeByte = byteValues - maxUnits
+
+-- what a cost with this byte takes of a resource, what it gives, and the signed number that it is
+abbrev pub taken : ℕ → ℕ
+taken c = cond (ltb c chargeByte) c 0
+
+abbrev pub given : ℕ → ℕ
+given c = cond (ltb c chargeByte) 0 (byteValues - c)
+
+abbrev pub signed : ℕ → ℤ
+signed c = subℕ (taken c) (given c)
 
 -- the kinds of a resource: how the costs of a team's agents combine in a move
 abbrev pub sumKind : ℕ

@@ -5,7 +5,7 @@ use mathlib.Core.Path.{_≡_}
 use Prim.Native.Nat.{ℕ}
 use lib.ListN.{length, replicate}
 use Rattle.block.specs.declared.refusal.Refusal.{Refusal}
-use Rattle.block.specs.declared.refusal.Refusal.the-variants.{Length, Sizes, State, Next, Row, Unused, Form, RowChoice, Position, WrongSide, Move, Reply}
+use Rattle.block.specs.declared.refusal.Refusal.the-variants.{Length, Sizes, State, Next, Row, Unused, Form, RowChoice, Position, WrongSide, Move, Reply, Charge}
 use Rattle.block.specs.declared.refusal.Answer.{Answer}
 use Rattle.block.specs.declared.refusal.Answer.the-variants.{Value, Refused}
 
@@ -22,6 +22,7 @@ numberOf Position = 9
 numberOf WrongSide = 10
 numberOf Move = 11
 numberOf Reply = 12
+numberOf Charge = 13
 
 -- a refusal, with the condition under which it is given
 infix 68 _when_

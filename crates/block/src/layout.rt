@@ -20,7 +20,7 @@ pub const MAX_ROWS: usize = 32;
 
 pub const MAX_ACTIONS: usize = 4;
 
-// The most units of a resource that an action takes or a limited bound grants.
+// The most units of a resource that an action takes or gives, or a limited bound grants.
 pub const MAX_UNITS: usize = 15;
 
 // How many joint actions have a number: an action of each agent.
@@ -96,6 +96,11 @@ pub const KINDS: usize = 6;
 
 // The byte of an unlimited bound.
 pub const UNLIMITED: usize = 255;
+
+// A charge is held as 256 minus it: its bytes begin here.
+const BYTE_VALUES: usize = 256;
+
+pub const CHARGE_BYTE: usize = BYTE_VALUES - MAX_UNITS;
 
 // A place of the layout: a header byte, the mask of a state, the count of a state and agent, the
 // cost of a state, agent, action and resource, the next state of a state and joint action, a
@@ -269,13 +274,33 @@ pub fn count(block: &[u8], s: usize, a: usize) -> usize
     byte_at(block, count_place(s, a))
 }
 
-// What agent a's action k takes of resource j in state s.
-pub fn cost(block: &[u8], s: usize, a: usize, k: usize, j: usize) -> usize
+// The byte of what agent a's action k costs of resource j in state s.
+pub fn cost_byte(block: &[u8], s: usize, a: usize, k: usize, j: usize) -> usize
     requires { ⌜ length (now block) ≡ blockBytes ⌝ }
     requires { ⌜ (s < maxStates) × (a < maxAgents) × (k < maxActions) × (j < maxResources) ⌝ }
     ensures { λ r. ⌜ r ≡ L.cost (now (block .entry)) s a k j ⌝ }
 {
     byte_at(block, cost_place(s, a, k, j))
+}
+
+// What a cost with this byte takes, or less than nothing where it gives.
+fn signed(c: u8) -> i32
+    ensures { λ r. ⌜ r ≡ L.signed c ⌝ }
+{
+    if c < CHARGE_BYTE as u8 {
+        return c as i32;
+    }
+    c as i32 - BYTE_VALUES as i32
+}
+
+// What agent a's action k costs of resource j in state s; a charge is less than nothing.
+pub fn cost(block: &[u8], s: usize, a: usize, k: usize, j: usize) -> i32
+    requires { ⌜ length (now block) ≡ blockBytes ⌝ }
+    requires { ⌜ (s < maxStates) × (a < maxAgents) × (k < maxActions) × (j < maxResources) ⌝ }
+    ensures { λ r. ⌜ r ≡ L.signed (L.cost (now (block .entry)) s a k j) ⌝ }
+{
+    let p = cost_place(s, a, k, j);
+    signed(block[p])
 }
 
 // The next state after a joint action in state s.

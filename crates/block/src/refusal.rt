@@ -15,6 +15,7 @@ pub enum Refusal {
     WrongSide,
     Move,
     Reply,
+    Charge,
 }
 
 // What a call answers. One that gives no value answers 0.
@@ -40,5 +41,6 @@ pub fn number(r: Refusal) -> u8
         Refusal::WrongSide => 10,
         Refusal::Move => 11,
         Refusal::Reply => 12,
+        Refusal::Charge => 13,
     }
 }

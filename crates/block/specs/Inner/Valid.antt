@@ -2,7 +2,7 @@
 use mathlib.Core.Path.{_≡_}
 use Prim.Native.Nat.{ℕ, _≤_, _<_, _^_}
 use lib.ListN.{length}
-use Rattle.block.specs.Layout.{Block, blockBytes, maxAgents, maxResources, maxStates, maxPropositions, maxRows, maxActions, maxUnits, byteAt, agents, resources, states, propositions, rows, mask, count, cost, next, kind, left, right, team, bound, resourceKind, unlimited, maxKind, propKind, untilKind, Strategic, Binary, Available, Used}
+use Rattle.block.specs.Layout.{Block, blockBytes, maxAgents, maxResources, maxStates, maxPropositions, maxRows, maxActions, maxUnits, byteAt, agents, resources, states, propositions, rows, mask, count, cost, next, kind, left, right, team, bound, resourceKind, unlimited, chargeByte, maxKind, propKind, untilKind, Strategic, Binary, Available, Used}
 
 abbrev pub Range : ℕ → ℕ → ℕ → Type 0
 Range low high n = (low ≤ n) × (n ≤ high)
@@ -35,7 +35,8 @@ pub record Valid (b : Block) : Type 0 where
   pub sized : Sized b
   pub counted : Counted b
   pub mask-fits : (s : ℕ) → s < states b → mask b s < 2 ^ propositions b
-  pub cost-fits : (s a k j : ℕ) → s < states b → a < agents b → k < count b s a → j < resources b → cost b s a k j ≤ maxUnits
+  pub cost-fits : (s a k j : ℕ) → s < states b → a < agents b → k < count b s a → j < resources b → maxUnits < cost b s a k j → chargeByte ≤ cost b s a k j
+  pub charge-sums : (s a k j : ℕ) → s < states b → a < agents b → k < count b s a → j < resources b → chargeByte ≤ cost b s a k j → resourceKind b j ≡ maxKind → ⊥
   pub idle-free : (s a j : ℕ) → s < states b → a < agents b → j < resources b → cost b s a 0 j ≡ 0
   pub next-fits : (s joint : ℕ) → s < states b → Available b s joint → next b s joint < states b
   pub row-fits : (i : ℕ) → i < rows b → RowFits b i

@@ -26,7 +26,7 @@ returns-2 : tie.Need-returns-2
 returns-2 c =
     let start = c .before .before .before .before .before .before in
     let other : Refused (start .args .r) ≡ Refused Length → ⊥ =
-    λ e. let same : start .args .r ≡ Length = cc in miss (1 ∷ 2 ∷ 3 ∷ 4 ∷ 5 ∷ 6 ∷ 7 ∷ 8 ∷ 9 ∷ 10 ∷ 11 ∷ []) 0 tt (rw same at (c .before .before .before .before .match .keys2)) in
+    λ e. let same : start .args .r ≡ Length = cc in miss (1 ∷ 2 ∷ 3 ∷ 4 ∷ 5 ∷ 6 ∷ 7 ∷ 8 ∷ 9 ∷ 10 ∷ 11 ∷ 12 ∷ []) 0 tt (rw same at (c .before .before .before .before .match .keys2)) in
     room-cleared other (cleared (start .args .room .now) (c .before .before .zeros .ensures))
 
 pub leave-spec : {M : Type 1} → statement M
