@@ -4,6 +4,7 @@ pub mod Passing
 pub mod Formulas
 pub mod OneRow
 pub mod Tables
+pub mod More
 pub mod Labels
 pub mod Tests
 pub mod Rowwise

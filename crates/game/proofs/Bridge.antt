@@ -6,3 +6,5 @@ pub mod Plays
 pub mod Strategies
 pub mod Truth
 pub mod Agreeing
+pub mod Uncharged
+pub mod More

@@ -27,7 +27,8 @@ structureOf b = record {
   states = L.states b;
   holds = λ p s. bit (L.mask b s) p;
   actions = L.count b;
-  cost = L.cost b;
+  cost = λ s a k r. L.taken (L.cost b s a k r);
+  charge = λ s a k r. L.given (L.cost b s a k r);
   combine = λ r. combineOf (L.resourceKind b r);
   next = λ s σ. L.next b s (joint (L.agents b) σ);
 }

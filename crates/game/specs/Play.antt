@@ -4,8 +4,8 @@ use mathlib.Core.List.{List, [], _∷_}
 use mathlib.Core.Logic.{_⊎_}
 use mathlib.Core.Path.{_≡_}
 use Prim.Native.Nat.{ℕ, zero, suc, _+_, _≤_, _<_}
-use Rattle.game.specs.Rbatl.{Fits, Computation, Strategy, prefix, IsStrategy, Within, NextOn, AlwaysOn, UntilOn}
-use Rattle.game.specs.Position.{Arena, Position, IsPosition, joint, part, budget, Move, Reply, cost, Affordable, Allowed, outcome}
+use Rattle.game.specs.Rbatl.{Pays, Computation, Strategy, prefix, IsStrategy, KeepsFrom, NextOn, AlwaysOn, UntilOn}
+use Rattle.game.specs.Position.{Arena, Position, IsPosition, joint, part, Move, Reply, cost, charge, Affordable, Allowed, outcome}
 
 -- what a strategic row asks of a play; left and right say in which states the lower rows are true
 pub data Objective : Type 1 where
@@ -63,10 +63,14 @@ module _ (G : Arena) where
   abbrev pub states : Play G → Computation
   states P i = P .at i .state
 
-  -- the coalition's cost of the first n moves
+  -- what the coalition's first n moves take, and what they give
   abbrev pub spentOn : Play G → ℕ → ℕ → ℕ
   spentOn P zero r = 0
   spentOn P (suc n) r = spentOn P n r + cost G (P .at n) (P .move n) r
+
+  abbrev pub chargedOn : Play G → ℕ → ℕ → ℕ
+  chargedOn P zero r = 0
+  chargedOn P (suc n) r = chargedOn P n r + charge G (P .at n) (P .move n) r
 
   abbrev pub From : Position → Play G → Type 0
   From p P = P .at 0 ≡ p
@@ -103,13 +107,13 @@ module _ (G : Arena) where
   abbrev pub Afforded : Play G → Type 0
   Afforded P = (i : ℕ) → Affordable G (P .at i) (P .move i)
 
-  -- and each beginning of the play costs at most the first position's stock
+  -- and each beginning of the play takes at most the first position's stock and what it gives
   abbrev pub Paid : Play G → Type 0
-  Paid P = Afforded P × ((n r : ℕ) → r < G .structure .resources → Fits (spentOn P n r) (budget G (P .at 0) r))
+  Paid P = Afforded P × ((n r : ℕ) → r < G .structure .resources → Pays (G .bounds r) (P .at 0 .stock r) (spentOn P n r) (chargedOn P n r))
 
-  -- the strategy keeps within the position's stock
+  -- the strategy keeps within the position's stock, under the row's bound
   abbrev pub KeepsWithin : Position → Strategy → Type 0
-  KeepsWithin p F = IsStrategy (G .structure) (G .coalition) F × Within (G .structure) (G .coalition) (budget G p) F
+  KeepsWithin p F = IsStrategy (G .structure) (G .coalition) F × KeepsFrom (G .structure) (G .coalition) (G .bounds) (p .stock) F
 
   -- some strategy within the position's stock makes the property true on every play that it allows from there
   abbrev pub Enforces : Position → (Computation → Type 0) → Type 0

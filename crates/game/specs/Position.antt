@@ -1,12 +1,13 @@
--- Positions of a strategic row, its moves and replies, what they cost and where they lead (document 01, "The job" and "When a row is true").
+-- Positions of a strategic row, its moves and replies, what they cost and where they lead (document 01, "The job" and "When a row is true"; document 02,
+-- R-7).
 -- Over any structure and any number of resources.
 use mathlib.Core.Bool.{cond, not}
 use mathlib.Core.List.{List}
 use mathlib.Core.Path.{_≡_}
-use Prim.Native.Nat.{ℕ, zero, suc, _+_, _*_, _-_, _^_, _<_}
+use Prim.Native.Nat.{ℕ, zero, suc, _+_, _*_, _^_, _<_}
 use lib.ListN.{getD}
 use Rattle.block.specs.Layout.{digit}
-use Rattle.game.specs.Rbatl.{Bound, limit, unlimited, Fits, Coalition, Bounds, Joint, Structure, moveCost}
+use Rattle.game.specs.Rbatl.{Bound, limit, unlimited, fullStock, Pays, remaining, Coalition, Bounds, Joint, Structure, moveCost, moveCharge}
 
 -- where a strategic row is played: by whom and with what bound
 pub record Arena : Type 0 where
@@ -27,21 +28,6 @@ position q stocks = record { state = q; stock = λ r. getD stocks r 0 }
 abbrev pub places : Bound → ℕ
 places (limit n) = suc n
 places unlimited = 1
-
--- the largest stock
-abbrev pub fullStock : Bound → ℕ
-fullStock (limit n) = n
-fullStock unlimited = 0
-
--- a stock as a bound: an unlimited resource binds nothing
-abbrev pub stockBound : Bound → ℕ → Bound
-stockBound (limit n) s = limit s
-stockBound unlimited s = unlimited
-
--- what remains of a stock after a cost
-abbrev pub remaining : Bound → ℕ → ℕ → ℕ
-remaining (limit n) s c = s - c
-remaining unlimited s c = 0
 
 -- the number a0 + 4·a1 + 16·a2 of a joint action of n agents
 abbrev pub joint : ℕ → Joint → ℕ
@@ -87,10 +73,6 @@ module _ (G : Arena) where
   abbrev pub full : ℕ → Position
   full q = record { state = q; stock = λ r. fullStock (G .bounds r) }
 
-  -- the position's stock in the place of the row's bound
-  abbrev pub budget : Position → Bounds
-  budget p r = stockBound (G .bounds r) (p .stock r)
-
   -- a move of the coalition, and a reply of all others
   abbrev pub Move : Position → ℕ → Type 0
   Move p m = MoveOf (G .structure) (G .coalition) (p .state) m
@@ -98,19 +80,22 @@ module _ (G : Arena) where
   abbrev pub Reply : Position → ℕ → Type 0
   Reply p r = MoveOf (G .structure) (opponents (G .coalition)) (p .state) r
 
-  -- what a move of the coalition takes of a resource: the costs of its own agents alone
+  -- what a move of the coalition takes of a resource, and what it gives: the costs and charges of its own agents alone
   abbrev pub cost : Position → ℕ → ℕ → ℕ
   cost p m r = moveCost (G .structure) (G .coalition) (p .state) (digit m) r
 
+  abbrev pub charge : Position → ℕ → ℕ → ℕ
+  charge p m r = moveCharge (G .structure) (G .coalition) (p .state) (digit m) r
+
   abbrev pub Affordable : Position → ℕ → Type 0
-  Affordable p m = (r : ℕ) → r < G .structure .resources → Fits (cost p m r) (budget p r)
+  Affordable p m = (r : ℕ) → r < G .structure .resources → Pays (G .bounds r) (p .stock r) (cost p m r) (charge p m r)
 
   abbrev pub Allowed : Position → ℕ → Type 0
   Allowed p m = Move p m × Affordable p m
 
-  -- where a move and a reply lead
+  -- where a move and a reply lead; the row's bound stays the ceiling, from whatever stock
   abbrev pub outcome : Position → ℕ → ℕ → Position
   outcome p m r = record {
     state = G .structure .next (p .state) (digit (m + r));
-    stock = λ j. remaining (G .bounds j) (p .stock j) (cost p m j);
+    stock = λ j. remaining (G .bounds j) (p .stock j) (cost p m j) (charge p m j);
   }

@@ -13,11 +13,11 @@ use Rattle.block.specs.Layout.{Block, Strategic}
 use Rattle.block.specs.Inner.Valid.{RowFits}
 use Rattle.game.specs.Rbatl as R
 use Rattle.game.specs.Rbatl.{Bounds, Formula, Sat, Can}
-use Rattle.game.specs.Position.{Position, IsPosition, full, budget}
+use Rattle.game.specs.Position.{full}
 use Rattle.game.specs.Play as P
 use Rattle.game.specs.Play.{Objective, True, CoalitionWins}
 use Rattle.game.specs.Model.{structureOf, coalitionOf, boundsOf, byKind, formulaWith, formulasBelow, formulaOf, RowTrue, RowTrueWith, arenaOf, objectiveOf}
-use Rattle.game.proofs.Bridge.Truth.{full-fits, full-budget, can-enforces}
+use Rattle.game.proofs.Bridge.Truth.{can-enforces}
 use Rattle.game.proofs.Bridge.Proper.{Proper}
 
 -- the formulas below row i are those of their own rows
@@ -47,13 +47,13 @@ module _ (b : Block) (proper : Proper (structureOf b)) (i : ℕ) (row : RowFits 
         (R.prop (L.left b i)) (R.not left) (R.or left right) (R.next A bounds left) (R.always A bounds left) (R.until A bounds left right)
 
     -- the formula of a strategic row, with its own bounds or others
-    next-formula : L.kind b i ≡ L.nextKind → formulaWith b i bounds (formulasBelow b i) ≡ R.next (coalitionOf b i) bounds (formulaOf b (L.left b i))
+    pub next-formula : L.kind b i ≡ L.nextKind → formulaWith b i bounds (formulasBelow b i) ≡ R.next (coalitionOf b i) bounds (formulaOf b (L.left b i))
     next-formula e = ap standsFor e ∙ ap (R.next (coalitionOf b i) bounds) (left-formula (omega arith))
 
-    always-formula : L.kind b i ≡ L.alwaysKind → formulaWith b i bounds (formulasBelow b i) ≡ R.always (coalitionOf b i) bounds (formulaOf b (L.left b i))
+    pub always-formula : L.kind b i ≡ L.alwaysKind → formulaWith b i bounds (formulasBelow b i) ≡ R.always (coalitionOf b i) bounds (formulaOf b (L.left b i))
     always-formula e = ap standsFor e ∙ ap (R.always (coalitionOf b i) bounds) (left-formula (omega arith))
 
-    until-formula : L.kind b i ≡ L.untilKind → formulaWith b i bounds (formulasBelow b i) ≡ R.until (coalitionOf b i) bounds (formulaOf b (L.left b i)) (formulaOf b (L.right b i))
+    pub until-formula : L.kind b i ≡ L.untilKind → formulaWith b i bounds (formulasBelow b i) ≡ R.until (coalitionOf b i) bounds (formulaOf b (L.left b i)) (formulaOf b (L.right b i))
     until-formula e = ap standsFor e ∙ ap₂ (R.until (coalitionOf b i) bounds) (left-formula (omega arith)) (right-formula (inr e))
 
   -- and of a row of another kind
@@ -82,27 +82,22 @@ module _ (b : Block) (proper : Proper (structureOf b)) (i : ℕ) (row : RowFits 
   pub until-objective : L.kind b i ≡ L.untilKind → objectiveOf b i ≡ P.until (RowTrue b (L.left b i)) (RowTrue b (L.right b i))
   until-objective e = ap asksFor e
 
-  -- a strategic row with a position's stock for bounds is true exactly where the coalition wins there
+  -- a strategic row is true exactly where the coalition wins at full stock
   module _ (strategic : Strategic (L.kind b i)) where
-    pub with-wins : (p : Position) → IsPosition (arenaOf b i) p → (bounds : Bounds) → ((r : ℕ) → r < L.resources b → bounds r ≡ budget (arenaOf b i) p r)
-        → RowTrueWith b i bounds (p .state) ↔ CoalitionWins (arenaOf b i) (objectiveOf b i) p
-    with-wins p fits bounds same = go (ℕ-discrete (L.kind b i) L.nextKind) (ℕ-discrete (L.kind b i) L.alwaysKind)
+    pub row-wins : (q : ℕ) → q < L.states b → RowTrue b i q ↔ CoalitionWins (arenaOf b i) (objectiveOf b i) (full (arenaOf b i) q)
+    row-wins q l = go (ℕ-discrete (L.kind b i) L.nextKind) (ℕ-discrete (L.kind b i) L.alwaysKind)
       where
-        wins : (φ : Formula) (t : Objective) → formulaWith b i bounds (formulasBelow b i) ≡ φ → objectiveOf b i ≡ t
-            → (Sat (structureOf b) φ (p .state) ↔ CoalitionWins (arenaOf b i) t p)
-            → RowTrueWith b i bounds (p .state) ↔ CoalitionWins (arenaOf b i) (objectiveOf b i) p
-        wins φ t formula objective = subst₂ (λ (φ : Formula) (t : Objective). Sat (structureOf b) φ (p .state) ↔ CoalitionWins (arenaOf b i) t p) (sym formula) (sym objective)
+        wins : (φ : Formula) (t : Objective) → formulaOf b i ≡ φ → objectiveOf b i ≡ t
+            → (Sat (structureOf b) φ q ↔ CoalitionWins (arenaOf b i) t (full (arenaOf b i) q))
+            → RowTrue b i q ↔ CoalitionWins (arenaOf b i) (objectiveOf b i) (full (arenaOf b i) q)
+        wins φ t formula objective = subst₂ (λ (φ : Formula) (t : Objective). Sat (structureOf b) φ q ↔ CoalitionWins (arenaOf b i) t (full (arenaOf b i) q)) (sym formula) (sym objective)
 
-        at : (t : Objective) → Can (structureOf b) (coalitionOf b i) bounds (True t) (p .state) ↔ CoalitionWins (arenaOf b i) t p
-        at t = can-enforces (arenaOf b i) proper (True t) p fits bounds same
+        at : (t : Objective) → Can (structureOf b) (coalitionOf b i) (boundsOf b i) (True t) q ↔ CoalitionWins (arenaOf b i) t (full (arenaOf b i) q)
+        at t = can-enforces (arenaOf b i) proper (True t) q l
 
-        go : Dec (L.kind b i ≡ L.nextKind) → Dec (L.kind b i ≡ L.alwaysKind) → RowTrueWith b i bounds (p .state) ↔ CoalitionWins (arenaOf b i) (objectiveOf b i) p
-        go (yes e) _ = wins _ _ (next-formula bounds e) (next-objective e) (at (P.next (RowTrue b (L.left b i))))
-        go (no _) (yes e) = wins _ _ (always-formula bounds e) (always-objective e) (at (P.always (RowTrue b (L.left b i))))
+        go : Dec (L.kind b i ≡ L.nextKind) → Dec (L.kind b i ≡ L.alwaysKind) → RowTrue b i q ↔ CoalitionWins (arenaOf b i) (objectiveOf b i) (full (arenaOf b i) q)
+        go (yes e) _ = wins _ _ (next-formula (boundsOf b i) e) (next-objective e) (at (P.next (RowTrue b (L.left b i))))
+        go (no _) (yes e) = wins _ _ (always-formula (boundsOf b i) e) (always-objective e) (at (P.always (RowTrue b (L.left b i))))
         go (no ne) (no na) =
             let e : L.kind b i ≡ L.untilKind = omega arith in
-            wins _ _ (until-formula bounds e) (until-objective e) (at (P.until (RowTrue b (L.left b i)) (RowTrue b (L.right b i))))
-
-    -- and with its own bounds at full stock
-    pub row-wins : (q : ℕ) → q < L.states b → RowTrue b i q ↔ CoalitionWins (arenaOf b i) (objectiveOf b i) (full (arenaOf b i) q)
-    row-wins q l = with-wins (full (arenaOf b i) q) (full-fits (arenaOf b i) q l) (boundsOf b i) (λ r _. full-budget (arenaOf b i) q r)
+            wins _ _ (until-formula (boundsOf b i) e) (until-objective e) (at (P.until (RowTrue b (L.left b i)) (RowTrue b (L.right b i))))

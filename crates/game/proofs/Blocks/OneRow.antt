@@ -45,7 +45,8 @@ module _ {i : ℕ} {Changed : ℕ → Type 0} {b b′ : Block} (valid : Valid b)
     states = same-states valid inside only;
     holds = λ p q l. ap (λ (m : ℕ). bit m p) (same-mask valid inside only q l);
     actions = same-count valid inside only;
-    cost = same-cost valid inside only;
+    cost = λ q a k r l la lk lr. ap L.taken (same-cost valid inside only q a k r l la lk lr);
+    charge = λ q a k r l la lk lr. ap L.given (same-cost valid inside only q a k r l la lk lr);
     combine = λ r x y. ap (λ (k : ℕ). combineOf k x y) (same-kind valid inside only r);
     next = λ q m l available.
         ap (λ (n : ℕ). L.next b′ q (joint n m)) (same-agents valid inside only)

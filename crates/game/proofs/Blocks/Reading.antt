@@ -1,18 +1,18 @@
 -- What the code reads of a block, as the definitions say it: the next state after a move and a reply stands at their sum. Assumes nothing.
 use mathlib.Core.Bool.{Bool, cond}
 use mathlib.Core.Path.{_≡_, sym, _∙_, ap, subst}
-use Prim.Native.Nat.{ℕ, _+_, _-_, _/_, _%_, _^_, _≤_, _<_}
+use Prim.Native.Nat.{ℕ, _+_, _-_, _/_, _%_, _^_, _≤_, _<_, min}
 use native.Mathlib.Nat.{div-div-eq-div-mul, pow-suc, pow-le-pow-right}
 use native.Mathlib.Numerals.{add-one}
 use native.Mathlib.Omega.{arith}
 use lib.Dec.{eqb}
-use borrow.Author.Tests.{eq-eqb, ne-eqb, lt-ltb}
+use borrow.Author.Tests.{eq-eqb, ne-eqb, lt-ltb, le-ltb}
 use Rattle.block.specs.Layout as L
 use Rattle.block.specs.Layout.{Block, digit, Strategic}
 use Rattle.block.specs.Inner.Valid.{Valid, RowFits}
-use Rattle.game.specs.Rbatl.{Bound, limit, unlimited, costUpTo}
-use Rattle.game.specs.Position.{Position, remaining, MoveOf, Move, Reply, outcome}
-use Rattle.game.specs.Inner.Stocks.{taken}
+use Rattle.game.specs.Rbatl.{Bound, limit, unlimited, fullStock, costUpTo, sumUpTo, moveCost, moveCharge}
+use Rattle.game.specs.Position.{Position, MoveOf, Move, Reply, outcome}
+use Rattle.game.specs.Inner.Stocks.{taken, given}
 use Rattle.game.specs.Model.{bit, combineOf, structureOf, boundOf, coalitionOf, boundsBy, boundsOf, arenaOf}
 use Rattle.game.proofs.Numbers.Decide.{lt?}
 use Rattle.game.proofs.Numbers.Joint.{joint-below, joint-digit}
@@ -30,14 +30,33 @@ module _ (b : Block) (proper : Proper (structureOf b)) (i : ℕ) (p : Position) 
   pub outcome-state : outcome (arenaOf b i) p m r .state ≡ L.next b (p .state) (m + r)
   outcome-state = ap (L.next b (p .state)) (joint-digit (L.agents b) (m + r) sum-below)
 
+-- a byte that passes takes at most 15, and gives nothing where it is no charge
+taken-small : (c : ℕ) → (15 < c → L.chargeByte ≤ c) → L.taken c ≤ 15
+taken-small c fits = go (lt? c L.chargeByte)
+  where
+    go : Dec (c < L.chargeByte) → L.taken c ≤ 15
+    go (yes less) = rw (lt-ltb c L.chargeByte less) (at-most (lt? 15 c))
+      where
+        at-most : Dec (15 < c) → c ≤ 15
+        at-most (yes more) = absurd (omega (arith, fits more))
+        at-most (no few) = omega arith
+    go (no more) = let charge : L.chargeByte ≤ c = omega arith in rw (le-ltb c L.chargeByte charge) (omega arith)
+
+given-none : (c : ℕ) → (L.chargeByte ≤ c → ⊥) → L.given c ≡ 0
+given-none c none = go (lt? c L.chargeByte)
+  where
+    go : Dec (c < L.chargeByte) → L.given c ≡ 0
+    go (yes less) = rw (lt-ltb c L.chargeByte less)
+    go (no more) = absurd (none (omega arith))
+
 -- one agent's part of a move's cost, where it is in the team or not
 abbrev by-part : Block → ℕ → ℕ → ℕ → ℕ → ℕ → Bool → ℕ
 by-part b team m s j a t =
     let before = costUpTo (structureOf b) (bit team) a s (digit m) j in
-    cond t (combineOf (L.resourceKind b j) before (L.cost b s a (digit m a) j)) before
+    cond t (combineOf (L.resourceKind b j) before (L.taken (L.cost b s a (digit m a) j))) before
 
 module _ (b : Block) (valid : Valid b) (team m s j a : ℕ) (state : s < L.states b) (resource : j < L.resources b) (agent : a < L.agents b) where
-  pub cost-member : team / 2 ^ a % 2 ≡ 1 → costUpTo (structureOf b) (bit team) (a + 1) s (digit m) j ≡ combineOf (L.resourceKind b j) (costUpTo (structureOf b) (bit team) a s (digit m) j) (L.cost b s a (m / 4 ^ a % 4) j)
+  pub cost-member : team / 2 ^ a % 2 ≡ 1 → costUpTo (structureOf b) (bit team) (a + 1) s (digit m) j ≡ combineOf (L.resourceKind b j) (costUpTo (structureOf b) (bit team) a s (digit m) j) (L.taken (L.cost b s a (m / 4 ^ a % 4) j))
   cost-member e =
       ap (λ (n : ℕ). costUpTo (structureOf b) (bit team) n s (digit m) j) (add-one a)
       ∙ ap (by-part b team m s j a) (eq-eqb (team / 2 ^ a % 2) 1 e)
@@ -47,8 +66,31 @@ module _ (b : Block) (valid : Valid b) (team m s j a : ℕ) (state : s < L.state
       ap (λ (n : ℕ). costUpTo (structureOf b) (bit team) n s (digit m) j) (add-one a)
       ∙ ap (by-part b team m s j a) (ne-eqb (team / 2 ^ a % 2) 1 ne)
 
-  pub cost-small : MoveOf (structureOf b) (bit team) s m → team / 2 ^ a % 2 ≡ 1 → L.cost b s a (m / 4 ^ a % 4) j ≤ 15
-  cost-small move e = valid .cost-fits s a (digit m a) j state agent (subst (λ (t : Bool). cond t (digit m a < L.count b s a) (digit m a ≡ 0)) (eq-eqb (team / 2 ^ a % 2) 1 e) (move .1 a agent)) resource
+  -- what the team's agents among the first a give, where one more is in the team or not
+  abbrev charges : ℕ → ℕ
+  charges n = L.given (L.cost b s n (digit m n) j)
+
+  pub charge-member : team / 2 ^ a % 2 ≡ 1 → sumUpTo (structureOf b) (bit team) (a + 1) charges ≡ sumUpTo (structureOf b) (bit team) a charges + L.given (L.cost b s a (m / 4 ^ a % 4) j)
+  charge-member e =
+      ap (λ (n : ℕ). sumUpTo (structureOf b) (bit team) n charges) (add-one a)
+      ∙ ap (λ (t : Bool). sumUpTo (structureOf b) (bit team) a charges + cond t (charges a) 0) (eq-eqb (team / 2 ^ a % 2) 1 e)
+
+  pub charge-other : (team / 2 ^ a % 2 ≡ 1 → ⊥) → sumUpTo (structureOf b) (bit team) (a + 1) charges ≡ sumUpTo (structureOf b) (bit team) a charges
+  charge-other ne =
+      ap (λ (n : ℕ). sumUpTo (structureOf b) (bit team) n charges) (add-one a)
+      ∙ ap (λ (t : Bool). sumUpTo (structureOf b) (bit team) a charges + cond t (charges a) 0) (ne-eqb (team / 2 ^ a % 2) 1 ne)
+      ∙ omega arith
+
+  -- a team's agent has its action
+  member-acts : MoveOf (structureOf b) (bit team) s m → team / 2 ^ a % 2 ≡ 1 → digit m a < L.count b s a
+  member-acts move e = subst (λ (t : Bool). cond t (digit m a < L.count b s a) (digit m a ≡ 0)) (eq-eqb (team / 2 ^ a % 2) 1 e) (move .1 a agent)
+
+  pub cost-small : MoveOf (structureOf b) (bit team) s m → team / 2 ^ a % 2 ≡ 1 → L.taken (L.cost b s a (m / 4 ^ a % 4) j) ≤ 15
+  cost-small move e = taken-small (L.cost b s a (m / 4 ^ a % 4) j) (valid .cost-fits s a (digit m a) j state agent (member-acts move e) resource)
+
+  -- nothing is given of a resource that does not sum
+  pub charge-none : MoveOf (structureOf b) (bit team) s m → team / 2 ^ a % 2 ≡ 1 → L.resourceKind b j ≡ L.maxKind → L.given (L.cost b s a (m / 4 ^ a % 4) j) ≡ 0
+  charge-none move e kind = given-none (L.cost b s a (m / 4 ^ a % 4) j) (λ charge. valid .charge-sums s a (digit m a) j state agent (member-acts move e) resource charge kind)
 
 -- what is left of a number after one more digit
 pub shift : (n d a k : ℕ) → k ≡ n / d ^ a → k / d ≡ n / d ^ (a + 1)
@@ -80,14 +122,15 @@ module _ (b : Block) (i j : ℕ) (resource : j < L.resources b) where
       go (yes h) = absurd (ne (row .bound-fits strategic j resource h))
       go (no h) = omega arith
 
-  pub remaining-unlimited : (stock c : ℕ) → L.bound b i j ≡ L.unlimited → remaining (boundsOf b i j) stock c ≡ 0
-  remaining-unlimited stock c e = ap (λ (x : Bound). remaining x stock c) (bound-unlimited e)
+  -- what a move takes of a resource, and what it gives
+  pub taken-unlimited : (c g : ℕ) → L.bound b i j ≡ L.unlimited → taken (boundsOf b i j) c g ≡ 0
+  taken-unlimited c g e = ap (λ (x : Bound). taken x c g) (bound-unlimited e)
 
-  pub remaining-limited : (stock c : ℕ) → (L.bound b i j ≡ L.unlimited → ⊥) → remaining (boundsOf b i j) stock c ≡ stock - c
-  remaining-limited stock c ne = ap (λ (x : Bound). remaining x stock c) (bound-limited ne)
+  pub taken-limited : (c g : ℕ) → (L.bound b i j ≡ L.unlimited → ⊥) → taken (boundsOf b i j) c g ≡ c - g
+  taken-limited c g ne = ap (λ (x : Bound). taken x c g) (bound-limited ne)
 
-  pub taken-unlimited : (c : ℕ) → L.bound b i j ≡ L.unlimited → taken (boundsOf b i j) c ≡ 0
-  taken-unlimited c e = ap (λ (x : Bound). taken x c) (bound-unlimited e)
+  pub given-unlimited : (c g : ℕ) → L.bound b i j ≡ L.unlimited → given (boundsOf b i j) c g ≡ 0
+  given-unlimited c g e = ap (λ (x : Bound). given x c g) (bound-unlimited e)
 
-  pub taken-limited : (c : ℕ) → (L.bound b i j ≡ L.unlimited → ⊥) → taken (boundsOf b i j) c ≡ c
-  taken-limited c ne = ap (λ (x : Bound). taken x c) (bound-limited ne)
+  pub given-limited : (c g : ℕ) → (L.bound b i j ≡ L.unlimited → ⊥) → given (boundsOf b i j) c g ≡ min (L.bound b i j) (g - c)
+  given-limited c g ne = ap (λ (x : Bound). given x c g) (bound-limited ne)

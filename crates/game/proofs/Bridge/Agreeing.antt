@@ -3,10 +3,10 @@
 use mathlib.Core.Bool.{Bool, true, false, cond}
 use mathlib.Core.Logic.{_↔_, inl, inr}
 use mathlib.Core.Path.{_≡_, refl, sym, _∙_, ap, ap₂, subst}
-use Prim.Native.Nat.{ℕ, zero, suc, _≤_, _<_}
+use Prim.Native.Nat.{ℕ, zero, suc, _+_, _≤_, _<_}
 use native.Mathlib.Omega.{arith}
 use lib.Dec.{T}
-use Rattle.game.specs.Rbatl.{Bounds, Coalition, Computation, Fits, Formula, prop, not, or, next, always, until, Joint, Strategy, Structure, Available, IsMove, Outcome, costUpTo, moveCost, IsStrategy, Consistent, prefix, spent, Can, Sat}
+use Rattle.game.specs.Rbatl.{Bounds, Coalition, Computation, Pays, remaining, Formula, prop, not, or, next, always, until, Joint, Strategy, Structure, Available, IsMove, Outcome, costUpTo, moveCost, sumUpTo, moveCharge, IsStrategy, Consistent, prefix, stockAfter, fullStock, Can, Sat}
 use Rattle.game.proofs.Bridge.Proper.{Proper}
 use Rattle.game.proofs.Bridge.Plays.{moves, stays-inside}
 
@@ -17,6 +17,7 @@ pub record Agrees (S S′ : Structure) : Type 0 where
   pub holds : (p q : ℕ) → q < S .states → S′ .holds p q ≡ S .holds p q
   pub actions : (q a : ℕ) → q < S .states → a < S .agents → S′ .actions q a ≡ S .actions q a
   pub cost : (q a k r : ℕ) → q < S .states → a < S .agents → k < S .actions q a → r < S .resources → S′ .cost q a k r ≡ S .cost q a k r
+  pub charge : (q a k r : ℕ) → q < S .states → a < S .agents → k < S .actions q a → r < S .resources → S′ .charge q a k r ≡ S .charge q a k r
   pub combine : (r x y : ℕ) → S′ .combine r x y ≡ S .combine r x y
   pub next : (q : ℕ) (m : Joint) → q < S .states → Available S q m → S′ .next q m ≡ S .next q m
 
@@ -35,6 +36,10 @@ module _ {S S′ : Structure} (h : Agrees S S′) where
         let lq : q < S .states = omega (arith, h .states) in
         let lA : a < S .agents = omega (arith, h .agents) in
         sym (h .cost q a k r lq lA (omega (arith, h .actions q a lq lA)) (omega (arith, h .resources)));
+    charge = λ q a k r l la lk lr.
+        let lq : q < S .states = omega (arith, h .states) in
+        let lA : a < S .agents = omega (arith, h .agents) in
+        sym (h .charge q a k r lq lA (omega (arith, h .actions q a lq lA)) (omega (arith, h .resources)));
     combine = λ r x y. sym (h .combine r x y);
     next = λ q m l available.
         let lq : q < S .states = omega (arith, h .states) in
@@ -57,6 +62,16 @@ module _ {S S′ : Structure} (h : Agrees S S′) where
         go true acts before = h .combine r _ _ ∙ ap₂ (S .combine r) before (h .cost q n (σ n) r l (omega arith) (acts tt) lr)
         go false acts before = before
 
+    -- and what it gives
+    charge-same : (q : ℕ) (σ : Joint) (r : ℕ) → q < S .states → IsMove S A q σ → r < S .resources → (n : ℕ) → n ≤ S .agents → sumUpTo S′ A n (λ a. S′ .charge q a (σ a) r) ≡ sumUpTo S A n (λ a. S .charge q a (σ a) r)
+    charge-same q σ r l move lr zero few = refl
+    charge-same q σ r l move lr (suc n) few = go (A n) (move n (omega arith)) (charge-same q σ r l move lr n (omega arith))
+      where
+        go : (t : Bool) → (T t → σ n < S .actions q n) → sumUpTo S′ A n (λ a. S′ .charge q a (σ a) r) ≡ sumUpTo S A n (λ a. S .charge q a (σ a) r)
+            → sumUpTo S′ A n (λ a. S′ .charge q a (σ a) r) + cond t (S′ .charge q n (σ n) r) 0 ≡ sumUpTo S A n (λ a. S .charge q a (σ a) r) + cond t (S .charge q n (σ n) r) 0
+        go true acts before = omega (arith, h .charge q n (σ n) r l (omega arith) (acts tt) lr)
+        go false acts before = omega arith
+
     module _ (proper′ : Proper S′) (F : Strategy) (strategy : IsStrategy S A F) where
       strategy-on : IsStrategy S′ A F
       strategy-on q past l a la t =
@@ -71,12 +86,19 @@ module _ {S S′ : Structure} (h : Agrees S S′) where
         consistent-back : Consistent S A F λs
         consistent-back i = outcome-back (λs i) (F (prefix λs i)) (λs (suc i)) (inside i) (consistent i)
 
-        spent-same : (n r : ℕ) → r < S .resources → spent S′ A F λs n r ≡ spent S A F λs n r
-        spent-same zero r lr = refl
-        spent-same (suc n) r lr =
-            let here : moveCost S′ A (λs n) (F (prefix λs n)) r ≡ moveCost S A (λs n) (F (prefix λs n)) r =
-            ap (λ (k : ℕ). costUpTo S′ A k (λs n) (F (prefix λs n)) r) (h .agents) ∙ cost-same (λs n) (F (prefix λs n)) r (inside n) (moves S A F strategy λs n (inside n)) lr (S .agents) (omega arith) in
-            omega (arith, spent-same n r lr, here)
+        -- what its moves take and give, and what they leave
+        module _ (r : ℕ) (lr : r < S .resources) where
+          taken-same : (n : ℕ) → moveCost S′ A (λs n) (F (prefix λs n)) r ≡ moveCost S A (λs n) (F (prefix λs n)) r
+          taken-same n = ap (λ (k : ℕ). costUpTo S′ A k (λs n) (F (prefix λs n)) r) (h .agents) ∙ cost-same (λs n) (F (prefix λs n)) r (inside n) (moves S A F strategy λs n (inside n)) lr (S .agents) (omega arith)
+
+          given-same : (n : ℕ) → moveCharge S′ A (λs n) (F (prefix λs n)) r ≡ moveCharge S A (λs n) (F (prefix λs n)) r
+          given-same n = ap (λ (k : ℕ). sumUpTo S′ A k (λ a. S′ .charge (λs n) a (F (prefix λs n) a) r)) (h .agents) ∙ charge-same (λs n) (F (prefix λs n)) r (inside n) (moves S A F strategy λs n (inside n)) lr (S .agents) (omega arith)
+
+          stock-same : (b : Bounds) (start : ℕ → ℕ) (n : ℕ) → stockAfter S′ A b start F λs n r ≡ stockAfter S A b start F λs n r
+          stock-same b start zero = refl
+          stock-same b start (suc n) =
+              ap (λ (s : ℕ). remaining (b r) s (moveCost S′ A (λs n) (F (prefix λs n)) r) (moveCharge S′ A (λs n) (F (prefix λs n)) r)) (stock-same b start n)
+              ∙ ap₂ (remaining (b r) (stockAfter S A b start F λs n r)) (taken-same n) (given-same n)
 
     can-on : Proper S′ → (b : Bounds) (property property′ : Computation → Type 0) (q : ℕ) → q < S .states
         → ((λs : Computation) → ((i : ℕ) → λs i < S .states) → property λs → property′ λs) → Can S A b property q → Can S′ A b property′ q
@@ -86,7 +108,9 @@ module _ {S S′ : Structure} (h : Agrees S S′) where
       (λ λs starts consistent n r lr.
           let here : λs 0 < S .states = omega (arith, h .states) in
           let lR : r < S .resources = omega (arith, h .resources) in
-          subst (λ (c : ℕ). Fits c (b r)) (sym (spent-same proper′ F strategy λs here consistent n r lR)) (within λs here (consistent-back proper′ F strategy λs here consistent) n r lR)),
+          let paid = within λs here (consistent-back proper′ F strategy λs here consistent) n r lR in
+          let stock = stock-same proper′ F strategy λs here consistent r lR b (λ j. fullStock (b j)) n in
+          rw (stock, taken-same proper′ F strategy λs here consistent r lR n, given-same proper′ F strategy λs here consistent r lR n) paid),
       λ λs starts consistent.
           let here : λs 0 < S .states = subst (λ (x : ℕ). x < S .states) (sym starts) l in
           tells λs (inside proper′ F strategy λs here consistent) (met λs starts (consistent-back proper′ F strategy λs here consistent)),

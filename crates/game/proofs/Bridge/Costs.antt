@@ -43,11 +43,15 @@ before-last : {a n : ℕ} → a < suc n → a ≤ n
 before-last h = omega arith
 
 module _ (S : Structure) (A : Coalition) (q : ℕ) (σ : Joint) (r : ℕ) where
-  sum-up-to : ((x y : ℕ) → S .combine r x y ≡ x + y) → (n : ℕ) → costUpTo S A n q σ r ≡ sumUpTo S A n q σ r
+  -- what each agent's own action costs
+  abbrev costs : ℕ → ℕ
+  costs a = S .cost q a (σ a) r
+
+  sum-up-to : ((x y : ℕ) → S .combine r x y ≡ x + y) → (n : ℕ) → costUpTo S A n q σ r ≡ sumUpTo S A n costs
   sum-up-to adds zero = refl
   sum-up-to adds (suc n) = go (A n) (sum-up-to adds n)
     where
-      go : (t : Bool) → costUpTo S A n q σ r ≡ sumUpTo S A n q σ r → cond t (S .combine r (costUpTo S A n q σ r) (S .cost q n (σ n) r)) (costUpTo S A n q σ r) ≡ sumUpTo S A n q σ r + cond t (S .cost q n (σ n) r) 0
+      go : (t : Bool) → costUpTo S A n q σ r ≡ sumUpTo S A n costs → cond t (S .combine r (costUpTo S A n q σ r) (S .cost q n (σ n) r)) (costUpTo S A n q σ r) ≡ sumUpTo S A n costs + cond t (costs n) 0
       go true before = adds (costUpTo S A n q σ r) (S .cost q n (σ n) r) ∙ omega arith
       go false before = omega arith
 
@@ -93,8 +97,8 @@ module _ (b : Block) (A : Coalition) (q : ℕ) (σ : Joint) (r : ℕ) where
   pub block-sum-cost : L.resourceKind b r ≡ L.sumKind → moveCost (structureOf b) A q σ r ≡ sumCost (structureOf b) A q σ r
   block-sum-cost e = sum-cost (structureOf b) A q σ r (λ x y. rw e refl)
 
-  pub block-largest-cost : L.resourceKind b r ≡ L.maxKind → moveCost (structureOf b) A q σ r ≡ largest (λ a. member? (A a)) (λ a. L.cost b q a (σ a) r) (L.agents b)
+  pub block-largest-cost : L.resourceKind b r ≡ L.maxKind → moveCost (structureOf b) A q σ r ≡ largest (λ a. member? (A a)) (λ a. L.taken (L.cost b q a (σ a) r)) (L.agents b)
   block-largest-cost e = largest-cost (structureOf b) A q σ r (λ x y. rw e refl)
 
-  pub block-one-cost : (a : ℕ) → ((c : ℕ) → A c ≡ eqb c a) → a < L.agents b → moveCost (structureOf b) A q σ r ≡ L.cost b q a (σ a) r
+  pub block-one-cost : (a : ℕ) → ((c : ℕ) → A c ≡ eqb c a) → a < L.agents b → moveCost (structureOf b) A q σ r ≡ L.taken (L.cost b q a (σ a) r)
   block-one-cost a alone = one-cost (structureOf b) A q σ r a alone (combine-first (L.resourceKind b r))

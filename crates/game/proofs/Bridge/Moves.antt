@@ -6,7 +6,7 @@ use native.Mathlib.Nat.{zero-div}
 use native.Mathlib.Omega.{arith}
 use lib.Dec.{T}
 use Rattle.block.specs.Layout.{digit}
-use Rattle.game.specs.Rbatl.{Joint, Coalition, Structure, Available, IsMove, Agree, costUpTo, moveCost}
+use Rattle.game.specs.Rbatl.{Joint, Coalition, Structure, Available, IsMove, Agree, costUpTo, moveCost, sumUpTo, moveCharge}
 use Rattle.game.specs.Position.{joint, opponents, MoveOf, part}
 use Rattle.game.proofs.Numbers.Joint.{joint-cong, joint-below, joint-digit, digit-joint, joint-parts}
 use Rattle.game.proofs.Bridge.Proper.{Proper}
@@ -67,6 +67,25 @@ module _ (S : Structure) (proper : Proper S) where
       go true g before = rw (before, g tt) refl
       go false g before = before
 
+  pub sum-cong : (A : Coalition) (f g : ℕ → ℕ) (n : ℕ) → ((a : ℕ) → a < n → T (A a) → f a ≡ g a) → sumUpTo S A n f ≡ sumUpTo S A n g
+  sum-cong A f g zero e = refl
+  sum-cong A f g (suc n) e = go (A n) (e n (omega arith)) (sum-cong A f g n (λ a l. e a (omega arith)))
+    where
+      go : (t : Bool) → (T t → f n ≡ g n) → sumUpTo S A n f ≡ sumUpTo S A n g → sumUpTo S A n f + cond t (f n) 0 ≡ sumUpTo S A n g + cond t (g n) 0
+      go true h before = omega (arith, h tt)
+      go false h before = omega arith
+
+  pub sum-nothing : (A : Coalition) (f : ℕ → ℕ) (n : ℕ) → ((a : ℕ) → a < n → T (A a) → f a ≡ 0) → sumUpTo S A n f ≡ 0
+  sum-nothing A f zero e = refl
+  sum-nothing A f (suc n) e = go (A n) (e n (omega arith)) (sum-nothing A f n (λ a l. e a (omega arith)))
+    where
+      go : (t : Bool) → (T t → f n ≡ 0) → sumUpTo S A n f ≡ 0 → sumUpTo S A n f + cond t (f n) 0 ≡ 0
+      go true h before = omega (arith, h tt)
+      go false h before = omega arith
+
+  pub idle-charges-nothing : (A : Coalition) (q r : ℕ) → q < S .states → r < S .resources → moveCharge S A q (digit 0) r ≡ 0
+  idle-charges-nothing A q r l lr = sum-nothing A _ (S .agents) (λ a la _. rw (digit-idle a) (proper .idle-gives-nothing q a r l la lr))
+
   module _ (A : Coalition) (q : ℕ) where
     -- a move and a reply are the number of one joint action
     module _ (m r : ℕ) (move : MoveOf S A q m) (reply : MoveOf S (opponents A) q r) where
@@ -121,3 +140,6 @@ module _ (S : Structure) (proper : Proper S) where
 
       pub number-cost : (r : ℕ) → moveCost S A q (digit (joint (S .agents) (part A σ))) r ≡ moveCost S A q σ r
       number-cost r = cost-cong A q r (digit (joint (S .agents) (part A σ))) σ (S .agents) number-agrees
+
+      pub number-charge : (r : ℕ) → moveCharge S A q (digit (joint (S .agents) (part A σ))) r ≡ moveCharge S A q σ r
+      number-charge r = sum-cong A _ _ (S .agents) (λ a l t. ap (λ (k : ℕ). S .charge q a k r) (number-agrees a l t))

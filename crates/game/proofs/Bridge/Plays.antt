@@ -1,19 +1,19 @@
--- Plays on positions against the computations of document 003: each is the other with or without its stocks, and a strategy is within
--- a stock exactly if its moves are affordable all along. Assumes nothing.
+-- Plays on positions against the computations of document 003: each is the other with or without its stocks, which are those that a strategy
+-- leaves. Assumes nothing.
 use mathlib.Core.Bool.{Bool, true, false, cond}
 use mathlib.Core.List.{List, [], _∷_}
-use mathlib.Core.Path.{_≡_, refl, sym, _∙_, ap, fun-ext}
+use mathlib.Core.Path.{_≡_, refl, sym, _∙_, ap, ap₂, subst, subst₂, fun-ext}
 use Prim.Native.Nat.{ℕ, zero, suc, _+_, _<_}
 use native.Mathlib.Omega.{arith}
 use lib.Dec.{T}
 use Rattle.block.specs.Layout.{digit}
-use Rattle.game.specs.Rbatl.{Fits, Joint, Coalition, Structure, Strategy, Computation, prefix, IsMove, IsStrategy, Agree, Consistent, moveCost, spent}
-use Rattle.game.specs.Position.{Arena, Position, joint, opponents, MoveOf, IsPosition, budget, Move, Reply, cost, outcome, part}
-use Rattle.game.specs.Play.{Play, CounterStrategy, Turn, RecallStrategy, RecallCounter, states, spentOn, From, Follows, Answers, IsCounterStrategy, past, FollowsRecall, AnswersRecall, IsRecallCounter, Afforded, KeepsWithin}
+use Rattle.game.specs.Rbatl.{Pays, remaining, Joint, Coalition, Structure, Strategy, Computation, prefix, IsMove, IsStrategy, Agree, Consistent, moveCost, moveCharge, stockAfter}
+use Rattle.game.specs.Position.{Arena, Position, joint, opponents, MoveOf, IsPosition, Move, Reply, cost, charge, outcome, part}
+use Rattle.game.specs.Play.{Play, CounterStrategy, Turn, RecallStrategy, RecallCounter, states, spentOn, chargedOn, From, Follows, Answers, IsCounterStrategy, past, FollowsRecall, AnswersRecall, IsRecallCounter, Afforded, KeepsWithin}
 use Rattle.game.proofs.Numbers.Joint.{joint-cong, joint-parts, digit-joint}
 use Rattle.game.proofs.Bridge.Proper.{Proper}
-use Rattle.game.proofs.Bridge.Moves.{together-digit, together-available, number-move, number-agrees, number-cost}
-use Rattle.game.proofs.Numbers.Stocks.{Ledger, within-affordable, affordable-within, remaining-fits}
+use Rattle.game.proofs.Bridge.Moves.{together-digit, together-available, number-move, number-agrees, number-cost, number-charge}
+use Rattle.game.proofs.Numbers.Stocks.{Ledger, affordable-within, remaining-fits}
 
 -- a strategy's move at the end of a prefix
 pub moves : (S : Structure) (A : Coalition) (F : Strategy) → IsStrategy S A F → (λs : Computation) (i : ℕ) → λs i < S .states → IsMove S A (λs i) (F (prefix λs i))
@@ -31,10 +31,17 @@ module _ (G : Arena) (proper : Proper (G .structure)) where
   abbrev pub moveBy : Strategy → List ℕ → ℕ
   moveBy F h = joint (G .structure .agents) (part (G .coalition) (F h))
 
+  -- what the n-th move of a strategy takes along a computation, and what it gives
+  abbrev pub takesAt : Strategy → Computation → ℕ → ℕ → ℕ
+  takesAt F λs n r = moveCost (G .structure) (G .coalition) (λs n) (F (prefix λs n)) r
+
+  abbrev pub givesAt : Strategy → Computation → ℕ → ℕ → ℕ
+  givesAt F λs n r = moveCharge (G .structure) (G .coalition) (λs n) (F (prefix λs n)) r
+
   pub outcome-fits : (p : Position) (m r : ℕ) → IsPosition G p → Move G p m → Reply G p r → IsPosition G (outcome G p m r)
   outcome-fits p m r fits move reply = (
     proper .next-fits (p .state) (digit (m + r)) (fits .0) (together-available (G .structure) proper (G .coalition) (p .state) m r move reply),
-    λ j l. remaining-fits (G .bounds j) (p .stock j) (cost G p m j) (fits .1 j l),
+    λ j l. remaining-fits (G .bounds j) (p .stock j) (cost G p m j) (charge G p m j) (fits .1 j l),
   )
 
   pub at-fits : (P : Play G) (i : ℕ) → IsPosition G (P .at i)
@@ -83,36 +90,45 @@ module _ (G : Arena) (proper : Proper (G .structure)) where
           ∙ ap (λ (x : ℕ). digit x a) (follows i)
           ∙ number-agrees S proper A q inside σ (moves S A F strategy (states G P) i inside) a l t
 
-  -- the coalition's cost along the play is the cost of F
-  pub same-cost : (F : Strategy) → IsStrategy (G .structure) (G .coalition) F → (P : Play G) → Follows G F P → (n r : ℕ) → spent (G .structure) (G .coalition) F (states G P) n r ≡ spentOn G P n r
-  same-cost F strategy P follows zero r = refl
-  same-cost F strategy P follows (suc n) r = omega (arith, same-cost F strategy P follows n r, here)
-    where
-      q : ℕ
-      q = P .at n .state
+  -- what the moves of a play take and give is what F's take and give, and so are the stocks
+  module _ (F : Strategy) (strategy : IsStrategy (G .structure) (G .coalition) F) (P : Play G) (follows : Follows G F P) where
+    inside-at : (n : ℕ) → P .at n .state < G .structure .states
+    inside-at n = at-fits P n .0
 
-      inside : q < G .structure .states
-      inside = at-fits P n .0
+    move-at : (n : ℕ) → IsMove (G .structure) (G .coalition) (P .at n .state) (F (prefix (states G P) n))
+    move-at n = moves (G .structure) (G .coalition) F strategy (states G P) n (inside-at n)
 
-      here : moveCost (G .structure) (G .coalition) q (F (prefix (states G P) n)) r ≡ cost G (P .at n) (P .move n) r
-      here =
-          sym (number-cost (G .structure) proper (G .coalition) q inside (F (prefix (states G P) n)) (moves (G .structure) (G .coalition) F strategy (states G P) n inside) r)
-          ∙ ap (λ (m : ℕ). cost G (P .at n) m r) (sym (follows n))
+    pub same-cost : (n r : ℕ) → takesAt F (states G P) n r ≡ cost G (P .at n) (P .move n) r
+    same-cost n r =
+        sym (number-cost (G .structure) proper (G .coalition) (P .at n .state) (inside-at n) (F (prefix (states G P) n)) (move-at n) r)
+        ∙ ap (λ (m : ℕ). cost G (P .at n) m r) (sym (follows n))
 
-  ledger : (P : Play G) (r : ℕ) → Ledger (G .bounds r) (λ i. P .at i .stock r) (λ i. cost G (P .at i) (P .move i) r) (λ n. spentOn G P n r)
-  ledger P r = record { left = λ i. ap (λ (x : Position). x .stock r) (P .step i); none = refl; adds = λ i. refl }
+    pub same-charge : (n r : ℕ) → givesAt F (states G P) n r ≡ charge G (P .at n) (P .move n) r
+    same-charge n r =
+        sym (number-charge (G .structure) proper (G .coalition) (P .at n .state) (inside-at n) (F (prefix (states G P) n)) (move-at n) r)
+        ∙ ap (λ (m : ℕ). charge G (P .at n) m r) (sym (follows n))
 
-  -- each beginning within the first stock: every move affordable when its turn comes; and the other way round
-  pub affordable-along : (P : Play G) → ((n r : ℕ) → r < G .structure .resources → Fits (spentOn G P n r) (budget G (P .at 0) r)) → Afforded G P
-  affordable-along P within i r l = within-affordable (G .bounds r) _ _ _ (ledger P r) (λ n. within n r l) i
+    pub same-stock : (n r : ℕ) → stockAfter (G .structure) (G .coalition) (G .bounds) (P .at 0 .stock) F (states G P) n r ≡ P .at n .stock r
+    same-stock zero r = refl
+    same-stock (suc n) r =
+        ap (λ (s : ℕ). remaining (G .bounds r) s (takesAt F (states G P) n r) (givesAt F (states G P) n r)) (same-stock n r)
+        ∙ ap₂ (remaining (G .bounds r) (P .at n .stock r)) (same-cost n r) (same-charge n r)
+        ∙ sym (ap (λ (x : Position). x .stock r) (P .step n))
 
-  pub within-along : (P : Play G) → Afforded G P → (n r : ℕ) → r < G .structure .resources → Fits (spentOn G P n r) (budget G (P .at 0) r)
-  within-along P paid n r l = affordable-within (G .bounds r) _ _ _ (ledger P r) (λ i. paid i r l) n
+  ledger : (P : Play G) (r : ℕ) → Ledger (G .bounds r) (λ i. P .at i .stock r) (λ i. cost G (P .at i) (P .move i) r) (λ i. charge G (P .at i) (P .move i) r) (λ n. spentOn G P n r) (λ n. chargedOn G P n r)
+  ledger P r = record { left = λ i. ap (λ (x : Position). x .stock r) (P .step i); none = refl; adds = λ i. refl; nothing = refl; gives = λ i. refl }
+
+  -- where every move is affordable when its turn comes, each beginning stays within the first stock and what was given
+  pub within-along : (P : Play G) → Afforded G P → (n r : ℕ) → r < G .structure .resources → Pays (G .bounds r) (P .at 0 .stock r) (spentOn G P n r) (chargedOn G P n r)
+  within-along P paid n r l = affordable-within _ _ _ _ _ (G .bounds r) (ledger P r) (λ i. paid i r l) n
 
   -- a strategy within the stock pays for every move of its plays
   pub strategy-paid : (p : Position) (F : Strategy) → KeepsWithin G p F → (P : Play G) → From G p P → Follows G F P → Afforded G P
-  strategy-paid p F keeps P from follows = affordable-along P λ n r l.
-      rw (← same-cost F (keeps .0) P follows n r) (rw from (keeps .1 (states G P) (at-fits P 0 .0) (play-consistent F (keeps .0) P follows) n r l))
+  strategy-paid p F keeps P from follows i r l =
+      let paid = keeps .1 (states G P) (at-fits P 0 .0) (play-consistent F (keeps .0) P follows) i r l in
+      let stock = ap (λ (x : Position). stockAfter (G .structure) (G .coalition) (G .bounds) (x .stock) F (states G P) i r) (sym from) ∙ same-stock F (keeps .0) P follows i r in
+      subst₂ (λ (c g : ℕ). Pays (G .bounds r) (P .at i .stock r) c g) (same-cost F (keeps .0) P follows i r) (same-charge F (keeps .0) P follows i r)
+      (subst (λ (s : ℕ). Pays (G .bounds r) s (takesAt F (states G P) i r) (givesAt F (states G P) i r)) stock paid)
 
   -- a computation of F from a position's state is the states of a play that follows F
   module _ (F : Strategy) (strategy : IsStrategy (G .structure) (G .coalition) F) (λs : Computation) (consistent : Consistent (G .structure) (G .coalition) F λs) (p : Position) (fits : IsPosition G p) (starts : p .state ≡ λs 0) where

@@ -2,18 +2,18 @@
 -- so that the checker can compute with it. Assumes nothing.
 use mathlib.Core.Bool.{Bool, true, false, cond}
 use mathlib.Core.Path.{_≡_}
-use Prim.Native.Nat.{ℕ, _^_, _<_}
+use Prim.Native.Nat.{ℕ, _+_, _^_, _<_}
 use Rattle.block.specs.Layout.{digit}
-use Rattle.game.specs.Rbatl.{Bound, limit, unlimited, Fits, Coalition, Structure}
-use Rattle.game.specs.Position.{Arena, Position, places, opponents, MoveOf, IsPosition, budget, Reply, cost, Allowed, outcome}
+use Rattle.game.specs.Rbatl.{Bound, limit, unlimited, Pays, Coalition, Structure}
+use Rattle.game.specs.Position.{Arena, Position, places, opponents, MoveOf, IsPosition, Reply, cost, charge, Allowed, outcome}
 use Rattle.game.specs.Play.{Objective, next, always, until}
 use Rattle.game.specs.Table.{Table, never, rankAt}
 use Rattle.game.specs.Inner.Facts.{Claims}
 use Rattle.game.proofs.Numbers.Decide.{all-below, both?, eq?, implies?, le?, lt?, some-below}
 
-abbrev pub fits? : (n : ℕ) (b : Bound) → Dec (Fits n b)
-fits? n (limit k) = le? n k
-fits? n unlimited = yes tt
+abbrev pub pays? : (b : Bound) (s c g : ℕ) → Dec (Pays b s c g)
+pays? (limit k) s c g = le? c (s + g)
+pays? unlimited s c g = yes tt
 
 -- an action of a coalition's agent, or 0 for another agent
 abbrev pub acts? : (t : Bool) (k n : ℕ) → Dec (cond t (k < n) (k ≡ 0))
@@ -34,7 +34,7 @@ module _ (G : Arena) where
   abbrev pub allowed? : (p : Position) (m : ℕ) → Dec (Allowed G p m)
   allowed? p m =
       both? (move? (G .structure) (G .coalition) (p .state) m) λ _.
-      all-below (λ r. Fits (cost G p m r) (budget G p r)) (G .structure .resources) (λ r _. fits? (cost G p m r) (budget G p r))
+      all-below (λ r. Pays (G .bounds r) (p .stock r) (cost G p m r) (charge G p m r)) (G .structure .resources) (λ r _. pays? (G .bounds r) (p .stock r) (cost G p m r) (charge G p m r))
 
   abbrev pub reply? : (p : Position) (r : ℕ) → Dec (Reply G p r)
   reply? p r = move? (G .structure) (opponents (G .coalition)) (p .state) r

@@ -7,8 +7,8 @@ use native.Mathlib.Nat.{div-add-mod', mul-add-div-right, mul-add-mod-self-right,
 use native.Mathlib.Omega.{arith}
 use lib.Dec.{eqb}
 use borrow.Author.Tests.{eq-eqb, ne-eqb}
-use Rattle.game.specs.Rbatl.{Bound, limit, unlimited, Fits}
-use Rattle.game.specs.Position.{Arena, Position, places, stockBound, remaining, opponents, MoveOf, IsPosition, numberUpTo, number, positionsUpTo, positions, Reply, cost, Allowed, outcome}
+use Rattle.game.specs.Rbatl.{Bound, limit, unlimited, Pays, remaining}
+use Rattle.game.specs.Position.{Arena, Position, places, opponents, MoveOf, IsPosition, numberUpTo, number, positionsUpTo, positions, Reply, cost, charge, Allowed, outcome}
 
 pub places-positive : (b : Bound) → 0 < places b
 places-positive (limit n) = omega arith
@@ -48,8 +48,8 @@ module _ (G : Arena) where
   pub same-allowed : (p x : Position) (m : ℕ) → Same p x → Allowed G p m → Allowed G x m
   same-allowed p x m s (move, paid) = (
     subst (λ (q : ℕ). MoveOf (G .structure) (G .coalition) q m) (s .0) move,
-    λ r l. subst (λ (y : Position). Fits (cost G y m r) (stockBound (G .bounds r) (x .stock r))) {x = p} {y = record { state = x .state; stock = p .stock }} (ap (λ (q : ℕ). record { state = q; stock = p .stock }) (s .0))
-        (subst (λ (k : ℕ). Fits (cost G p m r) (stockBound (G .bounds r) k)) (s .1 r l) (paid r l)),
+    λ r l. subst (λ (y : Position). Pays (G .bounds r) (x .stock r) (cost G y m r) (charge G y m r)) {x = p} {y = record { state = x .state; stock = p .stock }} (ap (λ (q : ℕ). record { state = q; stock = p .stock }) (s .0))
+        (subst (λ (k : ℕ). Pays (G .bounds r) k (cost G p m r) (charge G p m r)) (s .1 r l) (paid r l)),
   )
 
   pub same-reply : (p x : Position) (r : ℕ) → Same p x → Reply G p r → Reply G x r
@@ -58,8 +58,8 @@ module _ (G : Arena) where
   pub same-outcome : (p x : Position) (m r : ℕ) → Same p x → Same (outcome G p m r) (outcome G x m r)
   same-outcome p x m r s = (
     ap (λ (q : ℕ). outcome G (record { state = q; stock = p .stock }) m r .state) (s .0),
-    λ j l. ap (λ (q : ℕ). remaining (G .bounds j) (p .stock j) (cost G (record { state = q; stock = p .stock }) m j)) (s .0)
-        ∙ ap (λ (k : ℕ). remaining (G .bounds j) k (cost G x m j)) (s .1 j l),
+    λ j l. ap (λ (q : ℕ). remaining (G .bounds j) (p .stock j) (cost G (record { state = q; stock = p .stock }) m j) (charge G (record { state = q; stock = p .stock }) m j)) (s .0)
+        ∙ ap (λ (k : ℕ). remaining (G .bounds j) k (cost G x m j) (charge G x m j)) (s .1 j l),
   )
 
   -- the position with number n, over the first k resources

@@ -1,39 +1,48 @@
--- One resource along a play: the costs so far stay within the first stock exactly if each cost stays within the stock then left.
--- Limited or not, one law. Assumes nothing.
+-- One resource along a play: where each cost is paid by the stock then left, what was taken so far stays within the first stock and what
+-- was given. Limited or not, one law. Assumes nothing.
 use mathlib.Core.Logic.{_↔_}
-use mathlib.Core.Path.{_≡_}
-use Prim.Native.Nat.{ℕ, zero, suc, _+_, _-_, _≤_, _<_}
+use mathlib.Core.Path.{_≡_, _∙_, ap}
+use Prim.Native.Nat.{ℕ, zero, suc, _+_, _-_, _≤_, _<_, min}
+use native.Mathlib.Decide.{decLt}
 use native.Mathlib.Omega.{arith}
-use Rattle.game.specs.Rbatl.{Bound, limit, unlimited, Fits}
-use Rattle.game.specs.Position.{stockBound, remaining, places}
-use Rattle.game.specs.Inner.Stocks.{taken}
+use Rattle.game.specs.Rbatl.{Bound, limit, unlimited, fullStock, Pays, remaining}
+use Rattle.game.specs.Position.{places}
+use Rattle.game.specs.Inner.Stocks.{taken, given}
 
--- stock, cost and total of one resource at each moment
-pub record Ledger (bound : Bound) (stock cost total : ℕ → ℕ) : Type 0 where
-  pub left : (i : ℕ) → stock (suc i) ≡ remaining bound (stock i) (cost i)
-  pub none : total 0 ≡ 0
-  pub adds : (i : ℕ) → total (suc i) ≡ total i + cost i
+-- stock, cost and charge of one resource at each moment, and what was taken and given before
+pub record Ledger (bound : Bound) (stock cost charge spent charged : ℕ → ℕ) : Type 0 where
+  pub left : (i : ℕ) → stock (suc i) ≡ remaining bound (stock i) (cost i) (charge i)
+  pub none : spent 0 ≡ 0
+  pub adds : (i : ℕ) → spent (suc i) ≡ spent i + cost i
+  pub nothing : charged 0 ≡ 0
+  pub gives : (i : ℕ) → charged (suc i) ≡ charged i + charge i
 
-what-is-left : (k : ℕ) (stock cost total : ℕ → ℕ) → Ledger (limit k) stock cost total → (n : ℕ) → stock n ≡ stock 0 - total n
-what-is-left k stock cost total L zero = omega (arith, L .none)
-what-is-left k stock cost total L (suc n) = omega (arith, what-is-left k stock cost total L n, L .left n, L .adds n)
+module _ (stock cost charge spent charged : ℕ → ℕ) where
+  what-is-left : (k : ℕ) → Ledger (limit k) stock cost charge spent charged → ((i : ℕ) → Pays (limit k) (stock i) (cost i) (charge i)) → (n : ℕ) → stock n + spent n ≤ stock 0 + charged n
+  what-is-left k L paid zero = omega (arith, L .none)
+  what-is-left k L paid (suc n) = omega (arith, what-is-left k L paid n, L .left n, L .adds n, L .gives n, paid n)
 
-pub within-affordable : (bound : Bound) (stock cost total : ℕ → ℕ) → Ledger bound stock cost total → ((n : ℕ) → Fits (total n) (stockBound bound (stock 0))) → (i : ℕ) → Fits (cost i) (stockBound bound (stock i))
-within-affordable (limit k) stock cost total L within i = omega (arith, what-is-left k stock cost total L i, within (suc i), L .adds i)
-within-affordable unlimited stock cost total L within i = tt
-
-pub affordable-within : (bound : Bound) (stock cost total : ℕ → ℕ) → Ledger bound stock cost total → ((i : ℕ) → Fits (cost i) (stockBound bound (stock i))) → (n : ℕ) → Fits (total n) (stockBound bound (stock 0))
-affordable-within unlimited stock cost total L paid n = tt
-affordable-within (limit k) stock cost total L paid zero = omega (arith, L .none)
-affordable-within (limit k) stock cost total L paid (suc n) =
-    omega (arith, affordable-within (limit k) stock cost total L paid n, what-is-left k stock cost total L n, paid n, L .adds n)
+  pub affordable-within : (bound : Bound) → Ledger bound stock cost charge spent charged → ((i : ℕ) → Pays bound (stock i) (cost i) (charge i)) → (n : ℕ) → Pays bound (stock 0) (spent n) (charged n)
+  affordable-within unlimited L paid n = tt
+  affordable-within (limit k) L paid n = omega (arith, what-is-left k L paid n)
 
 -- what remains is a stock place
-pub remaining-fits : (bound : Bound) (s c : ℕ) → s < places bound → remaining bound s c < places bound
-remaining-fits (limit k) s c l = omega arith
-remaining-fits unlimited s c l = omega arith
+pub remaining-fits : (bound : Bound) (s c g : ℕ) → s < places bound → remaining bound s c g < places bound
+remaining-fits (limit k) s c g l = omega arith
+remaining-fits unlimited s c g l = omega arith
 
--- a stock pays for a cost exactly if it has what the cost takes
-pub taken-fits : (bound : Bound) (s c : ℕ) → (taken bound c ≤ s) ↔ Fits c (stockBound bound s)
-taken-fits (limit k) s c = ((λ h. h), λ h. h)
-taken-fits unlimited s c = ((λ h. tt), λ h. omega arith)
+-- a stock pays a move exactly if it has what the move takes, and then it has that less, and what is given more, as far as there is room
+pub taken-pays : (bound : Bound) (s c g : ℕ) → (taken bound c g ≤ s) ↔ Pays bound s c g
+taken-pays (limit k) s c g = ((λ h. omega arith), λ h. omega arith)
+taken-pays unlimited s c g = ((λ h. tt), λ h. omega arith)
+
+pub remaining-net : (bound : Bound) (s c g : ℕ) → Pays bound s c g → remaining bound s c g ≡ min (fullStock bound) (s - taken bound c g + given bound c g)
+remaining-net (limit k) s c g paid = go (decLt c g)
+  where
+    room : (x e : ℕ) → min k (x + e) ≡ min k (x + min k e)
+    room x e = omega arith
+
+    go : Dec (c < g) → min k (s + g - c) ≡ min k (s - (c - g) + min k (g - c))
+    go (yes less) = ap (min k) {x = s + g - c} {y = s - (c - g) + (g - c)} (omega arith) ∙ room (s - (c - g)) (g - c)
+    go (no more) = ap (min k) {x = s + g - c} {y = s - (c - g) + (g - c)} (omega arith) ∙ room (s - (c - g)) (g - c)
+remaining-net unlimited s c g paid = omega arith

@@ -2,8 +2,8 @@
 use Prim.Native.Nat.{ℕ}
 use native.Mathlib.Omega.{arith}
 use mathlib.Core.Path.{_≡_}
-use Rattle.game.specs.Rbatl.{Bound, limit, unlimited, Fits}
-use Rattle.game.specs.Position.{Arena, Position, opponents, stockBound, IsPosition, Reply, Allowed, outcome}
+use Rattle.game.specs.Rbatl.{Bound, limit, unlimited, Pays}
+use Rattle.game.specs.Position.{Arena, Position, opponents, IsPosition, Reply, Allowed, outcome}
 use Rattle.game.specs.Inner.Facts.{CanForce, CanAnswer}
 use Rattle.game.proofs.Bridge.Proper.{Proper}
 use Rattle.game.proofs.Bridge.Moves.{idle-move, idle-costs-nothing}
@@ -11,11 +11,11 @@ use Rattle.game.proofs.Local.Decidable.{position?, allowed?}
 
 module _ (G : Arena) (proper : Proper (G .structure)) where
   pub idle-allowed : (p : Position) → IsPosition G p → Allowed G p 0
-  idle-allowed p fits = (idle-move (G .structure) proper (G .coalition) (p .state) (fits .0), λ r l. free (G .bounds r) _ _ (idle-costs-nothing (G .structure) proper (G .coalition) (p .state) r (fits .0) l (G .structure .agents) (omega arith)))
+  idle-allowed p fits = (idle-move (G .structure) proper (G .coalition) (p .state) (fits .0), λ r l. free (G .bounds r) _ _ _ (idle-costs-nothing (G .structure) proper (G .coalition) (p .state) r (fits .0) l (G .structure .agents) (omega arith)))
     where
-      free : (b : Bound) (c s : ℕ) → c ≡ 0 → Fits c (stockBound b s)
-      free (limit n) c s e = omega arith
-      free unlimited c s e = tt
+      free : (b : Bound) (s c g : ℕ) → c ≡ 0 → Pays b s c g
+      free (limit n) s c g e = omega arith
+      free unlimited s c g e = tt
 
   pub idle-reply : (p : Position) → IsPosition G p → Reply G p 0
   idle-reply p fits = idle-move (G .structure) proper (opponents (G .coalition)) (p .state) (fits .0)
