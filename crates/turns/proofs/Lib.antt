@@ -3,5 +3,7 @@ pub mod Bytes
 pub mod Numbering
 pub mod Opponents
 pub mod Tables
+pub mod Costs
+pub mod Totals
 pub mod TeamMoves
 pub mod Listing

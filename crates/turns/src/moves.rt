@@ -5,21 +5,25 @@ use block::joint;
 use block::layout;
 ghost use mathlib.Core.Path.{_≡_};
 ghost use Prim.Native.Nat.{ℕ, _*_, _^_, _≤_, _<_};
+ghost use lib.IntN.{subℕ, _+ℤ_};
+ghost use mir.Syntax.{w32};
+ghost use mir.Val.{SFits};
 ghost use Rattle.block.specs.Inner.Tests.{Decides};
-ghost use Rattle.block.specs.Layout.{maxAgents, maxActions, maxUnits, maxJoint, rows, states, resources, agents, kind, Strategic, digit};
+ghost use Rattle.block.specs.Layout.{maxAgents, maxActions, maxUnits, maxJoint, rows, states, resources, agents, kind, Strategic, sumKind, digit};
 ghost use Rattle.block.specs.Inner.Valid.{Valid};
-ghost use Rattle.game.specs.Rbatl.{moveCost};
+ghost use Rattle.game.specs.Rbatl.{moveCost, moveCharge};
 ghost use Rattle.game.specs.Position.{MoveOf};
-ghost use Rattle.game.specs.Model.{bit, combineOf, structureOf};
+ghost use Rattle.game.specs.Model.{bit, structureOf};
+ghost use Rattle.turns.specs.Inner.Costs.{combinedCost};
 ghost use Rattle.turns.specs.Inner.Rules.{PartsTable, ReplyTo, SideMove};
 
 // The mask of all agents.
 const ALL_AGENTS: usize = parts::TEAMS - 1;
 
 // What the costs of two agents come to in a resource of this kind: their sum, or the larger.
-fn combined(kind: usize, x: usize, y: usize) -> usize
-    requires { ⌜ (x ≤ maxAgents * maxUnits) × (y ≤ maxUnits) ⌝ }
-    ensures { λ r. ⌜ r ≡ combineOf kind x y ⌝ }
+fn combined(kind: usize, x: i32, y: i32) -> i32
+    requires { ⌜ (kind ≡ sumKind → SFits w32 (x +ℤ y)) ⌝ }
+    ensures { λ r. ⌜ r ≡ combinedCost kind x y ⌝ }
 {
     if kind == layout::SUM_KIND {
         return x + y;
@@ -30,16 +34,17 @@ fn combined(kind: usize, x: usize, y: usize) -> usize
     x
 }
 
-// What the move m of a team takes of resource j in state s: the costs of the team's agents, combined.
-pub fn cost(block: &[u8], s: usize, team: usize, m: usize, j: usize) -> usize
+// What the move m of a team costs of resource j in state s: the costs of the team's agents, combined; less than nothing where it gives.
+pub fn cost(block: &[u8], s: usize, team: usize, m: usize, j: usize) -> i32
     requires { ⌜ Valid (now block) ⌝ }
     requires { ⌜ (s < states (now block)) × (j < resources (now block)) ⌝ }
     requires { ⌜ MoveOf (structureOf (now block)) (bit team) s m ⌝ }
-    ensures { λ r. ⌜ (r ≡ moveCost (structureOf (now (block .entry))) (bit team) s (digit m) j) × (r ≤ maxAgents * maxUnits) ⌝ }
+    ensures { λ r. ⌜ r ≡ subℕ (moveCost (structureOf (now (block .entry))) (bit team) s (digit m) j) (moveCharge (structureOf (now (block .entry))) (bit team) s (digit m) j) ⌝ }
+    ensures { λ _. ⌜ (moveCost (structureOf (now (block .entry))) (bit team) s (digit m) j ≤ maxAgents * maxUnits) × (moveCharge (structureOf (now (block .entry))) (bit team) s (digit m) j ≤ maxAgents * maxUnits) ⌝ }
 {
     let kind = layout::resource_kind(block, j);
     let n = layout::agents(block);
-    let mut total = 0;
+    let mut total = 0i32;
     let mut rest = team;
     let mut k = m;
     for a in 0..n {

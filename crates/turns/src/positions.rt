@@ -3,14 +3,15 @@ use crate::moves;
 use block::layout;
 use block::widths::wide;
 ghost use mathlib.Core.Path.{_≡_};
-ghost use Prim.Native.Nat.{_*_, _≤_, _<_};
+ghost use Prim.Native.Nat.{_*_, _≤_, _<_, min};
 ghost use lib.ListN.{length};
 ghost use Rattle.block.specs.Layout as L;
 ghost use Rattle.block.specs.Inner.Valid.{Valid};
-ghost use Rattle.game.specs.Rbatl.{moveCost};
 ghost use Rattle.game.specs.Position as P;
 ghost use Rattle.game.specs.Inner.Stocks as S;
 ghost use Rattle.game.specs.Model.{structureOf, coalitionOf, boundsOf, arenaOf};
+ghost use Rattle.turns.specs.Inner.Costs as C;
+ghost use Rattle.turns.specs.Inner.Costs.{NetOf};
 ghost use Rattle.turns.specs.Sizes.{maxStockPlaces, maxPositions};
 
 // The stock places of resource j in row i.
@@ -64,12 +65,12 @@ pub fn number(block: &[u8], i: usize, s: usize, stocks: &[u8]) -> usize
     x
 }
 
-// What the move m of row i's team takes of resource j in state s: its cost, and nothing of an unlimited resource.
-pub fn taken(block: &[u8], i: usize, s: usize, m: usize, j: usize) -> usize
+// What the move m of row i's team costs of resource j in state s: nothing of an unlimited resource.
+fn net(block: &[u8], i: usize, s: usize, m: usize, j: usize) -> i32
     requires { ⌜ Valid (now block) ⌝ }
     requires { ⌜ (i < L.rows (now block)) × (s < L.states (now block)) × (j < L.resources (now block)) ⌝ }
     requires { ⌜ P.MoveOf (structureOf (now block)) (coalitionOf (now block) i) s m ⌝ }
-    ensures { λ r. ⌜ (r ≡ S.taken (boundsOf (now (block .entry)) i j) (moveCost (structureOf (now (block .entry))) (coalitionOf (now (block .entry)) i) s (L.digit m) j)) × (r ≤ L.maxAgents * L.maxUnits) ⌝ }
+    ensures { λ r. ⌜ NetOf (now (block .entry)) i s m j r ⌝ }
 {
     if layout::bound(block, i, j) == layout::UNLIMITED {
         return 0;
@@ -77,19 +78,72 @@ pub fn taken(block: &[u8], i: usize, s: usize, m: usize, j: usize) -> usize
     moves::cost(block, s, layout::team(block, i), m, j)
 }
 
-// The number of what the move m of row i's team takes of the stocks in state s.
-pub fn offset(block: &[u8], i: usize, s: usize, m: usize) -> usize
+// What a cost takes, and what it gives.
+fn positive(c: i32) -> usize
+    ensures { λ r. ⌜ r ≡ C.positive c ⌝ }
+{
+    if c < 0 {
+        return 0;
+    }
+    c as usize
+}
+
+fn negative(c: i32) -> usize
+    requires { ⌜ C.negative c ≤ L.maxAgents * L.maxUnits ⌝ }
+    ensures { λ r. ⌜ r ≡ C.negative c ⌝ }
+{
+    if c < 0 {
+        return (0 - c) as usize;
+    }
+    0
+}
+
+// The smaller of two numbers.
+pub fn smaller(a: usize, b: usize) -> usize
+    ensures { λ r. ⌜ r ≡ min a b ⌝ }
+{
+    if a < b {
+        return a;
+    }
+    b
+}
+
+// What the move m of row i's team takes of resource j in state s.
+pub fn taken(block: &[u8], i: usize, s: usize, m: usize, j: usize) -> usize
+    requires { ⌜ Valid (now block) ⌝ }
+    requires { ⌜ (i < L.rows (now block)) × (s < L.states (now block)) × (j < L.resources (now block)) ⌝ }
+    requires { ⌜ P.MoveOf (structureOf (now block)) (coalitionOf (now block) i) s m ⌝ }
+    ensures { λ r. ⌜ r ≡ S.takes (arenaOf (now (block .entry)) i) (P.full (arenaOf (now (block .entry)) i) s) m .stock j ⌝ }
+{
+    positive(net(block, i, s, m, j))
+}
+
+// The number of what a move takes of the stocks, and of what it gives them.
+pub struct Effect {
+    pub takes: usize,
+    pub gives: usize,
+}
+
+// The effect of the move m of row i's team on the stocks in state s.
+pub fn effect_of(block: &[u8], i: usize, s: usize, m: usize) -> Effect
     requires { ⌜ Valid (now block) ⌝ }
     requires { ⌜ (i < L.rows (now block)) × L.Strategic (L.kind (now block) i) × (s < L.states (now block)) ⌝ }
     requires { ⌜ P.MoveOf (structureOf (now block)) (coalitionOf (now block) i) s m ⌝ }
-    ensures { λ r. ⌜ r ≡ S.offset (arenaOf (now (block .entry)) i) (P.full (arenaOf (now (block .entry)) i) s) m ⌝ }
+    ensures { λ r. ⌜ (r .takes ≡ S.offset (arenaOf (now (block .entry)) i) (P.full (arenaOf (now (block .entry)) i) s) m) × (r .gives ≡ S.refill (arenaOf (now (block .entry)) i) (P.full (arenaOf (now (block .entry)) i) s) m) ⌝ }
 {
     let n = layout::resources(block);
-    let mut x = 0;
+    let mut takes = 0;
+    let mut gives = 0;
     for j in 0..n {
-        x = x * places(block, i, j) + taken(block, i, s, m, j);
+        let c = places(block, i, j);
+        let cost = net(block, i, s, m, j);
+        takes = takes * c + positive(cost);
+        gives = gives * c + smaller(c - 1, negative(cost));
     }
-    x
+    Effect {
+        takes: takes,
+        gives: gives,
+    }
 }
 
 // The number of state s at full stock.

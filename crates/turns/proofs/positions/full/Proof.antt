@@ -5,7 +5,8 @@ use native.Mathlib.Omega.{arith}
 use Rattle.block.specs.Layout as L
 use Rattle.game.specs.Rbatl.{Bound, limit, unlimited}
 use Rattle.game.specs.Position as P
-use Rattle.game.specs.Position.{places, fullStock, numberUpTo}
+use Rattle.game.specs.Rbatl.{fullStock}
+use Rattle.game.specs.Position.{places, numberUpTo}
 use Rattle.game.specs.Model.{boundsOf, arenaOf}
 use Rattle.game.proofs.Bridge.Truth.{full-fits}
 use Rattle.turns.proofs.Numbering.{goes-on, stays-small}
