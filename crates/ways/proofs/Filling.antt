@@ -10,11 +10,11 @@ use lib.Seq.{getD-set-same, getD-set-other}
 use Rattle.block.specs.Layout as L
 use Rattle.block.specs.Layout.{Block}
 use Rattle.game.specs.Position.{full}
-use Rattle.game.specs.Inner.Stocks.{offset}
+use Rattle.game.specs.Inner.Stocks.{offset, refill}
 use Rattle.game.specs.Model.{arenaOf}
 use Rattle.game.proofs.Numbers.Decide.{eq?}
-use Rattle.ways.specs.Lines.{waysBytes, fieldPlace, fieldIn, countAt, lineAt, takesAt, countIn, numberIn, takenIn}
-use Rattle.ways.specs.Listing.{Listable, LineOf, TakesOf, StateListed, SameOutside}
+use Rattle.ways.specs.Lines.{waysBytes, fieldPlace, fieldIn, countAt, lineAt, takesAt, givesAt, countIn, numberIn, takenIn, givenIn}
+use Rattle.ways.specs.Listing.{Listable, LineOf, EffectsOf, StateListed, SameOutside}
 use Rattle.ways.specs.declared.rows.Row.{Row}
 
 -- a test has one value
@@ -115,7 +115,7 @@ line-moved P s ours l l′ count numbers line =
     subst (LineOf P (numberIn l′ s ours)) (sym count) (line-same P (countIn l s ours) (numberIn l s ours) (numberIn l′ s ours) (λ k small. numbers k (omega (arith, line .few))) line)
 
 -- a state is listed in any buffer with the same fields
-module _ (b : Block) (row : Row) (s : ℕ) (l l′ : List ℕ) (same : (f : ℕ) → f < 194 → getD l′ (fieldPlace s f) 0 ≡ getD l (fieldPlace s f) 0) where
+module _ (b : Block) (row : Row) (s : ℕ) (l l′ : List ℕ) (same : (f : ℕ) → f < 258 → getD l′ (fieldPlace s f) 0 ≡ getD l (fieldPlace s f) 0) where
   counts-same : (ours : Bool) → countIn l′ s ours ≡ countIn l s ours
   counts-same true = same 0 (omega arith)
   counts-same false = same 1 (omega arith)
@@ -127,10 +127,13 @@ module _ (b : Block) (row : Row) (s : ℕ) (l l′ : List ℕ) (same : (f : ℕ)
   pub state-same : StateListed b row s l → StateListed b row s l′
   state-same listed = record {
     lines = λ ours. line-moved (Listable b row s ours) s ours l l′ (counts-same ours) (numbers-same ours) (listed .lines ours);
-    takes = λ k small.
+    effects = λ k small.
         let small′ : k < countIn l s true = omega (arith, counts-same true) in
         let few : k < 64 = omega (arith, listed .lines true .few) in
-        same (130 + k) (omega arith) ∙ listed .takes k small′ ∙ ap (offset (arenaOf b (row .index)) (full (arenaOf b (row .index)) s)) (sym (numbers-same true k few));
+        let (takes, gives) = listed .effects k small′ in (
+          same (130 + k) (omega arith) ∙ takes ∙ ap (offset (arenaOf b (row .index)) (full (arenaOf b (row .index)) s)) (sym (numbers-same true k few)),
+          same (194 + k) (omega arith) ∙ gives ∙ ap (refill (arenaOf b (row .index)) (full (arenaOf b (row .index)) s)) (sym (numbers-same true k few)),
+        );
   }
 
 -- the fields of a line are fields of a state
@@ -142,14 +145,38 @@ pub line-at-small : (ours : Bool) → (2 ≤ lineAt ours) × (lineAt ours ≤ 66
 line-at-small true = (omega arith, omega arith)
 line-at-small false = (omega arith, omega arith)
 
--- one more move has what it takes beside it
-pub takes-more : (s k v : ℕ) (l : List ℕ) (f : ℕ → ℕ) → fieldPlace s (takesAt + k) < length l → ((j : ℕ) → j < k → takenIn l s j ≡ f j) → v ≡ f k
-    → (j : ℕ) → j < k + 1 → takenIn (set l (fieldPlace s (takesAt + k)) v) s j ≡ f j
-takes-more s k v l f inside so-far is j small = go (eq? j k)
-  where
-    go : Dec (j ≡ k) → takenIn (set l (fieldPlace s (takesAt + k)) v) s j ≡ f j
-    go (yes e) = ap (λ (x : ℕ). takenIn (set l (fieldPlace s (takesAt + k)) v) s x) e ∙ getD-set-same l (fieldPlace s (takesAt + k)) v 0 inside ∙ is ∙ ap f (sym e)
-    go (no ne) = getD-set-other l (fieldPlace s (takesAt + k)) (fieldPlace s (takesAt + j)) v 0 (λ e. ne (omega arith)) ∙ so-far j (omega arith)
+-- one more move has what it takes and gives beside it
+module _ (s k u v : ℕ) (l : List ℕ) (state : s < 24) (small : k < 64) (long : length l ≡ waysBytes) where
+  abbrev with-takes : List ℕ
+  with-takes = set l (fieldPlace s (takesAt + k)) u
+
+  abbrev pub with-effect : List ℕ
+  with-effect = set with-takes (fieldPlace s (givesAt + k)) v
+
+  pub effects-more : (f g : ℕ → ℕ) → ((j : ℕ) → j < k → (takenIn l s j ≡ f j) × (givenIn l s j ≡ g j)) → u ≡ f k → v ≡ g k
+      → (j : ℕ) → j < k + 1 → (takenIn with-effect s j ≡ f j) × (givenIn with-effect s j ≡ g j)
+  effects-more f g so-far is is′ j below = go (eq? j k)
+    where
+      other-gives : (h : ℕ) → h < 64 → takenIn with-effect s h ≡ takenIn with-takes s h
+      other-gives h few = getD-set-other with-takes (fieldPlace s (givesAt + k)) (fieldPlace s (takesAt + h)) v 0 (λ e. omega arith)
+
+      go : Dec (j ≡ k) → (takenIn with-effect s j ≡ f j) × (givenIn with-effect s j ≡ g j)
+      go (yes e) = (
+        ap (takenIn with-effect s) e ∙ other-gives k small ∙ getD-set-same l (fieldPlace s (takesAt + k)) u 0 (omega arith) ∙ is ∙ ap f (sym e),
+        ap (givenIn with-effect s) e ∙ getD-set-same with-takes (fieldPlace s (givesAt + k)) v 0 (omega (arith, length-set l (fieldPlace s (takesAt + k)) u)) ∙ is′ ∙ ap g (sym e),
+      )
+      go (no ne) =
+          let less : j < k = omega arith in (
+            other-gives j (omega arith) ∙ getD-set-other l (fieldPlace s (takesAt + k)) (fieldPlace s (takesAt + j)) u 0 (λ e. ne (omega arith)) ∙ so-far j less .0,
+            getD-set-other with-takes (fieldPlace s (givesAt + k)) (fieldPlace s (givesAt + j)) v 0 (λ e. ne (omega arith))
+                ∙ getD-set-other l (fieldPlace s (takesAt + k)) (fieldPlace s (givesAt + j)) u 0 (λ e. omega arith)
+                ∙ so-far j less .1,
+          )
+
+  pub effect-outside : SameOutside (fieldPlace s takesAt) (fieldPlace (s + 1) 0) l with-effect
+  effect-outside =
+      outside-both (set-outside (fieldPlace s takesAt) (fieldPlace (s + 1) 0) (fieldPlace s (takesAt + k)) u l (omega arith) (omega arith))
+      (set-outside (fieldPlace s takesAt) (fieldPlace (s + 1) 0) (fieldPlace s (givesAt + k)) v with-takes (omega arith) (omega arith))
 
 -- while the moves of a state are listed, its replies stay
 pub replies-kept : (P : ℕ → Type 0) (s : ℕ) (ours : Bool) (l l′ : List ℕ) → ours ≡ true → SameOutside (fieldPlace s (lineAt ours)) (fieldPlace s (lineAt ours) + 64) l l′
@@ -185,7 +212,7 @@ line-counted P s n ours l inside line =
     subst (LineOf P (numberIn l′ s ours)) (sym count)
     (line-same P n (numberIn l s ours) (numberIn l′ s ours) (λ k small. getD-set-other l (fieldPlace s (countAt ours)) (fieldPlace s (lineAt ours + k)) n 0 (λ e. omega (arith, count-at-small ours, line-at-small ours))) line)
 
--- the parts of a state, one after another: replies, their count, moves, their count, and what the moves take
+-- the parts of a state, one after another: replies, their count, moves, their count, and what the moves take and give
 module _ (b : Block) (row : Row) (s n : ℕ) (state : s < 24) (l₀ l₁ l₂ : List ℕ) (long : length l₀ ≡ waysBytes)
     (same₁ : SameOutside (fieldPlace s 66) (fieldPlace s 66 + 64) l₀ l₁) (replies : LineOf (Listable b row s false) (numberIn l₁ s false) n) (put₂ : l₂ ≡ set l₁ (fieldPlace s 1) n) where
   pub replies-counted : LineOf (Listable b row s false) (numberIn l₂ s false) (countIn l₂ s false)
@@ -201,16 +228,16 @@ module _ (b : Block) (row : Row) (s n : ℕ) (state : s < 24) (l₀ l₁ l₂ : 
     within : (first end : ℕ) {l l′ : List ℕ} → fieldPlace s 0 ≤ first → end ≤ fieldPlace (s + 1) 0 → SameOutside first end l l′ → SameOutside (fieldPlace s 0) (fieldPlace (s + 1) 0) l l′
     within first end = outside-wider first end (fieldPlace s 0) (fieldPlace (s + 1) 0)
 
-    set-within : (f v : ℕ) (l l′ : List ℕ) → f < 194 → l′ ≡ set l (fieldPlace s f) v → SameOutside (fieldPlace s 0) (fieldPlace (s + 1) 0) l l′
+    set-within : (f v : ℕ) (l l′ : List ℕ) → f < 258 → l′ ≡ set l (fieldPlace s f) v → SameOutside (fieldPlace s 0) (fieldPlace (s + 1) 0) l l′
     set-within f v l l′ small put = subst (SameOutside (fieldPlace s 0) (fieldPlace (s + 1) 0) l) (sym put) (set-outside (fieldPlace s 0) (fieldPlace (s + 1) 0) (fieldPlace s f) v l (omega arith) (omega arith))
 
-    pub state-whole : (l₅ : List ℕ) → SameOutside (fieldPlace s 130) (fieldPlace s 130 + 64) l₄ l₅ → TakesOf b row s l₅ → StateListed b row s l₅ × SameOutside (fieldPlace s 0) (fieldPlace (s + 1) 0) l₀ l₅
-    state-whole l₅ same₅ takes = (
-      record { lines = lines; takes = takes },
+    pub state-whole : (l₅ : List ℕ) → SameOutside (fieldPlace s 130) (fieldPlace (s + 1) 0) l₄ l₅ → EffectsOf b row s l₅ → StateListed b row s l₅ × SameOutside (fieldPlace s 0) (fieldPlace (s + 1) 0) l₀ l₅
+    state-whole l₅ same₅ effects = (
+      record { lines = lines; effects = effects },
       outside-both (within (fieldPlace s 66) (fieldPlace s 66 + 64) (omega arith) (omega arith) same₁)
           (outside-both (set-within 1 n l₁ l₂ (omega arith) put₂)
           (outside-both (within (fieldPlace s 2) (fieldPlace s 2 + 64) (omega arith) (omega arith) same₃)
-          (outside-both (set-within 0 m l₃ l₄ (omega arith) put₄) (within (fieldPlace s 130) (fieldPlace s 130 + 64) (omega arith) (omega arith) same₅)))),
+          (outside-both (set-within 0 m l₃ l₄ (omega arith) put₄) (within (fieldPlace s 130) (fieldPlace (s + 1) 0) (omega arith) (omega arith) same₅)))),
     )
       where
         last : (f : ℕ) → f < 130 → fieldIn l₅ s f ≡ fieldIn l₄ s f

@@ -3,39 +3,40 @@ use mathlib.Core.Bool.{Bool, true, false, not}
 use mathlib.Core.List.{List}
 use mathlib.Core.Logic.{inl}
 use mathlib.Core.Path.{_≡_, refl, sym, _∙_, ap, ap₂, subst}
-use Prim.Native.Nat.{ℕ, _+_, _*_, _-_, _^_, _≤_, _<_}
+use Prim.Native.Nat.{ℕ, _+_, _*_, _-_, _^_, _≤_, _<_, min}
 use native.Mathlib.Nat.{mul-le-mul}
 use native.Mathlib.Omega.{arith}
 use Rattle.block.specs.Layout as L
 use Rattle.block.specs.Layout.{Block}
 use Rattle.block.specs.Inner.Valid.{Valid}
-use Rattle.game.specs.Rbatl.{Fits}
-use Rattle.game.specs.Position.{Arena, Position, IsPosition, stockBound, fullStock, number, positions, full, cost, opponents, MoveOf, Affordable, Allowed, Reply, outcome}
-use Rattle.game.specs.Inner.Stocks.{taken, stocksOf, stockPlaces, offset}
+use Rattle.game.specs.Rbatl.{fullStock, Pays}
+use Rattle.game.specs.Position.{Arena, Position, IsPosition, places, number, positions, full, cost, charge, opponents, MoveOf, Affordable, Allowed, Reply, outcome}
+use Rattle.game.specs.Inner.Stocks.{stocksOf, stockPlaces, takes, gives, offset, refill}
 use Rattle.game.specs.Model.{structureOf, coalitionOf, arenaOf}
-use Rattle.game.proofs.Blocks.Passing.{valid-proper, few-stocks}
+use Rattle.game.proofs.Blocks.Passing.{valid-proper, few-stocks, few-places}
 use Rattle.game.proofs.Blocks.Reading.{outcome-state}
 use Rattle.game.proofs.Bridge.Moves.{idle-move}
 use Rattle.game.proofs.Bridge.Plays.{outcome-fits}
 use Rattle.game.proofs.Bridge.Truth.{full-fits}
+use Rattle.game.proofs.Local.Same.{same-number}
 use Rattle.game.proofs.Numbers.Decide.{eq?, lt?}
-use Rattle.game.proofs.Numbers.Stocks.{taken-fits}
+use Rattle.game.proofs.Numbers.Stocks.{taken-pays}
 use Rattle.turns.specs.Buffers.{rankIn}
 use Rattle.turns.specs.Inner.Rules.{ReplyTo, SideMove}
 use Rattle.turns.proofs.Opponents.{joint-small, next-state}
 use Rattle.ways.specs.Extremes.{Beyond, Extreme, BestOf, Worst}
 use Rattle.ways.specs.Landing.{Leaves, Lands, Made, rankAfter, WorstWithin}
-use Rattle.ways.specs.Lines.{fieldPlace, packedIn, countIn, numberIn, takenIn}
+use Rattle.ways.specs.Lines.{fieldPlace, packedIn, countIn, numberIn, takenIn, givenIn}
 use Rattle.ways.specs.Listing.{Listed, StateListed, Eligible, Free, Ends, Useful, Listable, SameOutside}
 use Rattle.ways.specs.Places.{PlacedAt}
 use Rattle.ways.specs.Rows.{Playable}
-use Rattle.ways.specs.Packed.{Packs, Narrow, Covers}
+use Rattle.ways.specs.Packed.{packedFrom, Packs, Narrow, Covers, filledPlace}
 use Rattle.ways.specs.declared.rows.Row.{Row}
 use Rattle.ways.specs.declared.landing.Landing.the-variants.{At, Unpaid}
 use Rattle.ways.proofs.Filling.{apart, state-same}
-use Rattle.ways.proofs.Offsets.{number-zero, state-and-stocks, remains-number}
+use Rattle.ways.proofs.Offsets.{full-pays, number-zero, state-and-stocks, last-place, spent, gives-fit, spent-number, left-stock, remains-number}
 use Rattle.ways.proofs.Placing.{stocks-below, place-position}
-use Rattle.ways.proofs.Packing.{full-pays, position-narrow, pays-covers, covers-pays}
+use Rattle.ways.proofs.Packing.{position-narrow, pays-covers, covers-pays, filled-number}
 
 -- a row has at most 256 stock places
 pub few : (b : Block) → Valid b → (row : Row) → Playable b row → row .places ≤ 256
@@ -56,8 +57,8 @@ module _ (b : Block) (valid : Valid b) (row : Row) (playable : Playable b row) w
   pub ever-allowed : (s x m : ℕ) (p : Position) → PlacedAt G s x p → Allowed G p m → Allowed G (full G s) m
   ever-allowed s x m p placed allowed = (
     subst (λ (q : ℕ). MoveOf (structureOf b) (coalitionOf b (row .index)) q m) (placed .state) (allowed .0),
-    λ r h. subst (λ (q : ℕ). Fits (cost G (full G q) m r) (stockBound (G .bounds r) (fullStock (G .bounds r)))) (placed .state)
-        (full-pays (G .bounds r) (p .stock r) (cost G p m r) (placed .fits .1 r h) (allowed .1 r h)),
+    λ r h. subst (λ (q : ℕ). Pays (G .bounds r) (fullStock (G .bounds r)) (cost G (full G q) m r) (charge G (full G q) m r)) (placed .state)
+        (full-pays (G .bounds r) (p .stock r) (cost G p m r) (charge G p m r) (placed .fits .1 r h) (allowed .1 r h)),
   )
 
   pub move-here : (s x m : ℕ) (p : Position) → PlacedAt G s x p → MoveOf (structureOf b) (coalitionOf b (row .index)) s m → Affordable G p m → Allowed G p m
@@ -72,11 +73,16 @@ module _ (b : Block) (valid : Valid b) (row : Row) (playable : Playable b row) w
   pub free-allowed : (s x m : ℕ) (p : Position) → PlacedAt G s x p → Free b row s m → Allowed G p m
   free-allowed s x m p placed (allowed, _, nothing) = move-here s x m p placed (allowed .0)
       (λ r l.
-      let none = number-zero G (G .structure .resources) (record { state = 0; stock = λ j. taken (G .bounds j) (cost G (full G s) m j) }) nothing r l in
-      subst (λ (q : ℕ). Fits (cost G (full G q) m r) (stockBound (G .bounds r) (p .stock r))) (sym (placed .state)) (taken-fits (G .bounds r) (p .stock r) (cost G (full G s) m r) .0 (omega arith)))
+      let none = number-zero G (G .structure .resources) (takes G (full G s) m) nothing r l in
+      let here : takes G (full G s) m .stock r ≡ takes G p m .stock r = ap (λ (q : ℕ). takes G (full G q) m .stock r) (sym (placed .state)) in
+      taken-pays (G .bounds r) (p .stock r) (cost G p m r) (charge G p m r) .0 (omega arith))
 
-  -- the k-th listed move at a place: what it takes tells whether the place pays, and what is left
-  module _ (ways : List ℕ) (listed : Listed b row ways) (s x k o : ℕ) (state : s < L.states b) (place : x < row .places) (small : k < countIn ways s true) (takes : o ≡ takenIn ways s k) where
+  -- a position of a place of the state, and the full stocks
+  small-places : (r : ℕ) → r < L.resources b → places (G .bounds r) ≤ 16
+  small-places r l = few-places b valid (row .index) (valid .row-fits (row .index) (playable .inside)) (playable .strategic) r l
+
+  -- the k-th listed move at a place: what it takes tells whether the place pays, and what it gives tells what is left besides
+  module _ (ways : List ℕ) (listed : Listed b row ways) (s x k o : ℕ) (state : s < L.states b) (place : x < row .places) (small : k < countIn ways s true) (takes-o : o ≡ takenIn ways s k) where
     abbrev m : ℕ
     m = numberIn ways s true k
 
@@ -84,30 +90,91 @@ module _ (b : Block) (valid : Valid b) (row : Row) (playable : Playable b row) w
     way = listed .states s state .lines true .only k small
 
     offset-o : o ≡ offset G (full G s) m
-    offset-o = takes ∙ listed .states s state .takes k small
+    offset-o = takes-o ∙ listed .states s state .effects k small .0
+
+    refill-g : givenIn ways s k ≡ refill G (full G s) m
+    refill-g = listed .states s state .effects k small .1
+
+    offset-here : (p : Position) → PlacedAt G s x p → o ≡ offset G p m
+    offset-here p placed = offset-o ∙ ap (λ (q : ℕ). offset G (full G q) m) (sym (placed .state))
+
+    refill-here : (p : Position) → PlacedAt G s x p → givenIn ways s k ≡ refill G p m
+    refill-here p placed = refill-g ∙ ap (λ (q : ℕ). refill G (full G q) m) (sym (placed .state))
 
     pub taken-small : o < stockPlaces G
-    taken-small = omega (arith, offset-o, remains-number G (full G s) m 0 (full-fits G s state) (way .0 .1), stocks-below G (full G s) (full-fits G s state))
+    taken-small = omega (arith, offset-o, spent-number G (full G s) m (full-fits G s state) (way .0 .1), stocks-below G (full G s) (full-fits G s state))
+
+    -- what is given, as stocks of a state
+    gifts : Position
+    gifts = record { state = s; stock = gives G (full G s) m .stock }
+
+    gifts-fit : IsPosition G gifts
+    unfolding gifts
+    gifts-fit = (state, gives-fit G (full G s) m)
+
+    pub given-small : givenIn ways s k < stockPlaces G
+    unfolding gifts
+    given-small = omega (arith, refill-g, stocks-below G gifts gifts-fit)
 
     -- a place that has what is taken has the larger number
     module _ (covers : Covers ways x o) where
       paid-at : (p : Position) → PlacedAt G s x p → Affordable G p m
       paid-at p placed = covers-pays b valid (row .index) (playable .inside) (playable .strategic) ways (listed .packed) s x m (way .0 .1) p placed (subst (Covers ways x) offset-o covers)
 
+      spent-at : (p : Position) → PlacedAt G s x p → number G (spent G p m) + o ≡ x
+      spent-at p placed = omega (arith, spent-number G p m (placed .fits) (paid-at p placed), placed .place, offset-here p placed)
+
       pub taken-below : o ≤ x
       taken-below =
           let (p, placed) = place-position G s x state (omega (arith, playable .places-are)) in
-          let here : offset G (full G s) m ≡ offset G p m = ap (λ (q : ℕ). offset G (full G q) m) (sym (placed .state)) in
-          omega (arith, remains-number G p m 0 (placed .fits) (paid-at p placed), placed .place, here, offset-o)
+          omega (arith, spent-at p placed)
 
-    pub lands-at : Covers ways x o → Lands G s x m (At (x - o))
-    lands-at covers = (
-      omega (arith, playable .places-are),
-      λ p placed.
-          let paid = paid-at covers p placed in
-          let here : offset G (full G s) m ≡ offset G p m = ap (λ (q : ℕ). offset G (full G q) m) (sym (placed .state)) in
-          (paid, λ r. omega (arith, remains-number G p m r (placed .fits) paid, placed .place, here, offset-o)),
-    )
+      pub lands-at : givenIn ways s k ≡ 0 → Lands G s x m (At (x - o))
+      lands-at none = (
+        omega (arith, playable .places-are),
+        λ p placed.
+            let paid = paid-at p placed in
+            (paid, λ r. omega (arith, remains-number G p m (placed .fits) paid (sym (refill-here p placed) ∙ none) r, placed .place, offset-here p placed)),
+      )
+
+      -- with what is given on top
+      module _ (p : Position) (placed : PlacedAt G s x p) where
+        -- what is left after taking, as a position of the state
+        rests : Position
+        rests = record { state = s; stock = spent G p m .stock }
+
+        rests-fit : IsPosition G rests
+        unfolding rests
+        rests-fit = (state, λ r l. omega (arith, placed .fits .1 r l))
+
+        packed-rests : packedIn ways (x - o) ≡ packedFrom (L.resources b) rests 0
+        unfolding rests
+        packed-rests = ap (packedIn ways) {x = x - o} {y = number G (spent G p m)} (omega (arith, spent-at p placed)) ∙ listed .packed rests rests-fit
+
+        packed-gifts : packedIn ways (givenIn ways s k) ≡ packedFrom (L.resources b) gifts 0
+        unfolding gifts
+        packed-gifts = ap (packedIn ways) refill-g ∙ listed .packed gifts gifts-fit
+
+        packed-full : packedIn ways (row .places - 1) ≡ packedFrom (L.resources b) (full G s) 0
+        packed-full = ap (packedIn ways) {x = row .places - 1} {y = number G (stocksOf G (full G s))} (omega (arith, playable .places-are, last-place G s)) ∙ listed .packed (full G s) (full-fits G s state)
+
+        fills : (r : ℕ) → filledPlace (packedIn ways (row .places - 1)) (packedIn ways (x - o)) (packedIn ways (givenIn ways s k)) ≡ number G (stocksOf G (outcome G p m r))
+        unfolding rests gifts
+        fills r =
+            rw (packed-full, packed-rests, packed-gifts)
+            (filled-number G (valid .sized .resources-fit) small-places (full G s) rests gifts (λ j l. refl) (rests-fit .1) (gifts-fit .1)
+            ∙ sym (same-number G (stocksOf G (outcome G p m r)) (record { state = 0; stock = λ j. min (fullStock (G .bounds j)) (spent G p m .stock j + gives G (full G s) m .stock j) })
+            (refl, λ j l. left-stock G p m (placed .fits) (paid-at p placed) r j l ∙ ap (λ (q : ℕ). min (fullStock (G .bounds j)) (spent G p m .stock j + gives G (full G q) m .stock j)) (placed .state))))
+
+      pub lands-filled : (y : ℕ) → y ≡ filledPlace (packedIn ways (row .places - 1)) (packedIn ways (x - o)) (packedIn ways (givenIn ways s k)) → Lands G s x m (At y)
+      lands-filled y is =
+          let (p, placed) = place-position G s x state (omega (arith, playable .places-are)) in
+          let reply = idle-move (structureOf b) (valid-proper b valid) (opponents (coalitionOf b (row .index))) s state in
+          let move = move-here s x m p placed (way .0 .0) (paid-at p placed) .0 in
+          let fits = outcome-fits G (valid-proper b valid) p m 0 (placed .fits) move (subst (λ (q : ℕ). ReplyTo b (row .index) q 0) (sym (placed .state)) reply) in (
+            omega (arith, is, fills p placed 0, stocks-below G (outcome G p m 0) fits),
+            λ p′ placed′. (paid-at p′ placed′, λ r. sym (is ∙ fills p′ placed′ r)),
+          )
 
     pub lands-nowhere : (Covers ways x o → ⊥) → Lands G s x m Unpaid
     lands-nowhere unpaid p placed paid = unpaid (subst (Covers ways x) (sym offset-o) (pays-covers b valid (row .index) (playable .inside) (playable .strategic) ways (listed .packed) s x m (way .0 .1) p placed paid))

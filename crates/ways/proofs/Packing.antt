@@ -1,7 +1,7 @@
 -- Packed stocks have the stocks as digits, so that a place pays what a move takes exactly if no digit is too small. Assumes nothing.
 use mathlib.Core.List.{List}
-use mathlib.Core.Path.{_≡_, refl, sym, _∙_, ap, subst, subst₂}
-use Prim.Native.Nat.{ℕ, zero, suc, _+_, _*_, _-_, _/_, _%_, _≤_, _<_}
+use mathlib.Core.Path.{_≡_, refl, sym, _∙_, ap, ap₂, subst, subst₂}
+use Prim.Native.Nat.{ℕ, zero, suc, _+_, _*_, _-_, _/_, _%_, _≤_, _<_, min}
 use native.Mathlib.Nat.{mul-add-div-right, mul-add-mod-self-right, mod-eq-of-lt, mod-lt, div-eq-of-lt}
 use native.Mathlib.Omega.{arith}
 use Rattle.turns.specs.Buffers.{rankIn}
@@ -9,15 +9,16 @@ use Rattle.ways.specs.Lines.{packedIn}
 use Rattle.block.specs.Layout as L
 use Rattle.block.specs.Layout.{Block}
 use Rattle.block.specs.Inner.Valid.{Valid}
-use Rattle.game.specs.Rbatl.{Bound, limit, unlimited, Fits}
-use Rattle.game.specs.Position.{Arena, Position, IsPosition, places, fullStock, stockBound, remaining, number, numberUpTo, full, cost, Affordable}
-use Rattle.game.specs.Inner.Stocks.{taken, stocksOf, offset}
+use Rattle.game.specs.Rbatl.{Bound, limit, unlimited, fullStock, Pays}
+use Rattle.game.specs.Position.{Arena, Position, IsPosition, places, number, numberUpTo, full, cost, charge, Affordable}
+use Rattle.game.specs.Inner.Stocks.{taken, stocksOf, takes, gives, offset, refill}
 use Rattle.game.specs.Model.{boundsOf, arenaOf}
 use Rattle.game.proofs.Numbers.Decide.{eq?, lt?}
-use Rattle.game.proofs.Numbers.Stocks.{taken-fits}
+use Rattle.game.proofs.Numbers.Stocks.{taken-pays}
 use Rattle.game.proofs.Blocks.Passing.{few-places}
 use Rattle.ways.specs.Places.{PlacedAt}
-use Rattle.ways.specs.Packed.{packedFrom, PackedAt, Packs, Narrow, Covers}
+use Rattle.ways.specs.Packed.{packedFrom, PackedAt, Packs, Narrow, Covers, filledPlace}
+use Rattle.ways.proofs.Offsets.{full-taken}
 
 -- the stocks of n resources are the digits of w
 record Digits (n : ℕ) (p : Position) (w : ℕ) : Type 0 where
@@ -53,18 +54,88 @@ module _ (n : ℕ) (some : 1 ≤ n) (few : n ≤ 2) (p : Position) (small : (r :
     packed-at-most (low, high) (suc zero) l = omega (arith, digits n some few p small .high l, digits n some few z small-z .high l)
     packed-at-most (low, high) (suc (suc r)) l = absurd (omega arith)
 
--- what a stock pays, the full stock pays
-pub full-pays : (bound : Bound) (s c : ℕ) → s < places bound → Fits c (stockBound bound s) → Fits c (stockBound bound (fullStock bound))
-full-pays (limit n) s c l fits = omega arith
-full-pays unlimited s c l fits = tt
+-- the place that stocks fill to
+module _ (G : Arena) (few : (1 ≤ G .structure .resources) × (G .structure .resources ≤ 2)) (small : (r : ℕ) → r < G .structure .resources → places (G .bounds r) ≤ 16) where
+  abbrev n : ℕ
+  n = G .structure .resources
 
-pub full-taken : (bound : Bound) (c : ℕ) → Fits c (stockBound bound (fullStock bound)) → taken bound c < places bound
-full-taken (limit n) c fits = omega arith
-full-taken unlimited c fits = omega arith
+  fits-small : (p : Position) → IsPosition G p → (r : ℕ) → r < n → p .stock r < 16
+  fits-small p fits r l = omega (arith, fits .1 r l, small r l)
 
-pub taken-full : (bound : Bound) (c : ℕ) → taken bound c < places bound → Fits c (stockBound bound (fullStock bound))
-taken-full (limit n) c small = omega arith
-taken-full unlimited c small = tt
+  full-fits : (b : Bound) → fullStock b < places b
+  full-fits (limit k) = omega arith
+  full-fits unlimited = omega arith
+
+  full-suc : (b : Bound) → fullStock b + 1 ≡ places b
+  full-suc (limit k) = omega arith
+  full-suc unlimited = omega arith
+
+  -- a number by its two digits
+  by-digits : (y : Position) (low high width : ℕ) → low ≡ y .stock 0 → (1 < n → (high ≡ y .stock 1) × (width ≡ places (G .bounds 1))) → (n ≤ 1 → (high ≡ 0) × (width ≡ 1)) → y .state ≡ 0 → low * width + high ≡ number G y
+  by-digits y low high width is two one none = go n (few .0) (few .1) two one
+    where
+      go : (k : ℕ) → 1 ≤ k → k ≤ 2 → (1 < k → (high ≡ y .stock 1) × (width ≡ places (G .bounds 1))) → (k ≤ 1 → (high ≡ 0) × (width ≡ 1)) → low * width + high ≡ numberUpTo G k y
+      go zero some less two one = absurd (omega arith)
+      go (suc zero) some less two one =
+          let (h, w) = one (omega arith) in
+          ap₂ (λ (u v : ℕ). low * u + v) w h ∙ omega (arith, ap (λ (q : ℕ). q * places (G .bounds 0)) none)
+      go (suc (suc zero)) some less two one =
+          let (h, w) = two (omega arith) in
+          let first : low ≡ numberUpTo G 1 y = omega (arith, ap (λ (q : ℕ). q * places (G .bounds 0)) none) in
+          ap₂ (λ (u v : ℕ). low * u + v) w h ∙ ap (λ (u : ℕ). u * places (G .bounds 1) + y .stock 1) first
+      go (suc (suc (suc k))) some less two one = absurd (omega arith)
+
+  module _ (top p g : Position) (top-full : (r : ℕ) → r < n → top .stock r ≡ fullStock (G .bounds r)) (p-fits : (r : ℕ) → r < n → p .stock r < places (G .bounds r)) (g-fits : (r : ℕ) → r < n → g .stock r < places (G .bounds r)) where
+    -- as far as there is room
+    abbrev filling : Position
+    filling = record { state = 0; stock = λ r. min (fullStock (G .bounds r)) (p .stock r + g .stock r) }
+
+    below : (x : Position) → ((r : ℕ) → r < n → x .stock r < places (G .bounds r)) → (r : ℕ) → r < n → x .stock r < 16
+    below x x-fits r l = omega (arith, x-fits r l, small r l)
+
+    pub filled-number : filledPlace (packedFrom n top 0) (packedFrom n p 0) (packedFrom n g 0) ≡ number G filling
+    filled-number =
+        by-digits filling (min (t % 32) ((w + v) % 32)) (min (t / 32) ((w + v) / 32)) (suc (t / 32))
+        low two one refl
+      where
+        t : ℕ
+        t = packedFrom n top 0
+
+        w : ℕ
+        w = packedFrom n p 0
+
+        v : ℕ
+        v = packedFrom n g 0
+
+        top-fits : (r : ℕ) → r < n → top .stock r < places (G .bounds r)
+        top-fits r l = omega (arith, top-full r l, full-fits (G .bounds r))
+
+        dt : Digits n top t
+        dt = digits n (few .0) (few .1) top (below top top-fits)
+
+        dp : Digits n p w
+        dp = digits n (few .0) (few .1) p (below p p-fits)
+
+        dg : Digits n g v
+        dg = digits n (few .0) (few .1) g (below g g-fits)
+
+        sum-low : (w + v) % 32 ≡ p .stock 0 + g .stock 0
+        sum-low = omega (arith, dp .low, dg .low, below p p-fits 0 (omega (arith, few)), below g g-fits 0 (omega (arith, few)))
+
+        low : min (t % 32) ((w + v) % 32) ≡ filling .stock 0
+        low = ap₂ min (dt .low ∙ top-full 0 (omega (arith, few))) sum-low
+
+        sum-high : (w + v) / 32 ≡ w / 32 + v / 32
+        sum-high = omega (arith, dp .low, dg .low, below p p-fits 0 (omega (arith, few)), below g g-fits 0 (omega (arith, few)))
+
+        two : 1 < n → (min (t / 32) ((w + v) / 32) ≡ filling .stock 1) × (suc (t / 32) ≡ places (G .bounds 1))
+        two l = (
+          ap₂ min (dt .high l ∙ top-full 1 l) (sum-high ∙ ap₂ _+_ (dp .high l) (dg .high l)),
+          omega (arith, dt .high l, top-full 1 l, full-suc (G .bounds 1)),
+        )
+
+        one : n ≤ 1 → (min (t / 32) ((w + v) / 32) ≡ 0) × (suc (t / 32) ≡ 1)
+        one l = (ap₂ min (dt .none l) (sum-high ∙ ap₂ _+_ (dp .none l) (dg .none l)), ap suc (dt .none l))
 
 -- the packed stocks of place x, with the last resources done
 pub record PackingTo (b : Block) (i x j rest packed : ℕ) : Type 0 where
@@ -125,29 +196,29 @@ module _ (b : Block) (valid : Valid b) (i : ℕ) (row : i < L.rows b) (strategic
   G = arenaOf b i
 
   -- what the move takes, as stocks
-  abbrev takes : Position
-  takes = record { state = p .state; stock = λ r. taken (G .bounds r) (cost G (full G s) m r) }
+  abbrev needs : Position
+  needs = record { state = p .state; stock = takes G (full G s) m .stock }
 
-  takes-fit : IsPosition G takes
-  takes-fit = (placed .fits .0, λ r l. full-taken (G .bounds r) (cost G (full G s) m r) (ever r l))
+  needs-fit : IsPosition G needs
+  needs-fit = (placed .fits .0, λ r l. full-taken (G .bounds r) (cost G (full G s) m r) (charge G (full G s) m r) (ever r l))
 
   small : (q : Position) → IsPosition G q → (r : ℕ) → r < L.resources b → q .stock r < 16
   small = stocks-small b valid i row strategic
 
-  same-cost : (r : ℕ) → cost G (full G s) m r ≡ cost G p m r
-  same-cost r = ap (λ (q : ℕ). cost G (full G q) m r) (sym (placed .state))
+  same-takes : (r : ℕ) → needs .stock r ≡ takes G p m .stock r
+  same-takes r = ap (λ (q : ℕ). takes G (full G q) m .stock r) (sym (placed .state))
 
   packed-here : packedIn packs x ≡ packedFrom (L.resources b) p 0
   packed-here = ap (packedIn packs) (sym (placed .place)) ∙ are p (placed .fits)
 
   pub pays-covers : Affordable G p m → Covers packs x (offset G (full G s) m)
   pays-covers paid =
-      subst₂ (λ (w v : ℕ). (v % 32 ≤ w % 32) × (v / 32 ≤ w / 32)) (sym packed-here) (sym (are takes takes-fit))
-      (at-most-packed (L.resources b) (valid .sized .resources-fit .0) (valid .sized .resources-fit .1) p (small p (placed .fits)) takes (small takes takes-fit)
-      (λ r l. taken-fits (G .bounds r) (p .stock r) (cost G (full G s) m r) .1 (subst (λ (c : ℕ). Fits c (stockBound (G .bounds r) (p .stock r))) (sym (same-cost r)) (paid r l))))
+      subst₂ (λ (w v : ℕ). (v % 32 ≤ w % 32) × (v / 32 ≤ w / 32)) (sym packed-here) (sym (are needs needs-fit))
+      (at-most-packed (L.resources b) (valid .sized .resources-fit .0) (valid .sized .resources-fit .1) p (small p (placed .fits)) needs (small needs needs-fit)
+      (λ r l. omega (arith, same-takes r, taken-pays (G .bounds r) (p .stock r) (cost G p m r) (charge G p m r) .1 (paid r l))))
 
   pub covers-pays : Covers packs x (offset G (full G s) m) → Affordable G p m
   covers-pays covers r l =
-      let enough = packed-at-most (L.resources b) (valid .sized .resources-fit .0) (valid .sized .resources-fit .1) p (small p (placed .fits)) takes (small takes takes-fit)
-      (subst₂ (λ (w v : ℕ). (v % 32 ≤ w % 32) × (v / 32 ≤ w / 32)) packed-here (are takes takes-fit) covers) r l in
-      subst (λ (c : ℕ). Fits c (stockBound (G .bounds r) (p .stock r))) (same-cost r) (taken-fits (G .bounds r) (p .stock r) (cost G (full G s) m r) .0 enough)
+      let enough = packed-at-most (L.resources b) (valid .sized .resources-fit .0) (valid .sized .resources-fit .1) p (small p (placed .fits)) needs (small needs needs-fit)
+      (subst₂ (λ (w v : ℕ). (v % 32 ≤ w % 32) × (v / 32 ≤ w / 32)) packed-here (are needs needs-fit) covers) r l in
+      taken-pays (G .bounds r) (p .stock r) (cost G p m r) (charge G p m r) .0 (omega (arith, same-takes r))

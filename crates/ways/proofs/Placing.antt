@@ -15,7 +15,7 @@ use Rattle.turns.specs.Inner.Rules.{ReplyTo}
 use Rattle.game.proofs.Bridge.Plays.{outcome-fits}
 use Rattle.game.proofs.Bridge.Moves.{idle-move}
 use Rattle.game.proofs.Local.Same.{number-below, positionOf, position-fits, position-number}
-use Rattle.ways.proofs.Offsets.{state-and-stocks, remains-number}
+use Rattle.ways.proofs.Offsets.{state-and-stocks}
 use Rattle.game.proofs.Blocks.Passing.{valid-proper}
 use Rattle.ways.specs.Places.{PlacedAt}
 

@@ -9,10 +9,10 @@ use Rattle.block.specs.Decide.{Bit}
 use Rattle.block.specs.Layout as L
 use Rattle.block.specs.Layout.{Block}
 use Rattle.game.specs.Position.{Allowed, full}
-use Rattle.game.specs.Inner.Stocks.{offset}
+use Rattle.game.specs.Inner.Stocks.{offset, refill}
 use Rattle.game.specs.Model.{arenaOf}
 use Rattle.turns.specs.Inner.Rules.{ReplyTo}
-use Rattle.ways.specs.Lines.{waysBytes, countIn, numberIn, takenIn}
+use Rattle.ways.specs.Lines.{waysBytes, countIn, numberIn, takenIn, givenIn}
 use Rattle.ways.specs.Packed.{Packs}
 use Rattle.ways.specs.declared.rows.Row.{Row}
 
@@ -53,13 +53,16 @@ pub record LineOf (P : ℕ → Type 0) (at : ℕ → ℕ) (n : ℕ) : Type 0 whe
   pub rising : (j k : ℕ) → j < k → k < n → at j < at k
   pub few : n ≤ L.maxJoint
 
--- what each listed move of state s takes
-abbrev pub TakesOf : Block → Row → ℕ → List ℕ → Type 0
-TakesOf b row s ways = (k : ℕ) → k < countIn ways s true → takenIn ways s k ≡ offset (arenaOf b (row .index)) (full (arenaOf b (row .index)) s) (numberIn ways s true k)
+-- what each listed move of state s takes and gives
+abbrev pub EffectsOf : Block → Row → ℕ → List ℕ → Type 0
+EffectsOf b row s ways =
+    (k : ℕ) → k < countIn ways s true
+    → (takenIn ways s k ≡ offset (arenaOf b (row .index)) (full (arenaOf b (row .index)) s) (numberIn ways s true k))
+    × (givenIn ways s k ≡ refill (arenaOf b (row .index)) (full (arenaOf b (row .index)) s) (numberIn ways s true k))
 
 pub record StateListed (b : Block) (row : Row) (s : ℕ) (ways : List ℕ) : Type 0 where
   pub lines : (ours : Bool) → LineOf (Listable b row s ours) (numberIn ways s ours) (countIn ways s ours)
-  pub takes : TakesOf b row s ways
+  pub effects : EffectsOf b row s ways
 
 pub record Listed (b : Block) (row : Row) (ways : List ℕ) : Type 0 where
   pub states : (s : ℕ) → s < L.states b → StateListed b row s ways

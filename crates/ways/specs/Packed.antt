@@ -2,7 +2,7 @@
 -- subtraction tells of all stocks at once whether there is enough.
 use mathlib.Core.List.{List}
 use mathlib.Core.Path.{_≡_}
-use Prim.Native.Nat.{ℕ, zero, suc, _+_, _*_, _/_, _%_, _≤_, _<_}
+use Prim.Native.Nat.{ℕ, zero, suc, _+_, _*_, _/_, _%_, _≤_, _<_, min}
 use Rattle.game.specs.Position.{Arena, Position, IsPosition, number}
 use Rattle.game.specs.Inner.Stocks.{stocksOf}
 use Rattle.turns.specs.Sizes.{maxStocks}
@@ -31,3 +31,7 @@ Narrow w = (w % packBase < maxStocks) × (w / packBase < maxStocks)
 -- what stands at place o can be taken from place x: each digit is at most the other's
 abbrev pub Covers : List ℕ → ℕ → ℕ → Type 0
 Covers l x o = (packedIn l o % packBase ≤ packedIn l x % packBase) × (packedIn l o / packBase ≤ packedIn l x / packBase)
+
+-- the place of the stocks packed in x with those packed in g more, as far as there is room below those packed in `full`
+abbrev pub filledPlace : ℕ → ℕ → ℕ → ℕ
+filledPlace full x g = min (full % packBase) ((x + g) % packBase) * suc (full / packBase) + min (full / packBase) ((x + g) / packBase)

@@ -28,8 +28,12 @@ pub fn lands(block: &[u8], row: Row, ways: &[u8], spot: Spot, k: usize) -> Landi
 {
     let x = spot.place;
     let o = lines::taken(ways, spot.state, k);
-    if packs::covers(ways, x, o) {
+    if !packs::covers(ways, x, o) {
+        return Landing::Unpaid;
+    }
+    let g = lines::given(ways, spot.state, k);
+    if g == 0 {
         return Landing::At(x - o);
     }
-    Landing::Unpaid
+    Landing::At(packs::filled(ways, row.places - 1, x - o, g))
 }

@@ -1,5 +1,5 @@
 // The buffer that holds the listing of a row: first the packed stocks of the stock places, then for each state the counts of its
-// moves and replies, its moves, its replies, and what each move takes. No other module computes a place in it.
+// moves and replies, its moves, its replies, and what each move takes and gives. No other module computes a place in it.
 use block::layout;
 use block::widths::wide;
 use turns::buffers;
@@ -11,17 +11,19 @@ ghost use Rattle.block.specs.Layout.{maxStates, maxJoint};
 ghost use Rattle.turns.specs.Sizes.{rankEnd, maxStockPlaces};
 ghost use Rattle.turns.specs.Buffers.{rankIn};
 ghost use Rattle.turns.specs.Inner.Stores.{Stored};
-ghost use Rattle.ways.specs.Lines.{stateBytes, waysBytes, fieldPlace, fieldIn, countAt, lineAt, takesAt, packedIn, countIn, numberIn, takenIn, FoundAt};
+ghost use Rattle.ways.specs.Lines.{stateBytes, waysBytes, fieldPlace, fieldIn, countAt, lineAt, takesAt, givesAt, packedIn, countIn, numberIn, takenIn, givenIn, FoundAt};
 
-// Where the states begin, and how many bytes each has: two counts, and three lines with a byte for each joint action.
+// Where the states begin, and how many bytes each has: two counts, and four lines with a byte for each joint action.
 const STATES_BASE: usize = 2 * sizes::MAX_STOCK_PLACES;
 
-const STATE_BYTES: usize = 2 + 3 * layout::JOINT_ACTIONS;
+const STATE_BYTES: usize = 2 + 4 * layout::JOINT_ACTIONS;
 
 pub const WAYS_BYTES: usize = STATES_BASE + STATE_BYTES * layout::MAX_STATES;
 
-// Where the takes of a state begin.
+// Where what the moves of a state take begins, and what they give.
 const TAKES: usize = 2 + 2 * layout::JOINT_ACTIONS;
+
+const GIVES: usize = TAKES + layout::JOINT_ACTIONS;
 
 // Field f of state s.
 fn field(ways: &[u8], s: usize, f: usize) -> usize
@@ -104,11 +106,20 @@ pub fn taken(ways: &[u8], s: usize, k: usize) -> usize
     field(ways, s, TAKES + k)
 }
 
-pub fn set_taken(ways: &mut [u8], s: usize, k: usize, o: usize)
-    requires { ⌜ (length (now ways) ≡ waysBytes) × (s < maxStates) × (k < maxJoint) × (o < maxStockPlaces) ⌝ }
-    ensures { λ _. ⌜ now (ways .exit) ≡ set (now (ways .entry)) (fieldPlace s (takesAt + k)) o ⌝ }
+// What it gives, in the same way.
+pub fn given(ways: &[u8], s: usize, k: usize) -> usize
+    requires { ⌜ (length (now ways) ≡ waysBytes) × (s < maxStates) × (k < maxJoint) ⌝ }
+    ensures { λ r. ⌜ (r ≡ givenIn (now (ways .entry)) s k) × (r < 256) ⌝ }
 {
-    set_field(ways, s, TAKES + k, o as u8);
+    field(ways, s, GIVES + k)
+}
+
+pub fn set_effect(ways: &mut [u8], s: usize, k: usize, takes: usize, gives: usize)
+    requires { ⌜ (length (now ways) ≡ waysBytes) × (s < maxStates) × (k < maxJoint) × (takes < maxStockPlaces) × (gives < maxStockPlaces) ⌝ }
+    ensures { λ _. ⌜ now (ways .exit) ≡ set (set (now (ways .entry)) (fieldPlace s (takesAt + k)) takes) (fieldPlace s (givesAt + k)) gives ⌝ }
+{
+    set_field(ways, s, TAKES + k, takes as u8);
+    set_field(ways, s, GIVES + k, gives as u8);
 }
 
 // The packed stocks of stock place x.

@@ -20,7 +20,7 @@ ghost use Rattle.game.specs.Inner.Stocks.{offset};
 ghost use Rattle.game.specs.Model.{structureOf, coalitionOf, arenaOf};
 ghost use Rattle.turns.specs.Inner.Rules.{PartsTable, ReplyTo};
 ghost use Rattle.ways.specs.Lines.{waysBytes, fieldPlace, countIn, numberIn, countAt, lineAt, takesAt};
-ghost use Rattle.ways.specs.Listing.{LeadsInto, Eligible, Listable, LineOf, TakesOf, StateListed, Listed, SameOutside};
+ghost use Rattle.ways.specs.Listing.{LeadsInto, Eligible, Listable, LineOf, EffectsOf, StateListed, Listed, SameOutside};
 ghost use Rattle.ways.specs.Rows.{Playable};
 
 // Whether full stock pays the move m of row i's team in state s.
@@ -115,7 +115,8 @@ fn ends_line(block: &[u8], row: Row, s: usize, ours: bool, m: usize) -> bool
     if !row.into {
         return false;
     }
-    positions::offset(block, row.index, s, m) == 0
+    let e = positions::effect_of(block, row.index, s, m);
+    e.takes == 0
 }
 
 // Lists the moves of state s, or the replies there, in rising order. Answers how many there are.
@@ -141,19 +142,20 @@ fn list_line(block: &[u8], parts: &Table, row: Row, s: usize, ours: bool, ways: 
     n
 }
 
-// Stores what each listed move of state s takes.
-fn list_takes(block: &[u8], row: Row, s: usize, ways: &mut [u8])
+// Stores what each listed move of state s takes and gives.
+fn list_effects(block: &[u8], row: Row, s: usize, ways: &mut [u8])
     requires { ⌜ Valid (now block) ⌝ }
     requires { ⌜ Playable (now block) row × (s < L.states (now block)) × (length (now ways) ≡ waysBytes) ⌝ }
     requires { ⌜ LineOf (Listable (now block) row s true) (numberIn (now ways) s true) (countIn (now ways) s true) ⌝ }
-    ensures { λ _. ⌜ TakesOf (now (block .entry)) row s (now (ways .exit)) ⌝ }
-    ensures { λ _. ⌜ SameOutside (fieldPlace s takesAt) (fieldPlace s takesAt + L.maxJoint) (now (ways .entry)) (now (ways .exit)) ⌝ }
+    ensures { λ _. ⌜ EffectsOf (now (block .entry)) row s (now (ways .exit)) ⌝ }
+    ensures { λ _. ⌜ SameOutside (fieldPlace s takesAt) (fieldPlace (s + 1) 0) (now (ways .entry)) (now (ways .exit)) ⌝ }
 {
     let i = row.index;
     let n = lines::count(ways, s, true);
     for k in 0..n {
         let m = lines::number(ways, s, true, k);
-        lines::set_taken(ways, s, k, positions::offset(block, i, s, m));
+        let e = positions::effect_of(block, i, s, m);
+        lines::set_effect(ways, s, k, e.takes, e.gives);
     }
 }
 
@@ -169,7 +171,7 @@ fn list_state(block: &[u8], parts: &Table, row: Row, s: usize, ways: &mut [u8])
     lines::set_count(ways, s, false, replies);
     let moves = list_line(block, parts, row, s, true, ways);
     lines::set_count(ways, s, true, moves);
-    list_takes(block, row, s, ways);
+    list_effects(block, row, s, ways);
 }
 
 // Lists all of a row.

@@ -15,7 +15,7 @@ ghost use Rattle.game.specs.Model.{arenaOf};
 ghost use Rattle.turns.specs.Sizes.{maxStockPlaces};
 ghost use Rattle.ways.specs.Lines.{waysBytes, packedIn};
 ghost use Rattle.ways.specs.Rows.{Playable};
-ghost use Rattle.ways.specs.Packed.{packBase, PackedAt, Packs, Narrow, Covers};
+ghost use Rattle.ways.specs.Packed.{packBase, PackedAt, Packs, Narrow, Covers, filledPlace};
 
 const PACK_BASE: usize = 2 * sizes::MAX_STOCKS;
 
@@ -53,6 +53,19 @@ pub fn fill_packs(block: &[u8], row: Row, ways: &mut [u8])
     for x in 0..c {
         lines::set_packed(ways, x, pack_at(block, i, x));
     }
+}
+
+// Place x with what stands at place g more, as far as there is room below the last place.
+pub fn filled(ways: &[u8], last: usize, x: usize, g: usize) -> usize
+    requires { ⌜ (length (now ways) ≡ waysBytes) × (last < maxStockPlaces) × (x < maxStockPlaces) × (g < maxStockPlaces) ⌝ }
+    requires { ⌜ Narrow (packedIn (now ways) last) × Narrow (packedIn (now ways) x) × Narrow (packedIn (now ways) g) ⌝ }
+    ensures { λ r. ⌜ r ≡ filledPlace (packedIn (now (ways .entry)) last) (packedIn (now (ways .entry)) x) (packedIn (now (ways .entry)) g) ⌝ }
+{
+    let full = lines::packed(ways, last);
+    let sum = lines::packed(ways, x) + lines::packed(ways, g);
+    let low = positions::smaller(full % PACK_BASE, sum % PACK_BASE);
+    let high = positions::smaller(full / PACK_BASE, sum / PACK_BASE);
+    low * (full / PACK_BASE + 1) + high
 }
 
 // Whether place x has what stands at place o.

@@ -26,7 +26,7 @@ prepare-requires c κs =
     let pre = c .before .before .before .before .before .before .before .before .before .pre in
     let raised = c .before .before .before .before .raise-copy .ensures in
     let row = raised-row (pre .0) (pre .1 .0 .0) (pre .1 .0 .1) raised in
-    (raised-valid (pre .0) (pre .1 .0 .0) (pre .1 .0 .1) raised, (row .0, row .1, length-replicate {A = ℕ} 5168 0, pre .1 .1 .1))
+    (raised-valid (pre .0) (pre .1 .0 .0) (pre .1 .0 .1) raised, (row .0, row .1, length-replicate {A = ℕ} 6704 0, pre .1 .1 .1))
 
 zeros-requires : tie.Need-zeros-requires
 zeros-requires c κs = search needs

@@ -30,7 +30,7 @@ label-row-requires : tie.Need-label-row-requires
 label-row-requires c κs =
     let pre = c .before .before .before .before .before .before .before .before .before .before .before .before .before .before .pre in
     let lower = c .before .before .before .before .before .before .before .label-needed .ensures in
-    (pre .0, ((pre .1 .0, omega (arith, lower .0 .long), lower .1 .0 ∙ length-replicate {A = ℕ} 5168 0, lower .1 .1 ∙ pre .1 .2), λ j named. lower .0 .each j (directly named)))
+    (pre .0, ((pre .1 .0, omega (arith, lower .0 .long), lower .1 .0 ∙ length-replicate {A = ℕ} 6704 0, lower .1 .1 ∙ pre .1 .2), λ j named. lower .0 .each j (directly named)))
 
 slice-aggregate-word-at : tie.Need-slice-aggregate-word-at
 slice-aggregate-word-at c = search needs

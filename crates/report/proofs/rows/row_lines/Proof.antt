@@ -20,7 +20,7 @@ slice-aggregate-label-row : tie.Need-slice-aggregate-label-row
 slice-aggregate-label-row c = search needs
 
 label-row-requires : tie.Need-label-row-requires
-label-row-requires c κs = let args = c .before .before .before .before .before .before .before .before .args in let pre = c .before .before .before .before .before .before .before .before .pre in (pre .0 .0, ((pre .0 .1, omega (arith, pre .1 .0 .0), length-replicate {A = ℕ} 5168 0, omega (arith, pre .1 .0 .1)), lower-named (args .block .now) (pre .0 .0) (args .i) (args .sets .now) (pre .0 .1) (pre .1 .1)))
+label-row-requires c κs = let args = c .before .before .before .before .before .before .before .before .args in let pre = c .before .before .before .before .before .before .before .before .pre in (pre .0 .0, ((pre .0 .1, omega (arith, pre .1 .0 .0), length-replicate {A = ℕ} 6704 0, omega (arith, pre .1 .0 .1)), lower-named (args .block .now) (pre .0 .0) (args .i) (args .sets .now) (pre .0 .1) (pre .1 .1)))
 
 -- the word that was read is the row's set
 told : (c : tie.After-word-at) → RowSet (c .before .before .before .before .before .before .before .before .before .before .before .before .before .before .before .before .args .block .now) (c .before .before .before .before .before .before .before .before .before .before .before .before .before .before .before .before .args .i) (c .word-at .result)
@@ -63,7 +63,7 @@ slice-aggregate-row-table : tie.Need-slice-aggregate-row-table
 slice-aggregate-row-table c = search needs
 
 row-table-requires : tie.Need-row-table-requires
-row-table-requires c κs = let pre = c .before .before .before .before .before .before .before .before .before .before .before .before .before .before .before .before .before .before .before .before .before .before .before .before .before .before .pre in (pre .0 .0, ((pre .0 .1, strategic (c .before .before .before .before)), ((c .before .before .before .before .before .before .before .before .before .before .before .before .before .before .before .before .before .label-row .ensures .0 .long ∙ pre .1 .0 .0, c .before .before .before .before .before .before .before .before .before .before .before .before .before .before .before .before .before .label-row .ensures .1 .1 .1 .0 ∙ length-replicate {A = ℕ} 5168 0, c .before .before .before .before .before .before .before .before .before .before .before .before .before .before .before .before .before .label-row .ensures .1 .1 .1 .1 ∙ pre .1 .0 .1, pre .1 .0 .2), c .before .before .before .before .before .before .before .before .before .before .before .before .before .before .before .before .before .label-row .ensures .1 .0)))
+row-table-requires c κs = let pre = c .before .before .before .before .before .before .before .before .before .before .before .before .before .before .before .before .before .before .before .before .before .before .before .before .before .before .pre in (pre .0 .0, ((pre .0 .1, strategic (c .before .before .before .before)), ((c .before .before .before .before .before .before .before .before .before .before .before .before .before .before .before .before .before .label-row .ensures .0 .long ∙ pre .1 .0 .0, c .before .before .before .before .before .before .before .before .before .before .before .before .before .before .before .before .before .label-row .ensures .1 .1 .1 .0 ∙ length-replicate {A = ℕ} 6704 0, c .before .before .before .before .before .before .before .before .before .before .before .before .before .before .before .before .before .label-row .ensures .1 .1 .1 .1 ∙ pre .1 .0 .1, pre .1 .0 .2), c .before .before .before .before .before .before .before .before .before .before .before .before .before .before .before .before .before .label-row .ensures .1 .0)))
 
 plan-lines-requires : tie.Need-plan-lines-requires
 plan-lines-requires c κs =

@@ -41,7 +41,7 @@ label-rows-requires c κs =
     let b = c .before .before .before .before .before .before .before .before .before .before .before .before .before .before .before .before .args .block .now in
     let valid = passing {b = c .before .before .before .before .before .before .before .before .before .before .before .before .before .before .before .before .args .block .now} (rw (c .before .before .before .before .before .before .before .before .enum-told .given .1) at (c .before .before .before .before .before .before .before .before .before .before .check .ensures)) in
     let few : c .before .before .before .rows .result ≤ L.rows b = omega (arith, c .before .before .before .rows .ensures) in
-    (valid, ((few, omega (arith, c .before .before .before .before .before .before .zeros .kept .0, c .before .before .before .before .before .before .before .before .before .before .before .before .if1 .left), length-replicate {A = ℕ} 5168 0, omega (arith, c .before .before .before .before .before .before .before .before .before .before .before .if2 .left)), all-closed b valid (c .before .before .before .rows .result) few))
+    (valid, ((few, omega (arith, c .before .before .before .before .before .before .zeros .kept .0, c .before .before .before .before .before .before .before .before .before .before .before .before .if1 .left), length-replicate {A = ℕ} 6704 0, omega (arith, c .before .before .before .before .before .before .before .before .before .before .before .if2 .left)), all-closed b valid (c .before .before .before .rows .result) few))
 
 zeros-requires-2 : tie.Need-zeros-requires-2
 zeros-requires-2 c κs = search needs

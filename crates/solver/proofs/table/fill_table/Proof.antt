@@ -13,7 +13,7 @@ slice-aggregate-prepare : tie.Need-slice-aggregate-prepare
 slice-aggregate-prepare c = search needs
 
 prepare-requires : tie.Need-prepare-requires
-prepare-requires c κs = let pre = c .before .before .before .before .before .pre in (pre .0, (pre .1 .0 .0, pre .1 .0 .1, length-replicate {A = ℕ} 5168 0, pre .1 .1 .0))
+prepare-requires c κs = let pre = c .before .before .before .before .before .pre in (pre .0, (pre .1 .0 .0, pre .1 .0 .1, length-replicate {A = ℕ} 6704 0, pre .1 .1 .0))
 
 slice-aggregate-fill-moves : tie.Need-slice-aggregate-fill-moves
 slice-aggregate-fill-moves c = search needs

@@ -84,14 +84,14 @@ loop-again c =
     let totals : TotalTo (args .block .now) (args .team) (args .m) (args .s) (args .j) (at .a + 1) (toZ w32 (c .if1 .total)) =
     ⊎-elim
     (λ w.
-        let place : tie.After-cost Inv-loop μ-loop = record { before = record { before = c .before; if1 = w .0 }; cost = w .1 } in
-        let all = joined place (w .2 .result) (w .2 .ensures) in
-        let few : at .a + 1 ≤ 3 = omega (arith, agent, pre .0 .sized .agents-fit) in
-        subst (TotalTo (args .block .now) (args .team) (args .m) (args .s) (args .j) (at .a + 1)) (sym (ap (toZ w32) (w .3) ∙ toZ-ofZ w32 (w .2 .result) (total-fits _ _ _ _ _ (at .a + 1) _ few all))) all)
+    let place : tie.After-cost Inv-loop μ-loop = record { before = record { before = c .before; if1 = w .0 }; cost = w .1 } in
+    let all = joined place (w .2 .result) (w .2 .ensures) in
+    let few : at .a + 1 ≤ 3 = omega (arith, agent, pre .0 .sized .agents-fit) in
+    subst (TotalTo (args .block .now) (args .team) (args .m) (args .s) (args .j) (at .a + 1)) (sym (ap (toZ w32) (w .3) ∙ toZ-ofZ w32 (w .2 .result) (total-fits _ _ _ _ _ (at .a + 1) _ few all))) all)
     (λ w.
-        subst (λ (x : ℕ). TotalTo (args .block .now) (args .team) (args .m) (args .s) (args .j) (at .a + 1) (toZ w32 x)) (sym (w .1))
-        (total-other (args .block .now) (pre .0) (args .team) (args .m) (args .s) (args .j) (at .a) (pre .1 .0 .0) (pre .1 .0 .1) agent (pre .1 .1) (toZ w32 (at .total)) (at .inv .1)
-        (λ e. w .0 .left (omega (arith, at .inv .2)))))
+    subst (λ (x : ℕ). TotalTo (args .block .now) (args .team) (args .m) (args .s) (args .j) (at .a + 1) (toZ w32 x)) (sym (w .1))
+    (total-other (args .block .now) (pre .0) (args .team) (args .m) (args .s) (args .j) (at .a) (pre .1 .0 .0) (pre .1 .0 .1) agent (pre .1 .1) (toZ w32 (at .total)) (at .inv .1)
+    (λ e. w .0 .left (omega (arith, at .inv .2)))))
     (c .if1 .came) in
     (omega arith, totals, shift _ 2 _ _ (at .inv .2), shift _ 4 _ _ (at .inv .3))
 

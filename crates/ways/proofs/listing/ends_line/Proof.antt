@@ -13,11 +13,11 @@ returns c = fails (λ h. apart (c .before .before .args .ours) (h .0) (not-true 
 returns-2 : tie.Need-returns-2
 returns-2 c = fails (λ h. apart (c .before .before .before .before .args .row .into) (h .1) (not-true (c .before .before .before .before .args .row .into) (c .if2 .taken)))
 
-offset-requires : tie.Need-offset-requires
-offset-requires c κs = (c .before .before .before .before .pre .0, ((c .before .before .before .before .pre .1 .0 .0 .inside, c .before .before .before .before .pre .1 .0 .0 .strategic, c .before .before .before .before .pre .1 .0 .1), c .before .before .before .before .pre .1 .1 (not-false _ (c .before .before .if1 .left))))
+effect-of-requires : tie.Need-effect-of-requires
+effect-of-requires c κs = (c .before .before .before .before .pre .0, ((c .before .before .before .before .pre .1 .0 .0 .inside, c .before .before .before .before .pre .1 .0 .0 .strategic, c .before .before .before .before .pre .1 .0 .1), c .before .before .before .before .pre .1 .1 (not-false _ (c .before .before .if1 .left))))
 
 returns-3 : tie.Need-returns-3
-returns-3 c = D.same (D.equal (c .offset .result) 0) (λ e. (not-false _ (c .before .before .before .if1 .left), not-false _ (c .before .if2 .left), sym (c .offset .ensures) ∙ e)) (λ h. c .offset .ensures ∙ h .2)
+returns-3 c = D.same (D.equal (c .before .effect-of .result .takes) 0) (λ e. (not-false _ (c .before .before .before .before .if1 .left), not-false _ (c .before .before .if2 .left), sym (c .before .effect-of .ensures .0) ∙ e)) (λ h. c .before .effect-of .ensures .0 ∙ h .2)
 
 pub ends-line-spec : {M : Type 1} → statement M
-ends-line-spec = tie.close (tie.spec returns returns-2 offset-requires returns-3)
+ends-line-spec = tie.close (tie.spec returns returns-2 effect-of-requires returns-3)

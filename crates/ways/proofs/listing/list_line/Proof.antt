@@ -34,7 +34,7 @@ loop-holds c =
     let args = c .before .before .before .args in
     (omega arith, line-none (Listable (args .block .now) (args .row) (args .s) (args .ours)) (numberIn (args .ways .now) (args .s) (args .ours)), outside-none (fieldPlace (args .s) (lineAt (args .ours))) (fieldPlace (args .s) (lineAt (args .ours)) + 64) (args .ways .now), λ k less. absurd (omega arith))
 
-long : (c : tie.In-loop Inv-loop μ-loop) → length (c .before .loop .ways) ≡ 5168
+long : (c : tie.In-loop Inv-loop μ-loop) → length (c .before .loop .ways) ≡ 6704
 long c = c .before .loop .inv .2 .long ∙ c .before .before .before .before .before .pre .1 .0 .2
 
 state-small : (start : tie.Start Inv-loop μ-loop) → start .args .s < 24

@@ -43,8 +43,8 @@ set-count-requires-2 c κs = (long₃ (c .before .before .before), state-small (
 long₄ : (c : tie.After-set-count2) → length (c .set-count2 .last .0) ≡ waysBytes
 long₄ c = set-long (c .before .before .before .before .list-line2 .last .1 .1 .1 .1 .1 .0) (c .set-count2 .last .0) (fieldPlace (c .before .before .before .before .before .before .before .before .before .before .before .before .before .before .before .before .args .s) 0) (c .before .before .before .before .list-line2 .result) (c .set-count2 .ensures) ∙ long₃ (c .before .before .before .before)
 
-list-takes-requires : tie.Need-list-takes-requires
-list-takes-requires c κs =
+list-effects-requires : tie.Need-list-effects-requires
+list-effects-requires c κs =
     let one = c .before .before .before .before .before .before .before .before .before .before .before .before .before .before .before .list-line in
     let two = c .before .before .before .before .before .before .before .before .before .before .before .set-count in
     let three = c .before .before .before .before .before .before .before .list-line2 in
@@ -57,7 +57,7 @@ list-takes-requires c κs =
     )
 
 same-length : tie.Need-same-length
-same-length c = c .before .before .list-takes .ensures .1 .long ∙ long₄ (c .before .before .before .before .before .before) ∙ sym (c .before .before .before .before .before .before .before .before .before .before .before .before .before .before .before .before .before .before .before .before .before .before .pre .1 .0 .2)
+same-length c = c .before .before .list-effects .ensures .1 .long ∙ long₄ (c .before .before .before .before .before .before) ∙ sym (c .before .before .before .before .before .before .before .before .before .before .before .before .before .before .before .before .before .before .before .before .before .before .pre .1 .0 .2)
 
 returns : tie.Need-returns
 returns c =
@@ -65,7 +65,7 @@ returns c =
     let two = c .before .before .before .before .before .before .before .before .before .before .before .before .before .before .set-count in
     let three = c .before .before .before .before .before .before .before .before .before .before .list-line2 in
     let four = c .before .before .before .before .before .before .set-count2 in
-    let five = c .before .before .list-takes in
+    let five = c .before .before .list-effects in
     state-whole (c .before .before .before .before .before .before .before .before .before .before .before .before .before .before .before .before .before .before .before .before .before .before .args .block .now) (c .before .before .before .before .before .before .before .before .before .before .before .before .before .before .before .before .before .before .before .before .before .before .args .row) (c .before .before .before .before .before .before .before .before .before .before .before .before .before .before .before .before .before .before .before .before .before .before .args .s) (one .result) (state-small (c .before .before .before .before .before .before .before .before .before .before .before .before .before .before .before .before .before .before .before .before .before .before)) (c .before .before .before .before .before .before .before .before .before .before .before .before .before .before .before .before .before .before .before .before .before .before .args .ways .now) (one .last .1 .1 .1 .1 .1 .0) (two .last .0) (c .before .before .before .before .before .before .before .before .before .before .before .before .before .before .before .before .before .before .before .before .before .before .pre .1 .0 .2) (one .ensures .1) (one .ensures .0) (two .ensures) (three .result) (three .last .1 .1 .1 .1 .1 .0) (four .last .0) (three .ensures .1) (three .ensures .0) (four .ensures)
     (five .last .1 .1 .1 .0) (five .ensures .1) (five .ensures .0)
 
@@ -77,6 +77,6 @@ list-state-spec =
     set-count-requires
     list-line-requires-2
     set-count-requires-2
-    list-takes-requires
+    list-effects-requires
     same-length
     returns)

@@ -4,15 +4,15 @@ use native.Mathlib.Omega.{arith}
 use borrow.Author.Count.{below-more}
 use Rattle.block.specs.Inner.Tests.{holds, fails}
 use Rattle.block.specs.Layout as L
-use Rattle.game.specs.Rbatl.{Fits}
-use Rattle.game.specs.Position.{stockBound, fullStock, cost, full}
+use Rattle.game.specs.Rbatl.{fullStock, Pays}
+use Rattle.game.specs.Position.{cost, charge, full}
 use Rattle.game.specs.Model.{arenaOf}
-use Rattle.ways.proofs.Packing.{full-taken, taken-full}
+use Rattle.ways.proofs.Offsets.{full-taken, taken-full}
 use Rattle.ways.proofs.listing.payable_at_all.Statement.{statement}
 use Rattle.ways.proofs.listing.payable_at_all.Tie as tie
 
 abbrev Inv-loop : tie.InvT-loop
-Inv-loop block i s m n j₀ j = (j ≤ n) × ((r : ℕ) → r < j → Fits (cost (arenaOf block i) (full (arenaOf block i) s) m r) (stockBound (arenaOf block i .bounds r) (fullStock (arenaOf block i .bounds r))))
+Inv-loop block i s m n j₀ j = (j ≤ n) × ((r : ℕ) → r < j → Pays (arenaOf block i .bounds r) (fullStock (arenaOf block i .bounds r)) (cost (arenaOf block i) (full (arenaOf block i) s) m r) (charge (arenaOf block i) (full (arenaOf block i) s) m r))
 
 abbrev μ-loop : tie.MeasureT-loop
 μ-loop block i s m n j₀ j = n - j
@@ -37,7 +37,7 @@ returns c =
     let args = c .before .before .before .before .before .before .before .args in
     let G = arenaOf (args .block .now) (args .i) in
     let j = c .before .before .before .before .loop .j in
-    fails (λ all. omega (arith, full-taken (G .bounds j) (cost G (full G (args .s)) (args .m) j) (all j (resource-at (c .before .before .before))), c .before .before .places .ensures, c .before .taken .ensures, c .if1 .taken))
+    fails (λ all. omega (arith, full-taken (G .bounds j) (cost G (full G (args .s)) (args .m) j) (charge G (full G (args .s)) (args .m) j) (all j (resource-at (c .before .before .before))), c .before .before .places .ensures, c .before .taken .ensures, c .if1 .taken))
 
 add-j : tie.Need-add-j Inv-loop μ-loop
 add-j c = omega arith
@@ -50,7 +50,7 @@ loop-again c =
     let args = c .before .before .before .before .before .before .before .args in
     let G = arenaOf (args .block .now) (args .i) in
     let at = c .before .before .before .before .loop in
-    (omega (arith, c .before .before .before .loop-test .taken), below-more _ _ (at .inv .1) (taken-full (G .bounds (at .j)) (cost G (full G (args .s)) (args .m) (at .j)) (omega (arith, c .before .before .places .ensures, c .before .taken .ensures, c .if1 .left))))
+    (omega (arith, c .before .before .before .loop-test .taken), below-more _ _ (at .inv .1) (taken-full (G .bounds (at .j)) (cost G (full G (args .s)) (args .m) (at .j)) (charge G (full G (args .s)) (args .m) (at .j)) (omega (arith, c .before .before .places .ensures, c .before .taken .ensures, c .if1 .left))))
 
 returns-2 : tie.Need-returns-2 Inv-loop μ-loop
 returns-2 c = holds (λ r l. c .before .loop .inv .1 r (omega (arith, c .before .before .resources .ensures, c .loop-test .left)))
