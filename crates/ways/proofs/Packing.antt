@@ -17,6 +17,7 @@ use Rattle.game.proofs.Numbers.Decide.{eq?, lt?}
 use Rattle.game.proofs.Numbers.Stocks.{taken-pays}
 use Rattle.game.proofs.Blocks.Passing.{few-places}
 use Rattle.ways.specs.Places.{PlacedAt}
+use Rattle.ways.specs.Back.{Comes, ComesAt}
 use Rattle.ways.specs.Packed.{packedFrom, PackedAt, Packs, Narrow, Covers, filledPlace}
 use Rattle.ways.proofs.Offsets.{full-taken}
 
@@ -53,6 +54,10 @@ module _ (n : ℕ) (some : 1 ≤ n) (few : n ≤ 2) (p : Position) (small : (r :
     packed-at-most (low, high) zero l = omega (arith, digits n some few p small .low, digits n some few z small-z .low)
     packed-at-most (low, high) (suc zero) l = omega (arith, digits n some few p small .high l, digits n some few z small-z .high l)
     packed-at-most (low, high) (suc (suc r)) l = absurd (omega arith)
+
+-- numbers that are equal come to the same
+pub comes-to : {f f′ x x′ t t′ g g′ z : ℕ} → f ≡ f′ → x ≡ x′ → t ≡ t′ → g ≡ g′ → Comes f′ x′ t′ g′ z → Comes f x t g z
+comes-to ef ex et eg comes = rw (ef, ex, et, eg) comes
 
 -- the place that stocks fill to
 module _ (G : Arena) (few : (1 ≤ G .structure .resources) × (G .structure .resources ≤ 2)) (small : (r : ℕ) → r < G .structure .resources → places (G .bounds r) ≤ 16) where
@@ -136,6 +141,39 @@ module _ (G : Arena) (few : (1 ≤ G .structure .resources) × (G .structure .re
 
         one : n ≤ 1 → (min (t / 32) ((w + v) / 32) ≡ 0) × (suc (t / 32) ≡ 1)
         one l = (ap₂ min (dt .none l) (sum-high ∙ ap₂ _+_ (dp .none l) (dg .none l)), ap suc (dt .none l))
+
+  -- where the stocks of a place come to, one after another, they come to by their digits
+  module _ (top out t g p : Position) (top-full : (r : ℕ) → r < n → top .stock r ≡ fullStock (G .bounds r)) (out-small : (r : ℕ) → r < n → out .stock r < 16) (t-small : (r : ℕ) → r < n → t .stock r < 16) (g-small : (r : ℕ) → r < n → g .stock r < 16)
+      (come : (r : ℕ) → r < n → Comes (top .stock r) (out .stock r) (t .stock r) (g .stock r) (p .stock r)) where
+    top-small : (r : ℕ) → r < n → top .stock r < 16
+    top-small r l = omega (arith, top-full r l, full-fits (G .bounds r), small r l)
+
+    dt : Digits n top (packedFrom n top 0)
+    dt = digits n (few .0) (few .1) top top-small
+
+    low-comes : Comes (packedFrom n top 0 % 32) (packedFrom n out 0 % 32) (packedFrom n t 0 % 32) (packedFrom n g 0 % 32) (p .stock 0)
+    low-comes = comes-to (dt .low) (digits n (few .0) (few .1) out out-small .low) (digits n (few .0) (few .1) t t-small .low) (digits n (few .0) (few .1) g g-small .low) (come 0 (omega (arith, few)))
+
+    pub comes-at : ComesAt (packedFrom n top 0) (packedFrom n out 0) (packedFrom n t 0) (packedFrom n g 0) (number G (stocksOf G p))
+    comes-at = go (lt? 1 n)
+      where
+        go : Dec (1 < n) → ComesAt (packedFrom n top 0) (packedFrom n out 0) (packedFrom n t 0) (packedFrom n g 0) (number G (stocksOf G p))
+        go (yes l) = (
+          p .stock 0,
+          p .stock 1,
+          sym (by-digits (stocksOf G p) (p .stock 0) (p .stock 1) (suc (packedFrom n top 0 / 32)) refl (λ _. (refl, omega (arith, dt .high l, top-full 1 l, full-suc (G .bounds 1)))) (λ one. absurd (omega arith)) refl),
+          low-comes,
+          comes-to (dt .high l) (digits n (few .0) (few .1) out out-small .high l) (digits n (few .0) (few .1) t t-small .high l) (digits n (few .0) (few .1) g g-small .high l) (come 1 l),
+        )
+        go (no l) =
+            let one : n ≤ 1 = omega arith in (
+              p .stock 0,
+              0,
+              sym (by-digits (stocksOf G p) (p .stock 0) 0 (suc (packedFrom n top 0 / 32)) refl (λ two. absurd (omega arith)) (λ _. (refl, ap suc (dt .none one))) refl),
+              low-comes,
+              comes-to (dt .none one) (digits n (few .0) (few .1) out out-small .none one) (digits n (few .0) (few .1) t t-small .none one) (digits n (few .0) (few .1) g g-small .none one)
+                  (record { enough = omega arith; within = omega arith; to = refl }),
+            )
 
 -- the packed stocks of place x, with the last resources done
 pub record PackingTo (b : Block) (i x j rest packed : ℕ) : Type 0 where

@@ -6,3 +6,4 @@ pub mod Extremes
 pub mod Packed
 pub mod Listing
 pub mod Landing
+pub mod Back

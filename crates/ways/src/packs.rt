@@ -6,7 +6,7 @@ use block::layout;
 use turns::positions;
 use turns::sizes;
 ghost use mathlib.Core.Path.{_≡_};
-ghost use Prim.Native.Nat.{_^_, _<_};
+ghost use Prim.Native.Nat.{_/_, _%_, _^_, _<_};
 ghost use lib.ListN.{length};
 ghost use Rattle.block.specs.Inner.Tests.{Decides};
 ghost use Rattle.block.specs.Layout as L;
@@ -52,6 +52,23 @@ pub fn fill_packs(block: &[u8], row: Row, ways: &mut [u8])
     let c = row.places;
     for x in 0..c {
         lines::set_packed(ways, x, pack_at(block, i, x));
+    }
+}
+
+// The stocks of a place, taken apart.
+pub struct Digits {
+    pub low: usize,
+    pub high: usize,
+}
+
+pub fn unpack(ways: &[u8], x: usize) -> Digits
+    requires { ⌜ (length (now ways) ≡ waysBytes) × (x < maxStockPlaces) ⌝ }
+    ensures { λ r. ⌜ (r .low ≡ packedIn (now (ways .entry)) x % packBase) × (r .high ≡ packedIn (now (ways .entry)) x / packBase) ⌝ }
+{
+    let w = lines::packed(ways, x);
+    Digits {
+        low: w % PACK_BASE,
+        high: w / PACK_BASE,
     }
 }
 
