@@ -4,4 +4,5 @@ pub mod Valuing
 pub mod Offering
 pub mod Lowering
 pub mod Sweeping
+pub mod Working
 pub mod Starting

@@ -6,8 +6,8 @@ use Prim.Native.Nat.{ℕ, suc, _+_, _*_, _≤_, _<_}
 use native.Mathlib.Omega.{arith}
 use lib.ListN.{length}
 use Rattle.block.specs.Decide.{Bit}
-use Rattle.game.specs.Position.{Arena, Position, number, positions, Allowed, Reply, outcome}
-use Rattle.game.specs.Inner.Stocks.{stocksOf, stockPlaces}
+use Rattle.game.specs.Position.{Arena, Position, IsPosition, number, positions, Allowed, Reply, outcome}
+use Rattle.game.specs.Inner.Stocks.{stocksOf, stockPlaces, refill}
 use Rattle.game.specs.Table.{never}
 use Rattle.turns.specs.Buffers.{rankIn}
 use Rattle.game.specs.Inner.Sweep.{total}
@@ -16,6 +16,7 @@ use Rattle.game.proofs.Bridge.Proper.{Proper}
 use Rattle.game.proofs.Bridge.Plays.{outcome-fits}
 use Rattle.ways.proofs.Offsets.{remains-number}
 use Rattle.game.proofs.Solving.Sweeping.{at-rest}
+use Rattle.ways.specs.Places.{PlacedAt}
 use Rattle.sweeps.specs.Values.{Attacks, Defends}
 use Rattle.sweeps.specs.Sweeps.{KeptFor, RestsAt, RestsBelow, visit, ChangedAt, Swept, PlaceSettled, Settled}
 use Rattle.ways.proofs.Placing.{stocks-below}
@@ -86,24 +87,45 @@ module _ (G : Arena) (most : Bool) (safe x : ℕ) where
     changed = all .changed;
   }
 
-  -- on the way: sweeps so far, and whether another is needed
-  pub record Sweeping (more : Bool) (l l′ : List ℕ) : Type 0 where
+  -- on the way after a first sweep: whether that did something, and whether another is needed
+  pub record Sweeping (did more : Bool) (l l′ : List ℕ) : Type 0 where
     pub kept : (goal : ℕ) → KeptFor G most safe goal l → KeptFor G most safe goal l′
     pub rests : more ≡ false → RestsBelow G most safe x (G .structure .states) l′
     pub changed : ChangedAt G x l l′
+    pub lower : sum l′ ≤ sum l
+    pub quiet : did ≡ false → (l′ ≡ l) × (more ≡ false)
 
-  pub sweeping-first : (l : List ℕ) → Sweeping true l l
-  sweeping-first l = record { kept = λ goal kept. kept; rests = λ e. let z : _≡_ {A = ℕ} 0 1 = cc in absurd (omega arith); changed = unchanged G x l }
+  abbrev SweptAll : Bool → List ℕ → List ℕ → Type 0
+  SweptAll = Swept G most safe x (RestsBelow G most safe x (G .structure .states))
 
-  pub sweeping-next : (more did : Bool) (l l′ l″ : List ℕ) → Sweeping more l l′ → Swept G most safe x (RestsBelow G most safe x (G .structure .states)) did l′ l″ → Sweeping did l l″
-  sweeping-next more did l l′ l″ before one = record {
+  rests-after : (did : Bool) (l l′ : List ℕ) → SweptAll did l l′ → did ≡ false → RestsBelow G most safe x (G .structure .states) l′
+  rests-after did l l′ one e = let (same, rest) = one .quiet e in subst (RestsBelow G most safe x (G .structure .states)) (sym same) rest
+
+  pub sweeping-first : (did : Bool) (l l′ : List ℕ) → SweptAll did l l′ → Sweeping did did l′ l′
+  sweeping-first did l l′ one = record { kept = λ goal kept. kept; rests = rests-after did l l′ one; changed = unchanged G x l′; lower = omega arith; quiet = λ e. (refl, e) }
+
+  -- the sum does not rise
+  no-more : (did : Bool) (l l′ : List ℕ) → SweptAll did l l′ → sum l′ ≤ sum l
+  no-more true l l′ one = omega (arith, one .falls refl)
+  no-more false l l′ one = omega (arith, ap sum (one .quiet refl .0))
+
+  pub sweeping-next : (first did : Bool) (l l′ l″ : List ℕ) → Sweeping first true l l′ → SweptAll did l′ l″ → Sweeping first did l l″
+  sweeping-next first did l l′ l″ before one = record {
     kept = λ goal kept. one .kept goal (before .kept goal kept);
-    rests = λ e. let (same, rest) = one .quiet e in subst (RestsBelow G most safe x (G .structure .states)) (sym same) rest;
+    rests = rests-after did l′ l″ one;
     changed = changed-both G x l l′ l″ (before .changed) (one .changed);
+    lower = omega (arith, before .lower, no-more did l′ l″ one);
+    quiet = λ e. let (_, more) = before .quiet e in let z : _≡_ {A = ℕ} 0 1 = cc in absurd (omega arith);
   }
 
-  pub sweeping-done : (l l′ : List ℕ) → Sweeping false l l′ → PlaceSettled G most safe x l l′
-  sweeping-done l l′ done = record { kept = done .kept; rests = done .rests refl; changed = done .changed }
+  pub sweeping-done : (did : Bool) (l l′ l″ : List ℕ) → SweptAll did l l′ → Sweeping did false l′ l″ → PlaceSettled G most safe x did l l″
+  sweeping-done did l l′ l″ one done = record {
+    kept = λ goal kept. done .kept goal (one .kept goal kept);
+    rests = done .rests refl;
+    changed = changed-both G x l l′ l″ (one .changed) (done .changed);
+    falls = λ e. omega (arith, one .falls e, done .lower);
+    quiet = λ e. done .quiet e .0 ∙ one .quiet e .0;
+  }
 
   -- a sweep that did something lowered the sum; one that did nothing is the last
   abbrev pub left-to-do : Bool → List ℕ → ℕ
@@ -118,17 +140,27 @@ defends-outcomes : (G : Arena) (most : Bool) (p : Position) (U W : Position → 
 defends-outcomes G true p U W weaker f = λ m a. let (r, reply, u) = f m a in (r, reply, weaker m r a reply u)
 defends-outcomes G false p U W weaker (m, a, f) = (m, a, λ r reply. weaker m r a reply (f r reply))
 
+-- no allowed move gives anything
+abbrev pub Spends : Arena → Type 0
+Spends G = (p : Position) (m : ℕ) → IsPosition G p → Allowed G p m → refill G p m ≡ 0
+
 module _ (G : Arena) (proper : Proper (G .structure)) (most : Bool) (safe : ℕ) where
-  -- no move leads to a place above, so that a place rests whatever becomes of those above
-  rests-still : (x y s : ℕ) (l l′ : List ℕ) → y < x → ChangedAt G x l l′ → RestsAt G most safe y s l → RestsAt G most safe y s l′
-  rests-still x y s l l′ below changed rests p placed in-safe = defends-outcomes G most p _ _ still (rests p placed in-safe)
+  -- a place that does not lead to x rests whatever becomes of x
+  pub rests-still : (x y s : ℕ) (l l′ : List ℕ) → (y ≡ x → ⊥) → ChangedAt G x l l′ → ((p : Position) → PlacedAt G s y p → (m r : ℕ) → Allowed G p m → number G (stocksOf G (outcome G p m r)) ≡ x → ⊥)
+      → RestsAt G most safe y s l → RestsAt G most safe y s l′
+  rests-still x y s l l′ other changed apart rests p placed in-safe = defends-outcomes G most p _ _ still (rests p placed in-safe)
     where
       still : (m r : ℕ) → Allowed G p m → Reply G p r → rankIn l (number G p) ≤ suc (rankIn l (number G (outcome G p m r))) → rankIn l′ (number G p) ≤ suc (rankIn l′ (number G (outcome G p m r)))
       still m r a reply h = omega (
         arith,
-        changed .elsewhere p (placed .fits) (λ e. omega (arith, placed .place)),
-        changed .elsewhere (outcome G p m r) (outcome-fits G proper p m r (placed .fits) (a .0) reply) (λ e. omega (arith, placed .place, remains-number G p m r (placed .fits) (a .1))),
+        changed .elsewhere p (placed .fits) (λ e. other (sym (placed .place) ∙ e)),
+        changed .elsewhere (outcome G p m r) (outcome-fits G proper p m r (placed .fits) (a .0) reply) (apart p placed m r a),
       )
+
+  -- where stock is only spent, no move leads to a place above
+  rests-above : Spends G → (x y s : ℕ) (l l′ : List ℕ) → y < x → ChangedAt G x l l′ → RestsAt G most safe y s l → RestsAt G most safe y s l′
+  rests-above spends x y s l l′ below changed =
+      rests-still x y s l l′ (λ e. omega arith) changed (λ p placed m r a e. omega (arith, placed .place, remains-number G p m (placed .fits) (a .1) (spends p m (placed .fits) a) r))
 
   -- the first x places are settled
   pub record SettledBelow (x : ℕ) (l l′ : List ℕ) : Type 0 where
@@ -140,8 +172,8 @@ module _ (G : Arena) (proper : Proper (G .structure)) (most : Bool) (safe : ℕ)
   pub settled-none : (l : List ℕ) → SettledBelow 0 l l
   settled-none l = record { kept = λ goal kept. kept; rests = λ y small. absurd (omega arith); beyond = λ n _. refl; long = refl }
 
-  pub settled-next : (x : ℕ) (l l′ l″ : List ℕ) → SettledBelow x l l′ → PlaceSettled G most safe x l′ l″ → SettledBelow (x + 1) l l″
-  settled-next x l l′ l″ before one = record {
+  pub settled-next : Spends G → (x : ℕ) (did : Bool) (l l′ l″ : List ℕ) → SettledBelow x l l′ → PlaceSettled G most safe x did l′ l″ → SettledBelow (x + 1) l l″
+  settled-next spends x did l l′ l″ before one = record {
     kept = λ goal kept. one .kept goal (before .kept goal kept);
     rests = λ y small. rests y small (eq? y x);
     beyond = λ n outside. one .changed .beyond n outside ∙ before .beyond n outside;
@@ -150,7 +182,7 @@ module _ (G : Arena) (proper : Proper (G .structure)) (most : Bool) (safe : ℕ)
     where
       rests : (y : ℕ) → y < x + 1 → Dec (y ≡ x) → RestsBelow G most safe y (G .structure .states) l″
       rests y small (yes e) = subst (λ (z : ℕ). RestsBelow G most safe z (G .structure .states) l″) (sym e) (one .rests)
-      rests y small (no ne) = λ s inside. rests-still x y s l′ l″ (omega arith) (one .changed) (before .rests y (omega arith) s inside)
+      rests y small (no ne) = λ s inside. rests-above spends x y s l′ l″ (omega arith) (one .changed) (before .rests y (omega arith) s inside)
 
   pub settled-all : positions G < never → (l l′ : List ℕ) → SettledBelow (stockPlaces G) l l′ → Settled G most safe l l′
   settled-all few l l′ done = record {

@@ -1,5 +1,5 @@
 // The ranks of an until or an always row: first 0 at a goal and 65535 elsewhere, then sweeps.
-use crate::sweep;
+use crate::flagged;
 use crate::sweep::Side;
 use turns::buffers;
 use turns::positions;
@@ -63,5 +63,5 @@ pub fn solve(block: &[u8], row: Row, side: Side, ways: &[u8], goal: usize, ranks
     ensures { λ _. ⌜ Solved (arenaOf (now (block .entry)) (row .index)) (side .most) (side .safe) goal (now (ranks .exit)) × (length (now (ranks .exit)) ≡ length (now (ranks .entry))) ⌝ }
 {
     first_ranks(block, row, goal, ranks);
-    sweep::settle_places(block, row, side, ways, ranks);
+    flagged::settle_places(block, row, side, ways, ranks);
 }

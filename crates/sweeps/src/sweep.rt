@@ -1,5 +1,5 @@
 // Sweeps over the positions of a row: ranks are lowered in place until nothing does better. Until and always go the same way, the
-// one with the coalition attacking, the other with its opponents. Stock is only spent, so one stock place comes to rest after another.
+// one with the coalition attacking, the other with its opponents. Where stock is only spent, one stock place comes to rest after another.
 use crate::value;
 use block::layout;
 use turns::buffers;
@@ -13,7 +13,7 @@ ghost use Rattle.block.specs.Layout as L;
 ghost use Rattle.block.specs.Inner.Valid.{Valid};
 ghost use Rattle.game.specs.Model.{arenaOf};
 ghost use Rattle.turns.specs.Sizes.{roomBytes};
-ghost use Rattle.ways.specs.Listing.{Listed};
+ghost use Rattle.ways.specs.Listing.{AnyGives, Listed};
 ghost use Rattle.ways.specs.Rows.{Playable};
 ghost use Rattle.sweeps.specs.Sweeps.{RestsAt, RestsBelow, visit, Swept, PlaceSettled, Settled};
 
@@ -82,26 +82,35 @@ fn sweep(
     did
 }
 
-// Sweeps at place x until nothing does better, to and fro, since ranks travel along one of the two.
-fn settle_place(block: &[u8], row: Row, side: Side, ways: &[u8], x: usize, ranks: &mut [u8])
+// Sweeps at place x until nothing does better, to and fro, since ranks travel along one of the two. Tells whether any rank fell.
+pub fn settle_place(
+    block: &[u8],
+    row: Row,
+    side: Side,
+    ways: &[u8],
+    x: usize,
+    ranks: &mut [u8],
+) -> bool
     requires { ⌜ Valid (now block) ⌝ }
     requires { ⌜ Playable (now block) row × Listed (now block) row (now ways) × (roomBytes ≤ length (now ranks)) ⌝ }
     requires { ⌜ (row .into ≡ false) × (x < row .places) ⌝ }
-    ensures { λ _. ⌜ PlaceSettled (arenaOf (now (block .entry)) (row .index)) (side .most) (side .safe) x (now (ranks .entry)) (now (ranks .exit)) ⌝ }
+    ensures { λ r. ⌜ PlaceSettled (arenaOf (now (block .entry)) (row .index)) (side .most) (side .safe) x r (now (ranks .entry)) (now (ranks .exit)) ⌝ }
 {
-    let mut back = false;
-    let mut more = true;
+    let did = sweep(block, row, side, ways, x, false, ranks);
+    let mut back = true;
+    let mut more = did;
     while more {
         more = sweep(block, row, side, ways, x, back, ranks);
         back = !back;
     }
+    did
 }
 
-// Settles one stock place after another, from those with the least stock on.
-pub fn settle_places(block: &[u8], row: Row, side: Side, ways: &[u8], ranks: &mut [u8])
+// Settles one stock place after another, from those with the least stock on: enough where no move gives.
+pub fn settle_rising(block: &[u8], row: Row, side: Side, ways: &[u8], ranks: &mut [u8])
     requires { ⌜ Valid (now block) ⌝ }
     requires { ⌜ Playable (now block) row × Listed (now block) row (now ways) × (roomBytes ≤ length (now ranks)) ⌝ }
-    requires { ⌜ row .into ≡ false ⌝ }
+    requires { ⌜ (row .into ≡ false) × (AnyGives (now block) (now ways) → ⊥) ⌝ }
     ensures { λ _. ⌜ Settled (arenaOf (now (block .entry)) (row .index)) (side .most) (side .safe) (now (ranks .entry)) (now (ranks .exit)) ⌝ }
 {
     let c = row.places;

@@ -20,7 +20,7 @@ ghost use Rattle.game.specs.Inner.Stocks.{offset};
 ghost use Rattle.game.specs.Model.{structureOf, coalitionOf, arenaOf};
 ghost use Rattle.turns.specs.Inner.Rules.{PartsTable, ReplyTo};
 ghost use Rattle.ways.specs.Lines.{waysBytes, fieldPlace, countIn, numberIn, countAt, lineAt, takesAt};
-ghost use Rattle.ways.specs.Listing.{LeadsInto, Eligible, Listable, LineOf, EffectsOf, StateListed, Listed, SameOutside};
+ghost use Rattle.ways.specs.Listing.{LeadsInto, Eligible, Listable, LineOf, EffectsOf, StateGives, AnyGives, StateListed, Listed, SameOutside};
 ghost use Rattle.ways.specs.Rows.{Playable};
 
 // Whether full stock pays the move m of row i's team in state s.
@@ -172,6 +172,35 @@ fn list_state(block: &[u8], parts: &Table, row: Row, s: usize, ways: &mut [u8])
     let moves = list_line(block, parts, row, s, true, ways);
     lines::set_count(ways, s, true, moves);
     list_effects(block, row, s, ways);
+}
+
+// Whether a listed move of state s gives something.
+fn state_gives(ways: &[u8], s: usize) -> bool
+    requires { ⌜ (length (now ways) ≡ waysBytes) × (s < L.maxStates) × (countIn (now ways) s true ≤ L.maxJoint) ⌝ }
+    ensures { λ r. ⌜ Decides (StateGives (now (ways .entry)) s) r ⌝ }
+{
+    let n = lines::count(ways, s, true);
+    for k in 0..n {
+        if 0 < lines::given(ways, s, k) {
+            return true;
+        }
+    }
+    false
+}
+
+// Whether any listed move gives something.
+pub fn any_gives(block: &[u8], row: Row, ways: &[u8]) -> bool
+    requires { ⌜ Valid (now block) ⌝ }
+    requires { ⌜ Playable (now block) row × Listed (now block) row (now ways) ⌝ }
+    ensures { λ r. ⌜ Decides (AnyGives (now (block .entry)) (now (ways .entry))) r ⌝ }
+{
+    let n = layout::states(block);
+    for s in 0..n {
+        if state_gives(ways, s) {
+            return true;
+        }
+    }
+    false
 }
 
 // Lists all of a row.
