@@ -39,7 +39,7 @@ module _ (b : Block) (valid : Valid b) (row : Row) (playable : Playable b row) (
       let k = countIn ways s true - 1 in
       let last : k < countIn ways s true = omega arith in
       let useful = listed .states s state .lines true .only k last in
-      way-forces (numberIn ways s true k) useful (free-allowed b valid row playable s x (numberIn ways s true k) p placed (useful .0, useful .1 soon, sym (listed .states s state .takes k last) ∙ nothing) .1)
+      way-forces (numberIn ways s true k) useful (free-allowed b valid row playable s x (numberIn ways s true k) p placed (useful .0, useful .1 soon, sym (listed .states s state .effects k last .0) ∙ nothing) .1)
 
   -- and where no listed move is paid, each can be answered
   pub none-answers : (ways : List ℕ) → Listed b row ways → s < L.states b → ((k : ℕ) → k < countIn ways s true → Affordable G p (numberIn ways s true k) → ⊥) → CanAnswer G p (λ y. Bit (row .set) (y .state) → ⊥)
