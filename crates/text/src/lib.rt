@@ -15,6 +15,8 @@ pub const COMMA: usize = 44;
 
 pub const LINE_END: usize = 10;
 
+pub const MINUS: usize = 45;
+
 pub const ZERO: usize = 48;
 
 pub const NINE: usize = ZERO + 9;
