@@ -10,6 +10,8 @@ pub const TEXT_BYTES: usize = 32768;
 // A number of a text is below this: it is that of a byte.
 pub const NUMBERS: usize = 256;
 
+pub const LAST_NUMBER: usize = NUMBERS - 1;
+
 // The bytes after fields, and those of the digits.
 pub const COMMA: usize = 44;
 
