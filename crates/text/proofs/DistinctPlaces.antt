@@ -18,7 +18,7 @@ use Rattle.text.specs.declared.sizes.Edition.the-variants.{First, Second
 use Rattle.text.specs.declared.sizes.Sizes.{Sizes}
 use Rattle.text.specs.Numeral.{comma, lineEnd}
 use Rattle.text.specs.Format.{Spelling, Format, exactly, value}
-use Rattle.text.specs.Job.{number, bound, index, stateLine, costSpelling, eachResource, actions, actsLine, gather, agentLines, possible, jointFields, byEdition, lastJoint, goWord, goActions, goState, nextField, nextFields, noCounts, stateLines, states, strategic, binary, teamFields, operandFields, rowLine, rowLines, size, resourceSpelling, noKinds, sizesEnd, headerLine, job}
+use Rattle.text.specs.Job.{number, bound, index, stateLine, costSpelling, eachResource, actions, actsLine, collect, agentLines, possible, jointFields, byEdition, lastJoint, goWord, goActions, goState, nextField, nextFields, noCounts, stateLines, states, strategic, binary, teamFields, operandFields, rowLine, rowLines, size, resourceSpelling, noKinds, sizesEnd, headerLine, job}
 use Rattle.text.proofs.Spellings.{Fits, Clear, number-range, number-clear, bound-clear, kind-clear, resource-clear}
 use Rattle.text.proofs.Costs.{cost-clear}
 use Rattle.text.proofs.Formats.{agentTurns, nextTurn, stateTurns, stateTurn, rowTurn, turn, Proper, done, word, field, sooner}
@@ -62,13 +62,13 @@ each-proper base spelling place at clear (suc left) j hj l h =
     clear-field (clear j left) (omega arith) in-layout (λ v _. each-proper base spelling place at clear left (suc j) (omega arith) (omega arith) h)
 
 -- parts that each tell a number, the part j from turn turns j on
-gather-proper : {n : ℕ} (part : ℕ → ℕ → (ℕ → Format) → Format) (turns : ℕ → ℕ) (most : ℕ) → ((j : ℕ) → j ≤ most → turns j ≤ turns most) →
+collect-proper : {n : ℕ} (part : ℕ → ℕ → (ℕ → Format) → Format) (turns : ℕ → ℕ) (most : ℕ) → ((j : ℕ) → j ≤ most → turns j ≤ turns most) →
     ((m left j : ℕ) (f : ℕ → Format) → j < most → m ≤ turns j → ((v : ℕ) → Proper (turns (suc j)) (f v)) → Proper m (part left j f)) →
-    (left j : ℕ) (told : List ℕ) {f : List ℕ → Format} → j + left ≤ most → n ≤ turns j → ((l : List ℕ) → Proper (turns most) (f l)) → Proper n (gather part left j told f)
-unfolding gather
-gather-proper part turns most rises body zero j told hj l h = sooner (omega (arith, l, rises j (omega arith))) (h told)
-gather-proper part turns most rises body (suc left) j told hj l h =
-    body _ left j _ (omega arith) l (λ v. gather-proper part turns most rises body left (suc j) (set told j v) (omega arith) (omega arith) h)
+    (left j : ℕ) (told : List ℕ) {f : List ℕ → Format} → j + left ≤ most → n ≤ turns j → ((l : List ℕ) → Proper (turns most) (f l)) → Proper n (collect part left j told f)
+unfolding collect
+collect-proper part turns most rises body zero j told hj l h = sooner (omega (arith, l, rises j (omega arith))) (h told)
+collect-proper part turns most rises body (suc left) j told hj l h =
+    body _ left j _ (omega arith) l (λ v. collect-proper part turns most rises body left (suc j) (set told j v) (omega arith) (omega arith) h)
 
 by-edition : {n : ℕ} (e : Edition) {f g : Format} → Proper n f → Proper n g → Proper n (byEdition e f g)
 by-edition First h h′ = h
@@ -100,7 +100,7 @@ module _ (z : Sizes) (small : Small z) (s : ℕ) (hs : s < maxStates) where
 
   agents-proper : {n : ℕ} {f : List ℕ → Format} → n ≤ stateTurn s + 1 → ((counts : List ℕ) → Proper (stateTurn s + nextTurn) (f counts)) → Proper n (agentLines z s (z .agents) 0 noCounts f)
   agents-proper l h =
-      gather-proper (λ left a. actsLine z s a) agentTurn maxAgents (λ a ha. omega arith)
+      collect-proper (λ left a. actsLine z s a) agentTurn maxAgents (λ a ha. omega arith)
       (λ m left a f ha l g. acts-proper a ha l (λ c. sooner (omega arith) (g c))) (z .agents) 0 noCounts (omega arith) (omega arith) (λ counts. sooner (omega arith) (h counts))
 
   joint-proper : {n : ℕ} (joint left a : ℕ) {f : Format} → Proper n f → Proper n (jointFields joint left a f)
@@ -180,7 +180,7 @@ header-proper e h =
     size-proper comma 2 maxStates (lit< tt) (omega arith) (omega arith) λ m hm.
     size-proper comma 3 maxPropositions (lit< tt) (omega arith) (omega arith) λ p hp.
     size-proper (sizesEnd e) 4 maxRows (end-small e (lit< tt)) (omega arith) (omega arith) λ w hw.
-    gather-proper (λ left j. value (resourceSpelling e left) (ResourceKind j)) (λ j. headerBytes + j) maxResources (λ j hj. omega arith)
+    collect-proper (λ left j. value (resourceSpelling e left) (ResourceKind j)) (λ j. headerBytes + j) maxResources (λ j hj. omega arith)
     (λ m left j f hj l g. clear-field (resource-clear e left) l (omega arith) (λ v _. sooner (omega arith) (g v))) r 0 noKinds (omega arith) (omega arith)
     (λ kinds. h _ (record { agents-small = hn; resources-small = hr; states-small = hm; rows-small = hw })))
 

@@ -15,10 +15,10 @@ use Rattle.block.specs.declared.layout.Place.the-variants.{Header, Mask, Count,
 use Rattle.text.specs.declared.sizes.Edition.{Edition}
 use Rattle.text.specs.declared.sizes.Edition.the-variants.{First, Second}
 use Rattle.text.specs.declared.sizes.Sizes.{Sizes}
-use Rattle.text.specs.Inner.Fields.{gathered, countsTo, kindsTo, sizesOf}
+use Rattle.text.specs.Inner.Fields.{collected, countsTo, kindsTo, sizesOf}
 use Rattle.text.specs.Numeral.{comma}
 use Rattle.text.specs.Format.{Spelling, Format, end, value}
-use Rattle.text.specs.Job.{bound, kindSpelling, index, maskSpelling, stateLine, costSpelling, eachResource, actions, countSpelling, actsLine, gather, agentLines, possible, jointFields, byEdition, nextSpelling, goWord, goActions, goState, nextField, nextFields, noCounts, stateLines, states as allStates, strategic, binary, teamSpelling, teamFields, leftSpelling, rightSpelling, operandFields, rowLine, rowLines, sizeSpelling, size, resourceSpelling, resourceFields, noKinds, sizesEnd, headerLine, job}
+use Rattle.text.specs.Job.{bound, kindSpelling, index, maskSpelling, stateLine, costSpelling, eachResource, actions, countSpelling, actsLine, collect, agentLines, possible, jointFields, byEdition, nextSpelling, goWord, goActions, goState, nextField, nextFields, noCounts, stateLines, states as allStates, strategic, binary, teamSpelling, teamFields, leftSpelling, rightSpelling, operandFields, rowLine, rowLines, sizeSpelling, size, resourceSpelling, resourceFields, noKinds, sizesEnd, headerLine, job}
 use Rattle.text.proofs.Formats.{Every}
 
 -- Q holds of each number from j to below e
@@ -53,13 +53,13 @@ module _ (P : Spelling → Place → Type 0) (b : Block) where
       loop-step (omega arith) (rw last Iff·rfl) (each-every spelling place r left (suc j) f (omega arith))
 
   -- parts that each tell a number, the value of which their block has
-  gather-every : (part : ℕ → ℕ → (ℕ → Format) → Format) (number : ℕ → ℕ) (none : List ℕ) (n : ℕ) {Q : ℕ → Type 0} →
+  collect-every : (part : ℕ → ℕ → (ℕ → Format) → Format) (number : ℕ → ℕ) (none : List ℕ) (n : ℕ) {Q : ℕ → Type 0} →
       ((left j : ℕ) (f : ℕ → Format) → left ≡ n - suc j → Every P (part left j f) b ↔ (Q j × Every P (f (number j)) b)) →
-      (left j : ℕ) (f : List ℕ → Format) → j + left ≡ n → Every P (gather part left j (gathered number none j) f) b ↔ (Between j n Q × Every P (f (gathered number none n)) b)
-  unfolding gather
-  gather-every part number none n body zero j f e = let all : j ≡ n = omega arith in rw all (loop-end (omega arith))
-  gather-every part number none n body (suc left) j f e =
-      loop-step (omega arith) (body left j _ (omega arith)) (gather-every part number none n body left (suc j) f (omega arith))
+      (left j : ℕ) (f : List ℕ → Format) → j + left ≡ n → Every P (collect part left j (collected number none j) f) b ↔ (Between j n Q × Every P (f (collected number none n)) b)
+  unfolding collect
+  collect-every part number none n body zero j f e = let all : j ≡ n = omega arith in rw all (loop-end (omega arith))
+  collect-every part number none n body (suc left) j f e =
+      loop-step (omega arith) (body left j _ (omega arith)) (collect-every part number none n body left (suc j) f (omega arith))
 
   -- the cost of action k in resource j, where left further actions and the other resources follow
   abbrev CostField : Sizes → ℕ → ℕ → ℕ → ℕ → ℕ → Type 0
@@ -87,14 +87,14 @@ module _ (P : Spelling → Place → Type 0) (b : Block) where
 
   agents-every : (z : Sizes) (s n : ℕ) (f : List ℕ → Format) →
       Every P (agentLines z s n 0 noCounts f) b ↔ (Between 0 n (CountFields z s) × Every P (f (countsTo b s n)) b)
-  agents-every z s n f = gather-every (λ left a. actsLine z s a) (count b s) noCounts n (λ left a g e. acts-every z s a g) n 0 f (omega arith)
+  agents-every z s n f = collect-every (λ left a. actsLine z s a) (count b s) noCounts n (λ left a g e. acts-every z s a g) n 0 f (omega arith)
 
   abbrev KindField : Edition → ℕ → ℕ → Type 0
   KindField e r j = P (resourceSpelling e (r - suc j)) (ResourceKind j)
 
   kinds-every : (e : Edition) (r : ℕ) (f : List ℕ → Format) → Every P (resourceFields e r 0 noKinds f) b ↔ (Between 0 r (KindField e r) × Every P (f (kindsTo b r)) b)
   kinds-every e r f =
-      gather-every (λ left j. value (resourceSpelling e left) (ResourceKind j)) (resourceKind b) noKinds r (λ left j g e. rw e Iff·rfl) r 0 f (omega arith)
+      collect-every (λ left j. value (resourceSpelling e left) (ResourceKind j)) (resourceKind b) noKinds r (λ left j g e. rw e Iff·rfl) r 0 f (omega arith)
 
   joint-every : (joint left a : ℕ) (f : Format) → Every P (jointFields joint left a f) b ↔ Every P f b
   unfolding jointFields index

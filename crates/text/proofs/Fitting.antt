@@ -23,7 +23,7 @@ use Rattle.text.specs.Job.{byEdition, noKinds}
 use Rattle.text.proofs.Decimals.{lt-or-ge}
 use Rattle.text.proofs.Spellings.{Fits, number-range, number-fits, bound-range, bound-fits, kind-range, kind-fits, resource-range, resource-fits}
 use Rattle.text.proofs.Costs.{on-zero, on-other, limit-range, range-limit, CostByte, cost-range, cost-fits}
-use Rattle.text.proofs.Gathering.{gathered-at}
+use Rattle.text.proofs.Collecting.{collected-at}
 use Rattle.text.proofs.FieldsByName.{Everywhere}
 use Rattle.text.proofs.KindTests.{binary-true, binary-case, strategic-true, strategic-case}
 use Rattle.text.proofs.Possible.{possible-acts}
@@ -57,7 +57,7 @@ all-tellable b v bytes = record {
 
 -- the kind that the first line has told of a resource
 pub kind-told : (b : Block) (j : ℕ) → j < resources b → j < maxResources → getD (kindsTo b (resources b)) j sumKind ≡ resourceKind b j
-kind-told b j hj l = gathered-at (resourceKind b) noKinds (resources b) j hj l
+kind-told b j hj l = collected-at (resourceKind b) noKinds (resources b) j hj l
 
 module _ (e : Edition) (b : Block) where
   abbrev FitsEverywhere : Type 0

@@ -7,7 +7,7 @@ pub mod Costs
 pub mod Formats
 pub mod Stops
 pub mod Loops
-pub mod Gathering
+pub mod Collecting
 pub mod DistinctPlaces
 pub mod FieldsByName
 pub mod ValidPasses

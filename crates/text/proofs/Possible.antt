@@ -14,7 +14,7 @@ use Rattle.block.proofs.Digits.{each-agent}
 use Rattle.text.specs.Job.{both, possible, lastJoint, noCounts}
 use Rattle.text.proofs.Decimals.{lt-or-ge}
 use Rattle.text.specs.Inner.Fields.{countsTo}
-use Rattle.text.proofs.Gathering.{gathered-at, gathered-past}
+use Rattle.text.proofs.Collecting.{collected-at, collected-past}
 
 all-three : (x y z : Bool) → T (both x (both y z)) ↔ (T x × T y × T z)
 all-three true true z = (λ t. (tt, tt, t), λ p. p .2)
@@ -38,11 +38,11 @@ module _ (b : Block) (s : ℕ) where
   acts-told a k h = ⊎-elim present absent (lt-or-ge a (agents b))
     where
       present : a < agents b → T (ltb k (getD counts a 0)) ↔ Acts b s a k
-      present l = rw (gathered-at (count b s) noCounts (agents b) a l h)
+      present l = rw (collected-at (count b s) noCounts (agents b) a l h)
           (λ t. inl (l, ltb→lt k (count b s a) t), λ x. ⊎-elim (λ y. lt→ltb k (count b s a) (y .1)) (λ y. absurd (omega (arith, y .0))) x)
 
       absent : agents b ≤ a → T (ltb k (getD counts a 0)) ↔ Acts b s a k
-      absent l = rw (gathered-past (count b s) noCounts (agents b) a l ∙ one-each a h)
+      absent l = rw (collected-past (count b s) noCounts (agents b) a l ∙ one-each a h)
           (λ t. inr (l, omega (arith, ltb→lt k 1 t)), λ x. ⊎-elim (λ y. absurd (omega (arith, y .0))) (λ y. lt→ltb k 1 (omega (arith, y .1))) x)
 
   pub possible-acts : (joint : ℕ) → T (possible counts joint) ↔ ((a : ℕ) → a < maxAgents → Acts b s a (digit joint a))

@@ -157,13 +157,13 @@ actsLine z s a f =
     exactly (ascii "acts,") (index s (index a (value countSpelling (Count s a) (λ c. actions z s a c 0 (f c)))))
 
 -- n parts from part j on, each of which tells a number, before how many follow it; what comes after depends on the list of these numbers
-unfoldable pub gather : (ℕ → ℕ → (ℕ → Format) → Format) → ℕ → ℕ → List ℕ → (List ℕ → Format) → Format
-gather part zero j told f = f told
-gather part (suc n) j told f = part n j (λ v. gather part n (suc j) (set told j v) f)
+unfoldable pub collect : (ℕ → ℕ → (ℕ → Format) → Format) → ℕ → ℕ → List ℕ → (List ℕ → Format) → Format
+collect part zero j told f = f told
+collect part (suc n) j told f = part n j (λ v. collect part n (suc j) (set told j v) f)
 
 -- n agents from agent a on; counts are how many actions each agent has
 abbrev pub agentLines : Sizes → ℕ → ℕ → ℕ → List ℕ → (List ℕ → Format) → Format
-agentLines z s = gather (λ left a. actsLine z s a)
+agentLines z s = collect (λ left a. actsLine z s a)
 
 -- the joint action can be done with these counts
 unfoldable pub possible : List ℕ → ℕ → Bool
@@ -283,7 +283,7 @@ resourceSpelling e left = record {
 
 -- the kinds of n resources from resource j on
 abbrev pub resourceFields : Edition → ℕ → ℕ → List ℕ → (List ℕ → Format) → Format
-resourceFields e = gather (λ left j. value (resourceSpelling e left) (ResourceKind j))
+resourceFields e = collect (λ left j. value (resourceSpelling e left) (ResourceKind j))
 
 -- a resource that does not exist takes no part
 abbrev pub noKinds : List ℕ

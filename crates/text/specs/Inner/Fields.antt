@@ -13,16 +13,16 @@ abbrev pub Ends : ℕ → Type 0
 Ends sep = (0 < sep) × (sep < numeral 0)
 
 -- the list that the first n parts of several tell, each its value
-abbrev pub gathered : (ℕ → ℕ) → List ℕ → ℕ → List ℕ
-gathered value none zero = none
-gathered value none (suc n) = set (gathered value none n) n (value n)
+abbrev pub collected : (ℕ → ℕ) → List ℕ → ℕ → List ℕ
+collected value none zero = none
+collected value none (suc n) = set (collected value none n) n (value n)
 
 -- how many actions each agent has in state s, as far as the first n agents tell, and the kinds, as far as the first n resources tell
 abbrev pub countsTo : Block → ℕ → ℕ → List ℕ
-countsTo b s = gathered (count b s) noCounts
+countsTo b s = collected (count b s) noCounts
 
 abbrev pub kindsTo : Block → ℕ → List ℕ
-kindsTo b = gathered (resourceKind b) noKinds
+kindsTo b = collected (resourceKind b) noKinds
 
 -- what the first line of a block's text tells in an edition
 abbrev pub sizesOf : Edition → Block → Sizes
