@@ -36,7 +36,7 @@ pub data BrokenAt (b : Block) : Place → Refusal → Type 0 where
   team-absent-at : {i : ℕ} → i < rows b → Strategic (kind b i) → BitFrom (agents b) (team b i) → BrokenAt b (Field i teamByte) refusal.Row
   bound-at : {i j : ℕ} → i < rows b → Strategic (kind b i) → j < resources b → BadBound b i j → BrokenAt b (Field i (boundByte + j)) refusal.Row
 
--- a value that is refused in a text and whose byte is none of these, since another spelling, which may stand there, has the same byte
+-- a value that is refused in a text by a number whose condition its byte does not meet, since the byte is that of another spelling
 pub data SharedByte (b : Block) (t : List ℕ) : Place → Refusal → Type 0 where
   -- a bound that the text t begins with as the number 255, the byte of an unlimited bound, which only inf may spell
   unlimited-number : {i j : ℕ} → i < rows b → Strategic (kind b i) → j < resources b → bound b i j ≡ unlimited → Starts (field unlimited comma) t →

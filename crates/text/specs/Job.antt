@@ -122,7 +122,8 @@ costUnits o = costCase o (charge o) o
 abbrev pub costLimit : ℕ → ℕ
 costLimit k = cond (eqb k 0) 1 (suc maxUnits)
 
--- a cost of action k in a resource of a kind, with left further costs on its line; a max resource takes no charge, which is tried last
+-- a cost of action k in a resource of a kind, with left further costs on its line. Units out of range are number 3, and a charge on a max
+-- resource that is in range is number 13
 abbrev pub costSpelling : Edition → ℕ → ℕ → ℕ → Spelling
 costSpelling e kind k left = record {
   options = costSpellings e;
@@ -156,7 +157,7 @@ unfoldable pub actsLine : Sizes → ℕ → ℕ → (ℕ → Format) → Format
 actsLine z s a f =
     exactly (ascii "acts,") (index s (index a (value countSpelling (Count s a) (λ c. actions z s a c 0 (f c)))))
 
--- n parts from part j on, each of which tells a number, before how many follow it; what comes after depends on the list of these numbers
+-- n parts from part j on, each given how many follow it; each tells a number, and what comes after depends on the list of these numbers
 unfoldable pub collect : (ℕ → ℕ → (ℕ → Format) → Format) → ℕ → ℕ → List ℕ → (List ℕ → Format) → Format
 collect part zero j told f = f told
 collect part (suc n) j told f = part n j (λ v. collect part n (suc j) (set told j v) f)
@@ -285,7 +286,7 @@ resourceSpelling e left = record {
 abbrev pub resourceFields : Edition → ℕ → ℕ → List ℕ → (List ℕ → Format) → Format
 resourceFields e = collect (λ left j. value (resourceSpelling e left) (ResourceKind j))
 
--- a resource that does not exist takes no part
+-- the kinds before any is told
 abbrev pub noKinds : List ℕ
 noKinds = replicate maxResources sumKind
 
