@@ -98,7 +98,7 @@ pub const KINDS: usize = 6;
 pub const UNLIMITED: usize = 255;
 
 // A charge is held as 256 minus it: its bytes begin here.
-const BYTE_VALUES: usize = 256;
+pub const BYTE_VALUES: usize = 256;
 
 pub const CHARGE_BYTE: usize = BYTE_VALUES - MAX_UNITS;
 

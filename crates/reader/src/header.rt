@@ -10,20 +10,22 @@ use block::layout::Place;
 use block::layout::RESOURCES_BYTE;
 use block::layout::ROWS_BYTE;
 use block::layout::STATES_BYTE;
+use block::layout::SUM_KIND;
 use block::refusal::Refusal;
 use scan::step::Range;
 use scan::step::Spelled;
 use scan::step::Step;
 use scan::step::Valued;
-use scan::steps::past_spelled;
 use scan::steps::past_value;
 use scan::steps::past_word;
+use scan::steps::spelled_at;
 use scan::steps::value_at;
 use scan::steps::value_or;
 use text::COMMA;
 use text::ends::sizes_end;
 use text::sizes::Edition;
 use text::sizes::Sizes;
+ghost use mathlib.Core.List.{List};
 ghost use mathlib.Core.Path.{_≡_};
 ghost use Prim.Native.Nat.{ℕ, _≤_, _<_};
 ghost use lib.ListN.{length};
@@ -76,20 +78,28 @@ fn named(text: &[u8], e: Edition) -> Step
     }
 }
 
-// The kinds of the resources.
-fn resources(text: &[u8], at: Step, job: &mut [u8], e: Edition, resources: usize) -> Step
+// The kind of each resource, and the step past them.
+struct Kinded {
+    kinds: [usize; MAX_RESOURCES],
+    next: Step,
+}
+
+fn resources(text: &[u8], at: Step, job: &mut [u8], e: Edition, resources: usize) -> Kinded
     requires { ⌜ Inside (now text) at × (length (now job) ≡ blockBytes) ⌝ }
     requires { ⌜ resources ≤ maxResources ⌝ }
-    ensures { λ r. ⌜ ((f : Format) → resume (now (text .entry)) at (read (J.resourceFields e resources 0 f) (now (job .entry))) ≡ resume (now (text .entry)) r (read f (now (job .exit)))) ⌝ }
-    ensures { λ r. ⌜ Inside (now (text .entry)) r ⌝ }
+    ensures { λ r. ⌜ ((f : List ℕ → Format) → resume (now (text .entry)) at (read (J.resourceFields e resources 0 J.noKinds f) (now (job .entry))) ≡ resume (now (text .entry)) (r .next) (read (f (r .kinds)) (now (job .exit)))) ⌝ }
+    ensures { λ r. ⌜ Inside (now (text .entry)) (r .next) ⌝ }
 {
+    let mut kinds = [SUM_KIND; MAX_RESOURCES];
     let mut next = at;
     for j in 0..resources {
         let left = resources - (j + 1);
         let kind = Spelled::Resource(e, left);
-        next = past_spelled(text, next, job, Place::ResourceKind(j), kind);
+        let v = spelled_at(text, next, job, Place::ResourceKind(j), kind);
+        kinds[j] = value_or(SUM_KIND, v);
+        next = past_value(v);
     }
-    next
+    Kinded { kinds, next }
 }
 
 pub fn header(text: &[u8], job: &mut [u8], e: Edition) -> Opened
@@ -116,7 +126,8 @@ pub fn header(text: &[u8], job: &mut [u8], e: Edition) -> Opened
     let sep = sizes_end(e) as usize;
     let w = size(text, after_p, job, ROWS_BYTE, sep, MAX_ROWS);
     let after_w = w.next;
-    let next = resources(text, after_w, job, e, r.value);
+    let told = resources(text, after_w, job, e, r.value);
+    let kinds = told.kinds;
     let z = Sizes {
         edition: e,
         agents: n.value,
@@ -124,6 +135,8 @@ pub fn header(text: &[u8], job: &mut [u8], e: Edition) -> Opened
         states: m.value,
         propositions: p.value,
         rows: w.value,
+        kinds: kinds,
     };
+    let next = told.next;
     Opened { z, next }
 }

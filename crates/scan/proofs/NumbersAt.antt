@@ -25,7 +25,7 @@ module _ (sep : ℕ) (text : List ℕ) (at : ℕ) where
   ahead : (i : ℕ) → getD (drop at text) i 0 ≡ getD text (at + i) 0
   ahead i = getD-drop at text i 0
 
-  here : getD (drop at text) 0 0 ≡ getD text at 0
+  pub here : getD (drop at text) 0 0 ≡ getD text at 0
   here = ahead 0 ∙ ap (λ (m : ℕ). getD text m 0) (add-zero at)
 
   digits : {n : ℕ} → Shape sep n (drop at text) → Digits sep n (getD text at 0) (getD text (at + 1) 0) (getD text (at + 2) 0) (getD text (at + 3) 0)

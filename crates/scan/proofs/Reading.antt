@@ -4,9 +4,7 @@ use mathlib.Core.Bool.{Bool, true, false, cond}
 use mathlib.Core.List.{List, [], _∷_, _++_}
 use mathlib.Core.Path.{_≡_, refl, sym, ap, _∙_}
 use Prim.Native.Nat.{ℕ, suc, _≤_, _<_}
-use native.Mathlib.Omega.{arith}
 use lib.Dec.{leb, ltb}
-use lib.ListN.{length, drop}
 use borrow.Author.Tests.{le-leb, lt-leb, lt-ltb, le-ltb}
 use Rattle.block.specs.Layout.{Block, sumKind, maxKind, propKind, notKind, orKind, nextKind, alwaysKind, untilKind, kinds}
 use Rattle.block.specs.declared.layout.Place.{Place}
@@ -15,13 +13,12 @@ use Rattle.text.specs.declared.sizes.Edition.the-variants.{Second}
 use Rattle.text.specs.Numeral.{ascii, comma, numbers, decimal, Starts, Found, found, missing, after, search}
 use Rattle.text.specs.Format.{Spelling, Format, value, Outcome, refused, store, onFound, read}
 use Rattle.text.specs.Job.{both, infBound, emptyBound, boundSpellings, bound, boundField, kindWord, index, listEnd, resourceWord, resourceSpelling}
-use Rattle.scan.specs.Inner.Step.{resume, resumeWith, pastValue, valueOr, Ranged, NumberedBelow, foundAt, valueOf, storedFound, Inside, InsideWith, InsideNumeral}
+use Rattle.scan.specs.Inner.Step.{resume, resumeWith, pastValue, valueOr, Ranged, Inside, InsideWith}
 use Rattle.scan.specs.declared.step.Value.{Value}
 use Rattle.scan.specs.declared.step.Value.the-variants as value-at
-use Rattle.scan.specs.declared.step.Numeral.{Numeral}
 use Rattle.scan.specs.declared.step.Numeral.the-variants as numeral-at
 use Rattle.text.proofs.Spellings.{bound-spelled}
-use Rattle.text.proofs.Search.{after-found, after-other, search-step, search-same, search-inv}
+use Rattle.text.proofs.Search.{after-found, after-other, search-step, search-same}
 
 module _ (n : ℕ) (t : List ℕ) (f : Format) (b : Block) where
   pub index-next : (rest : List ℕ) → t ≡ (decimal n ++ comma ∷ []) ++ rest → read (index n f) b t ≡ read f b rest
@@ -34,21 +31,21 @@ module _ (n : ℕ) (t : List ℕ) (f : Format) (b : Block) where
 
 module _ (x : Spelling) (p : Place) (k : ℕ → Format) (b : Block) (t : List ℕ) where
   rest-of : ℕ → List ℕ → Outcome
-  rest-of o u = cond (x .allowed o) (read (k (x .byte o)) (store b p (x .byte o)) u) (refused (x .refusal) t)
+  rest-of o u = cond (x .allowed o) (read (k (x .byte o)) (store b p (x .byte o)) u) (refused (x .refusal o) t)
 
   pub value-next : (o v : ℕ) (rest : List ℕ) (b′ : Block) → search (x .spell) (x .options) t ≡ found o rest → x .allowed o ≡ true → x .byte o ≡ v → b′ ≡ store b p v → read (value x p k) b t ≡ read (k v) b′ rest
   unfolding rest-of
   value-next o v rest b′ e a w s =
       ap (λ (y : Found). onFound y t rest-of) e
-      ∙ ap (λ (q : Bool). cond q (read (k (x .byte o)) (store b p (x .byte o)) rest) (refused (x .refusal) t)) a
+      ∙ ap (λ (q : Bool). cond q (read (k (x .byte o)) (store b p (x .byte o)) rest) (refused (x .refusal o) t)) a
       ∙ ap (λ (n : ℕ). read (k n) (store b p n) rest) w
       ∙ ap (λ (l : Block). read (k v) l rest) (sym s)
 
-  pub value-refused : (o : ℕ) (rest : List ℕ) → search (x .spell) (x .options) t ≡ found o rest → x .allowed o ≡ false → read (value x p k) b t ≡ refused (x .refusal) t
+  pub value-refused : (o : ℕ) (rest : List ℕ) → search (x .spell) (x .options) t ≡ found o rest → x .allowed o ≡ false → read (value x p k) b t ≡ refused (x .refusal o) t
   unfolding rest-of
   value-refused o rest e a =
       ap (λ (y : Found). onFound y t rest-of) e
-      ∙ ap (λ (q : Bool). cond q (read (k (x .byte o)) (store b p (x .byte o)) rest) (refused (x .refusal) t)) a
+      ∙ ap (λ (q : Bool). cond q (read (k (x .byte o)) (store b p (x .byte o)) rest) (refused (x .refusal o) t)) a
 
   pub value-missing : search (x .spell) (x .options) t ≡ missing → read (value x p k) b t ≡ refused Form t
   unfolding rest-of
@@ -98,26 +95,3 @@ with-law t (value-at.Refused r at) d g = refl
 pub ranged-or : (low limit d : ℕ) (v : Value) → low ≤ d → d < limit → Ranged low limit v → (low ≤ valueOr d v) × (valueOr d v < limit)
 ranged-or low limit d (value-at.At n next) l h r = r
 ranged-or low limit d (value-at.Refused x at) l h r = (l, h)
-
--- a field each of whose spellings may stand there, and is the number of its byte
-pub record Plain (x : Spelling) : Type 0 where
-  pub any : (o : ℕ) → x .allowed o ≡ true
-  pub itself : (o : ℕ) → x .byte o ≡ o
-
--- what was found of such a field at a place, stored
-pub record Filled (x : Spelling) (t : List ℕ) (at : ℕ) (p : Place) (b : Block) (found : Numeral) : Type 0 where
-  pub reads : (k : ℕ → Format) → read (value x p k) b (drop at t) ≡ resumeWith t (valueOf found at) (λ v rest. read (k v) (storedFound b p found) rest)
-  pub inside : InsideWith t (valueOf found at)
-  pub below : NumberedBelow numbers found
-
-module _ (x : Spelling) (plain : Plain x) (few : x .options ≤ numbers) (t : List ℕ) (at : ℕ) (here : at ≤ length t) (p : Place) (b : Block) where
-  pub filled : (found : Numeral) → search (x .spell) (x .options) (drop at t) ≡ foundAt t found → InsideNumeral t found → Filled x t at p b found
-  filled (numeral-at.Found n next) e i =
-      let small = search-inv (x .spell) (drop at t) (x .options) n (drop next t) e .0 in
-      record {
-        reads = λ k. value-next x p k b (drop at t) n n (drop next t) (store b p n) e (plain .any n) (plain .itself n) refl;
-        inside = (omega arith, i .1);
-        below = omega arith;
-      }
-  filled numeral-at.Missing e i =
-      record { reads = λ k. value-missing x p k b (drop at t) e; inside = here; below = tt }

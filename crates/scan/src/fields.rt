@@ -1,5 +1,10 @@
-// The fields of a line: numbers that are known, bytes of the block, bounds, and the words of rows and resources.
+// The fields of a line: numbers that are known, bytes of the block, and those with spellings of their own: bounds, costs, and the
+// words of rows and resources.
+use crate::costs::cost_allowed;
+use crate::costs::cost_byte;
+use crate::costs::cost_refusal;
 use crate::numeral::number;
+use crate::numeral::signed;
 use crate::step::Numeral;
 use crate::step::Range;
 use crate::step::Spelled;
@@ -11,6 +16,7 @@ use block::layout::Place;
 use block::refusal::Refusal;
 use text::COMMA;
 use text::NUMBERS;
+use text::ends::list_end;
 use text::sizes::Edition;
 ghost use mathlib.Core.Path.{_≡_};
 ghost use Prim.Native.Nat.{ℕ, _≤_, _<_};
@@ -19,7 +25,7 @@ ghost use Rattle.block.specs.Layout.{Block, blockBytes, kinds, placeOf};
 ghost use Rattle.block.specs.Inner.Places.{InLayout};
 ghost use Rattle.text.specs.Format.{Format, value, read};
 ghost use Rattle.text.specs.Job as J;
-ghost use Rattle.scan.specs.Inner.Step.{resume, resumeWith, Inside, InsideWith, InsideNumeral, Ranged, NumberedBelow, foundAt, valueOf, storedFound, spellingOf};
+ghost use Rattle.scan.specs.Inner.Step.{resume, resumeWith, Inside, InsideWith, InsideNumeral, Ranged, foundAt, spellingOf};
 ghost use Rattle.text.specs.Numeral.{numbers, search};
 ghost use Rattle.text.specs.Inner.Fields.{Ends};
 
@@ -87,30 +93,68 @@ pub fn spelled(text: &[u8], at: usize, job: &mut [u8], x: Place, what: Spelled) 
     ensures { λ r. ⌜ ((k : ℕ → Format) → read (value (spellingOf what) x k) (now (job .entry)) (drop at (now (text .entry))) ≡ resumeWith (now (text .entry)) r (λ v rest. read (k v) (now (job .exit)) rest)) ⌝ }
     ensures { λ r. ⌜ InsideWith (now (text .entry)) r ⌝ }
 {
-    match what {
-        Spelled::Bound => bound(text, at, job, x),
-        Spelled::Row => kind(text, at, job, x),
-        Spelled::Resource(e, left) => resource(text, at, job, x, e, left),
-    }
-}
-
-// A bound, stored at a place of the block.
-fn bound(text: &[u8], at: usize, job: &mut [u8], x: Place) -> Value
-    requires { ⌜ at ≤ length (now text) ⌝ }
-    requires { ⌜ (length (now job) ≡ blockBytes) × InLayout x ⌝ }
-    ensures { λ r. ⌜ ((k : ℕ → Format) → read (value J.bound x k) (now (job .entry)) (drop at (now (text .entry))) ≡ resumeWith (now (text .entry)) r (λ v rest. read (k v) (now (job .exit)) rest)) ⌝ }
-    ensures { λ r. ⌜ InsideWith (now (text .entry)) r ⌝ }
-{
-    match bound_at(text, at) {
+    match spelling_at(text, at, what) {
         Numeral::Found(o, next) => {
-            if !bound_allowed(o) {
-                return Value::Refused(Refusal::Row, at);
+            if !allowed(what, o) {
+                let refused = refusal_of(what, o);
+                return Value::Refused(refused, at);
             }
-            let v = bound_byte(o);
+            let v = byte_of(what, o);
             put(job, x, v);
             Value::At(v, next)
         }
         Numeral::Missing => Value::Refused(Refusal::Form, at),
+    }
+}
+
+// The spelling that stands at a place of the text.
+fn spelling_at(text: &[u8], at: usize, what: Spelled) -> Numeral
+    requires { ⌜ at ≤ length (now text) ⌝ }
+    ensures { λ r. ⌜ search (spellingOf what .spell) (spellingOf what .options) (drop at (now (text .entry))) ≡ foundAt (now (text .entry)) r ⌝ }
+    ensures { λ r. ⌜ InsideNumeral (now (text .entry)) r ⌝ }
+{
+    match what {
+        Spelled::Bound => bound_at(text, at),
+        Spelled::Row => kind_at(text, at),
+        Spelled::Resource(e, left) => resource_at(text, at, e, left),
+        Spelled::Cost(e, _, _, left) => cost_at(text, at, e, left),
+    }
+}
+
+// Whether it may stand there.
+fn allowed(what: Spelled, o: usize) -> bool
+    ensures { λ r. ⌜ r ≡ spellingOf what .allowed o ⌝ }
+{
+    match what {
+        Spelled::Bound => bound_allowed(o),
+        Spelled::Row => true,
+        Spelled::Resource(_, _) => true,
+        Spelled::Cost(_, kind, k, _) => cost_allowed(kind, k, o),
+    }
+}
+
+// What refuses it where it may not.
+fn refusal_of(what: Spelled, o: usize) -> Refusal
+    ensures { λ r. ⌜ r ≡ spellingOf what .refusal o ⌝ }
+{
+    match what {
+        Spelled::Bound => Refusal::Row,
+        Spelled::Row => Refusal::Row,
+        Spelled::Resource(_, _) => Refusal::Sizes,
+        Spelled::Cost(_, _, k, _) => cost_refusal(k, o),
+    }
+}
+
+// The byte that it stands for.
+fn byte_of(what: Spelled, o: usize) -> usize
+    requires { ⌜ o < spellingOf what .options ⌝ }
+    ensures { λ r. ⌜ (r ≡ spellingOf what .byte o) × (r < numbers) ⌝ }
+{
+    match what {
+        Spelled::Bound => bound_byte(o),
+        Spelled::Row => o,
+        Spelled::Resource(_, _) => o,
+        Spelled::Cost(_, _, _, _) => cost_byte(o),
     }
 }
 
@@ -147,17 +191,7 @@ fn bound_at(text: &[u8], at: usize) -> Numeral
     word_or(text, at, b",", EMPTY_BOUND, inf)
 }
 
-// The word of a row, stored as the row's kind.
-fn kind(text: &[u8], at: usize, job: &mut [u8], x: Place) -> Value
-    requires { ⌜ at ≤ length (now text) ⌝ }
-    requires { ⌜ (length (now job) ≡ blockBytes) × InLayout x ⌝ }
-    ensures { λ r. ⌜ ((k : ℕ → Format) → read (value J.kindSpelling x k) (now (job .entry)) (drop at (now (text .entry))) ≡ resumeWith (now (text .entry)) r (λ v rest. read (k v) (now (job .exit)) rest)) ⌝ }
-    ensures { λ r. ⌜ InsideWith (now (text .entry)) r ⌝ }
-{
-    let found = kind_at(text, at);
-    stored(found, at, job, x)
-}
-
+// The word of a row that stands there.
 fn kind_at(text: &[u8], at: usize) -> Numeral
     requires { ⌜ at ≤ length (now text) ⌝ }
     ensures { λ r. ⌜ search J.kindWord kinds (drop at (now (text .entry))) ≡ foundAt (now (text .entry)) r ⌝ }
@@ -171,18 +205,7 @@ fn kind_at(text: &[u8], at: usize) -> Numeral
     word_or(text, at, b"until,", layout::UNTIL_KIND, e)
 }
 
-// The kind of a resource, before left further ones, stored at a place of the block.
-fn resource(text: &[u8], at: usize, job: &mut [u8], x: Place, e: Edition, left: usize) -> Value
-    requires { ⌜ at ≤ length (now text) ⌝ }
-    requires { ⌜ (length (now job) ≡ blockBytes) × InLayout x ⌝ }
-    ensures { λ r. ⌜ ((k : ℕ → Format) → read (value (J.resourceSpelling e left) x k) (now (job .entry)) (drop at (now (text .entry))) ≡ resumeWith (now (text .entry)) r (λ v rest. read (k v) (now (job .exit)) rest)) ⌝ }
-    ensures { λ r. ⌜ InsideWith (now (text .entry)) r ⌝ }
-{
-    let found = resource_at(text, at, e, left);
-    stored(found, at, job, x)
-}
-
-// Edition 1 has no word for it, and each is sum.
+// The kind of a resource, before left further ones. Edition 1 has no word for it, and each is sum.
 fn resource_at(text: &[u8], at: usize, e: Edition, left: usize) -> Numeral
     requires { ⌜ at ≤ length (now text) ⌝ }
     ensures { λ r. ⌜ search (J.resourceSpelling e left .spell) (J.resourceSpelling e left .options) (drop at (now (text .entry))) ≡ foundAt (now (text .entry)) r ⌝ }
@@ -207,17 +230,15 @@ fn resource_word(text: &[u8], at: usize, left: usize) -> Numeral
     word_or(text, at, b"max,", layout::MAX_KIND, sum)
 }
 
-// What was found, stored as the byte that it is the number of.
-fn stored(found: Numeral, at: usize, job: &mut [u8], x: Place) -> Value
-    requires { ⌜ (length (now job) ≡ blockBytes) × InLayout x ⌝ }
-    requires { ⌜ NumberedBelow numbers found ⌝ }
-    ensures { λ r. ⌜ (r ≡ valueOf found at) × (now (job .exit) ≡ storedFound (now (job .entry)) x found) ⌝ }
+// The spelling of a cost, before left further ones: edition 1 has numbers only.
+fn cost_at(text: &[u8], at: usize, e: Edition, left: usize) -> Numeral
+    requires { ⌜ at ≤ length (now text) ⌝ }
+    ensures { λ r. ⌜ search (J.costSpelling e 0 0 left .spell) (J.costSpellings e) (drop at (now (text .entry))) ≡ foundAt (now (text .entry)) r ⌝ }
+    ensures { λ r. ⌜ InsideNumeral (now (text .entry)) r ⌝ }
 {
-    match found {
-        Numeral::Found(n, next) => {
-            put(job, x, n);
-            Value::At(n, next)
-        }
-        Numeral::Missing => Value::Refused(Refusal::Form, at),
+    let sep = list_end(left) as usize;
+    match e {
+        Edition::First => number(text, at, sep),
+        Edition::Second => signed(text, at, sep),
     }
 }

@@ -1,6 +1,8 @@
 // Numbers in the text.
 use crate::step::Numeral;
 use block::widths::wide;
+use text::LAST_NUMBER;
+use text::MINUS;
 use text::NINE;
 use text::NUMBERS;
 use text::ZERO;
@@ -11,6 +13,8 @@ ghost use lib.ListN.{length, getD, drop};
 ghost use Rattle.block.specs.Inner.Tests.{Decides};
 ghost use Rattle.text.specs.Numeral.{numeral, numbers, decimal, search};
 ghost use Rattle.text.specs.Inner.Fields.{Ends};
+ghost use Rattle.text.specs.declared.sizes.Edition.the-variants as Edition;
+ghost use Rattle.text.specs.Job as J;
 ghost use Rattle.scan.specs.Inner.Step.{foundAt, InsideNumeral};
 
 // The byte at a place of the text, 0 past its end.
@@ -78,4 +82,25 @@ fn more(text: &[u8], at: usize, sep: usize, tens: usize) -> Numeral
         return Numeral::Found(n, at + 4);
     }
     Numeral::Missing
+}
+
+// The same, or a charge: a minus before such a number, which is not 0.
+pub fn signed(text: &[u8], at: usize, sep: usize) -> Numeral
+    requires { ⌜ (at ≤ length (now text)) × Ends sep ⌝ }
+    ensures { λ r. ⌜ search (λ o. J.costField o ++ sep ∷ []) (J.costSpellings Edition.Second) (drop at (now (text .entry))) ≡ foundAt (now (text .entry)) r ⌝ }
+    ensures { λ r. ⌜ InsideNumeral (now (text .entry)) r ⌝ }
+{
+    if byte(text, at) != MINUS {
+        return number(text, at, sep);
+    }
+    match number(text, at + 1, sep) {
+        Numeral::Found(n, next) => {
+            if n == 0 {
+                Numeral::Missing
+            } else {
+                Numeral::Found(LAST_NUMBER + n, next)
+            }
+        }
+        Numeral::Missing => Numeral::Missing,
+    }
 }

@@ -28,11 +28,13 @@ pub struct Range {
     pub refusal: Refusal,
 }
 
-// A field with spellings of its own: a bound, the word of a row, the kind of a resource before so many further ones.
+// A field with spellings of its own: a bound, the word of a row, the kind of a resource before so many further ones, and
+// the cost in a resource of a kind, of an action, before so many further ones.
 pub enum Spelled {
     Bound,
     Row,
     Resource(Edition, usize),
+    Cost(Edition, usize, usize, usize),
 }
 
 // A number and the place after it and its comma or line end.

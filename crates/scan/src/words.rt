@@ -3,13 +3,12 @@ use crate::step::Numeral;
 use crate::step::Step;
 use block::refusal::Refusal;
 ghost use mathlib.Core.Path.{_≡_};
-ghost use Prim.Native.Nat.{_<_, _≤_};
+ghost use Prim.Native.Nat.{_≤_};
 ghost use lib.ListN.{length, drop};
 ghost use Rattle.block.specs.Inner.Tests.{Decides};
 ghost use Rattle.block.specs.Layout.{Block};
 ghost use Rattle.text.specs.Numeral.{Starts, after};
 ghost use Rattle.text.specs.Format.{Format, exactly, read};
-ghost use Rattle.text.specs.Job.{boundSpellings};
 ghost use Rattle.scan.specs.Inner.Step.{resume, foundAt, Inside, InsideNumeral};
 
 // Whether the word stands at a place of the text.
@@ -31,8 +30,7 @@ pub fn stands(text: &[u8], at: usize, word: &[u8]) -> bool
 
 // Spelling k, where the word stands at a place of the text; else the other.
 pub fn word_or(text: &[u8], at: usize, word: &[u8], k: usize, other: Numeral) -> Numeral
-    requires { ⌜ (at ≤ length (now text)) × (k < boundSpellings) ⌝ }
-    requires { ⌜ InsideNumeral (now text) other ⌝ }
+    requires { ⌜ (at ≤ length (now text)) × InsideNumeral (now text) other ⌝ }
     ensures { λ r. ⌜ foundAt (now (text .entry)) r ≡ after k (now (word .entry)) (drop at (now (text .entry))) (foundAt (now (text .entry)) other) ⌝ }
     ensures { λ r. ⌜ InsideNumeral (now (text .entry)) r ⌝ }
 {

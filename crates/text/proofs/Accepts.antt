@@ -5,7 +5,7 @@ use mathlib.Core.Path.{_≡_, sym, ap, _∙_}
 use Prim.Native.Nat.{ℕ, _<_}
 use native.Mathlib.Omega.{arith}
 use lib.ListN.{length, getD, length-replicate, getD-replicate}
-use Rattle.block.specs.Layout.{Block, blockBytes, byteAt, resources, resourceKind, sumKind, Used}
+use Rattle.block.specs.Layout.{Block, blockBytes, byteValues, byteAt, agents, resources, states, count, cost, resourceKind, sumKind, chargeByte, Used}
 use Rattle.block.specs.Check.{Passes}
 use Rattle.block.specs.Inner.Valid.{Valid}
 use Rattle.block.proofs.Passing.{passing}
@@ -20,7 +20,7 @@ use Rattle.text.proofs.Formats.{spells-good, written, sound, complete}
 use Rattle.text.proofs.DistinctPlaces.{job-proper}
 use Rattle.text.proofs.FieldsByName.{job-every}
 use Rattle.text.proofs.ValidPasses.{valid-passes}
-use Rattle.text.proofs.Fitting.{KindsTold, all-told, fits-told, fits-valid, valid-fits, used-avoided, unused-avoided}
+use Rattle.text.proofs.Fitting.{Tellable, all-tellable, fits-tellable, fits-valid, valid-fits, used-avoided, unused-avoided}
 
 pub blank-length : length blank ≡ blockBytes
 unfolding blank
@@ -60,13 +60,19 @@ accepts t b = (
   λ p. valid-reads (p .1 .0) t b (passing (p .0)) (p .1 .1),
 )
 
--- a block with a max resource is the meaning of no edition 1 text
-pub first-sums : (b : Block) (t : List ℕ) → Spells (job First) b t → (j : ℕ) → j < resources b → resourceKind b j ≡ sumKind
-first-sums b t s j hj = omega (arith, fits-told First b (job-every _ b First .0 (spells-good (job First) b t s)) j hj)
+-- a block with a max resource or a charge is the meaning of no edition 1 text
+first-tells : (b : Block) (t : List ℕ) → Spells (job First) b t → Tellable First b
+first-tells b t s = fits-tellable First b (job-every _ b First .0 (spells-good (job First) b t s))
 
--- what is written in an edition that has the block's kinds is read as the same block
-pub read-back : (e : Edition) (b : Block) → Valid b → KindsTold e b → readText (textIn e b) ≡ accepted b
+pub first-sums : (b : Block) (t : List ℕ) → Spells (job First) b t → (j : ℕ) → j < resources b → resourceKind b j ≡ sumKind
+first-sums b t s j hj = omega (arith, first-tells b t s .kinds j hj)
+
+pub first-takes : (b : Block) (t : List ℕ) → Spells (job First) b t → (s a k j : ℕ) → s < states b → a < agents b → k < count b s a → j < resources b → cost b s a k j < chargeByte
+first-takes b t s = first-tells b t s .costs
+
+-- what is written in an edition that can tell the block is read as the same block
+pub read-back : (e : Edition) (b : Block) → Valid b → Tellable e b → readText (textIn e b) ≡ accepted b
 read-back e b v told = valid-reads e (textIn e b) b v (written (job e) b (job-proper e) (job-every _ b e .1 (valid-fits e b v told)))
 
-pub round-trip : (b : Block) → Valid b → RoundTrip b
-round-trip b v = read-back Second b v (all-told b v)
+pub round-trip : (b : Block) → Valid b → ((p : ℕ) → byteAt b p < byteValues) → RoundTrip b
+round-trip b v bytes = read-back Second b v (all-tellable b v bytes)

@@ -1,6 +1,7 @@
 -- Numbers in base ten (specs' decimal), digit by digit, and the byte after them, by the bytes of the text.
 --     Shape             the bytes of a text that begins with a number below 1000 and sep
 --     shape             a text that begins so has those bytes
+--     first-digit       it begins with a digit
 --     begins            a text with those bytes begins so
 --     only-one          it begins so with one number only
 -- Assumes nothing.
@@ -96,6 +97,15 @@ shape sep n t few s = ⊎-elim small (λ l. ⊎-elim (middle l) large (lt-or-ge 
     large l =
         let e : t ≡ numeral (n / 100) ∷ numeral (n / 10 % 10) ∷ numeral (n % 10) ∷ sep ∷ s .0 = rw (decimal-three n l few) at (s .1) in
         rw e (three l refl refl refl refl)
+
+-- it begins with a digit
+pub first-digit : (sep n : ℕ) (t : List ℕ) → n < 1000 → Starts (decimal n ++ sep ∷ []) t → (48 ≤ getD t 0 0) × (getD t 0 0 < 58)
+first-digit sep n t few s = first (shape sep n t few s)
+  where
+    first : Shape sep n t → (48 ≤ getD t 0 0) × (getD t 0 0 < 58)
+    first (one h x y) = omega arith
+    first (two l h x y z) = omega arith
+    first (three l x y z w) = omega arith
 
 whole : (n : ℕ) → n ≡ 100 * (n / 100) + 10 * (n / 10 % 10) + n % 10
 whole n = omega arith

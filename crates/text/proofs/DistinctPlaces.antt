@@ -6,21 +6,21 @@ use mathlib.Core.List.{List}
 use mathlib.Core.Path.{_≡_}
 use Prim.Native.Nat.{ℕ, zero, suc, _+_, _*_, _≤_, _<_}
 use native.Mathlib.Omega.{arith}
-use lib.Dec.{eqb, lit<}
-use lib.ListN.{set}
-use Rattle.block.specs.Layout.{maxJoint, maxAgents, maxResources, maxStates, maxPropositions, maxRows, maxActions, headerBytes, boundByte, rowBytes, actionCosts}
+use lib.Dec.{lit<}
+use lib.ListN.{getD, set}
+use Rattle.block.specs.Layout.{maxJoint, maxAgents, maxResources, maxStates, maxPropositions, maxRows, maxActions, headerBytes, boundByte, rowBytes, actionCosts, sumKind}
 use Rattle.block.specs.Inner.Places.{InLayout}
 use Rattle.block.specs.declared.layout.Place.{Place}
 use Rattle.block.specs.declared.layout.Place.the-variants.{Cost, Field, ResourceKind}
 use Rattle.block.specs.declared.refusal.Refusal.{Refusal}
-use Rattle.block.specs.declared.refusal.Refusal.the-variants.{State}
 use Rattle.text.specs.declared.sizes.Edition.{Edition}
 use Rattle.text.specs.declared.sizes.Edition.the-variants.{First, Second}
 use Rattle.text.specs.declared.sizes.Sizes.{Sizes}
 use Rattle.text.specs.Numeral.{comma, lineEnd}
 use Rattle.text.specs.Format.{Spelling, Format, exactly, value}
-use Rattle.text.specs.Job.{number, bound, index, stateLine, costLimit, listEnd, costSpelling, eachResource, actions, actsLine, agentLines, possible, jointFields, byEdition, lastJoint, goWord, goActions, goState, nextField, nextFields, noCounts, stateLines, states, strategic, binary, teamFields, operandFields, rowLine, rowLines, size, resourceSpelling, sizesEnd, headerLine, job}
+use Rattle.text.specs.Job.{number, bound, index, stateLine, costSpelling, eachResource, actions, actsLine, collect, agentLines, possible, jointFields, byEdition, lastJoint, goWord, goActions, goState, nextField, nextFields, noCounts, stateLines, states, strategic, binary, teamFields, operandFields, rowLine, rowLines, size, resourceSpelling, noKinds, sizesEnd, headerLine, job}
 use Rattle.text.proofs.Spellings.{Fits, Clear, number-range, number-clear, bound-clear, kind-clear, resource-clear}
+use Rattle.text.proofs.Costs.{cost-clear}
 use Rattle.text.proofs.Formats.{agentTurns, nextTurn, stateTurns, stateTurn, rowTurn, turn, Proper, done, word, field, sooner}
 
 -- the sizes of a job are in range
@@ -53,16 +53,22 @@ either-proper true h h′ = h
 either-proper false h h′ = h′
 
 -- a field for each resource, the first of which has turn base
-each-proper : {n : ℕ} (base : ℕ) (spelling : ℕ → Spelling) (place : ℕ → Place) → ((j : ℕ) → j < maxResources → InLayout (place j) × (turn (place j) ≡ base + j)) → ((m : ℕ) → Clear (spelling m)) →
+each-proper : {n : ℕ} (base : ℕ) (spelling : ℕ → ℕ → Spelling) (place : ℕ → Place) → ((j : ℕ) → j < maxResources → InLayout (place j) × (turn (place j) ≡ base + j)) → ((j m : ℕ) → Clear (spelling j m)) →
     (left j : ℕ) {f : Format} → j + left ≤ maxResources → n ≤ base + j → Proper (base + maxResources) f → Proper n (eachResource spelling place left j f)
 unfolding eachResource
 each-proper base spelling place at clear zero j hj l h = sooner (omega arith) h
 each-proper base spelling place at clear (suc left) j hj l h =
     let (in-layout, turns) = at j (omega arith) in
-    clear-field (clear left) (omega arith) in-layout (λ v _. each-proper base spelling place at clear left (suc j) (omega arith) (omega arith) h)
+    clear-field (clear j left) (omega arith) in-layout (λ v _. each-proper base spelling place at clear left (suc j) (omega arith) (omega arith) h)
 
-cost-clear : (k left : ℕ) → Clear (costSpelling k left)
-cost-clear k left = number-clear 0 (costLimit k) (listEnd left) State (sep-small (eqb left 0) lineEnd comma (lit< tt) (lit< tt))
+-- parts that each tell a number, the part j from turn turns j on
+collect-proper : {n : ℕ} (part : ℕ → ℕ → (ℕ → Format) → Format) (turns : ℕ → ℕ) (most : ℕ) → ((j : ℕ) → j ≤ most → turns j ≤ turns most) →
+    ((m left j : ℕ) (f : ℕ → Format) → j < most → m ≤ turns j → ((v : ℕ) → Proper (turns (suc j)) (f v)) → Proper m (part left j f)) →
+    (left j : ℕ) (told : List ℕ) {f : List ℕ → Format} → j + left ≤ most → n ≤ turns j → ((l : List ℕ) → Proper (turns most) (f l)) → Proper n (collect part left j told f)
+unfolding collect
+collect-proper part turns most rises body zero j told hj l h = sooner (omega (arith, l, rises j (omega arith))) (h told)
+collect-proper part turns most rises body (suc left) j told hj l h =
+    body _ left j _ (omega arith) l (λ v. collect-proper part turns most rises body left (suc j) (set told j v) (omega arith) (omega arith) h)
 
 by-edition : {n : ℕ} (e : Edition) {f g : Format} → Proper n f → Proper n g → Proper n (byEdition e f g)
 by-edition First h h′ = h
@@ -79,7 +85,7 @@ module _ (z : Sizes) (small : Small z) (s : ℕ) (hs : s < maxStates) where
   unfolding actions
   actions-proper a zero k ha hk l h = sooner (omega arith) h
   actions-proper a (suc left) k ha hk l h =
-      each-proper (stateTurn s + (2 + agentTurns * a + actionCosts * k)) (λ m. costSpelling k (left + m)) (Cost s a k) (λ j hj. (omega arith, omega arith)) (λ m. cost-clear k (left + m)) (z .resources) 0 (omega arith) (omega arith)
+      each-proper (stateTurn s + (2 + agentTurns * a + actionCosts * k)) (λ j m. costSpelling (z .edition) (getD (z .kinds) j sumKind) k (left + m)) (Cost s a k) (λ j hj. (omega arith, omega arith)) (λ j m. cost-clear (z .edition) (getD (z .kinds) j sumKind) k (left + m)) (z .resources) 0 (omega arith) (omega arith)
       (actions-proper a left (suc k) ha (omega arith) (omega arith) h)
 
   acts-proper : {n : ℕ} (a : ℕ) {f : ℕ → Format} → a < maxAgents → n ≤ stateTurn s + (1 + agentTurns * a) →
@@ -88,12 +94,14 @@ module _ (z : Sizes) (small : Small z) (s : ℕ) (hs : s < maxStates) where
   acts-proper a ha l h =
       past (past (past (number-field (lit< tt) l (omega arith) (λ c _ g. actions-proper a c 0 ha (omega arith) (omega arith) (h c)))))
 
-  agents-proper : {n : ℕ} (left a : ℕ) (counts : List ℕ) {f : List ℕ → Format} → a + left ≤ maxAgents → n ≤ stateTurn s + (1 + agentTurns * a) →
-      ((counts : List ℕ) → Proper (stateTurn s + nextTurn) (f counts)) → Proper n (agentLines z s left a counts f)
-  unfolding agentLines
-  agents-proper zero a counts ha l h = sooner (omega arith) (h counts)
-  agents-proper (suc left) a counts ha l h =
-      acts-proper a (omega arith) l (λ c. agents-proper left (suc a) (set counts a c) (omega arith) (omega arith) h)
+  -- the turn of an agent's line
+  abbrev agentTurn : ℕ → ℕ
+  agentTurn a = stateTurn s + (1 + agentTurns * a)
+
+  agents-proper : {n : ℕ} {f : List ℕ → Format} → n ≤ stateTurn s + 1 → ((counts : List ℕ) → Proper (stateTurn s + nextTurn) (f counts)) → Proper n (agentLines z s (z .agents) 0 noCounts f)
+  agents-proper l h =
+      collect-proper (λ left a. actsLine z s a) agentTurn maxAgents (λ a ha. omega arith)
+      (λ m left a f ha l g. acts-proper a ha l (λ c. sooner (omega arith) (g c))) (z .agents) 0 noCounts (omega arith) (omega arith) (λ counts. sooner (omega arith) (h counts))
 
   joint-proper : {n : ℕ} (joint left a : ℕ) {f : Format} → Proper n f → Proper n (jointFields joint left a f)
   unfolding jointFields index
@@ -127,7 +135,7 @@ module _ (z : Sizes) (small : Small z) (s : ℕ) (hs : s < maxStates) where
   unfolding stateLines stateLine index
   state-proper l h =
       past (past (number-field (lit< tt) l hs
-      (λ m _ _. agents-proper (z .agents) 0 noCounts (omega arith) (omega arith) (λ counts. go-state (nexts-proper maxJoint 0 counts (omega arith) (omega arith) h)))))
+      (λ m _ _. agents-proper (omega arith) (λ counts. go-state (nexts-proper maxJoint 0 counts (omega arith) (omega arith) h)))))
 
 module _ (z : Sizes) (small : Small z) where
   states-proper : {n : ℕ} (left s : ℕ) {f : Format} → s + left ≤ maxStates → n ≤ stateTurn s → Proper (rowTurn 0) f → Proper n (states z left s f)
@@ -140,7 +148,7 @@ module _ (z : Sizes) (small : Small z) where
   unfolding teamFields
   team-proper i k hi l h =
       either-proper (strategic k)
-      (number-field (lit< tt) (omega arith) (omega arith) (λ t _ _. each-proper (rowTurn i + 2) (λ m. bound) (λ j. Field i (boundByte + j)) (λ j hj. (omega arith, omega arith)) (λ m. bound-clear) (z .resources) 0 (omega arith) (omega arith) (sooner (omega arith) h)))
+      (number-field (lit< tt) (omega arith) (omega arith) (λ t _ _. each-proper (rowTurn i + 2) (λ j m. bound) (λ j. Field i (boundByte + j)) (λ j hj. (omega arith, omega arith)) (λ j m. bound-clear) (z .resources) 0 (omega arith) (omega arith) (sooner (omega arith) h)))
       (sooner (omega arith) h)
 
   operands-proper : {n : ℕ} (i k : ℕ) {f : Format} → i < maxRows → n ≤ rowTurn i + (2 + maxResources) → Proper (rowTurn i + rowBytes) f → Proper n (operandFields z i k f)
@@ -172,8 +180,9 @@ header-proper e h =
     size-proper comma 2 maxStates (lit< tt) (omega arith) (omega arith) λ m hm.
     size-proper comma 3 maxPropositions (lit< tt) (omega arith) (omega arith) λ p hp.
     size-proper (sizesEnd e) 4 maxRows (end-small e (lit< tt)) (omega arith) (omega arith) λ w hw.
-    each-proper headerBytes (resourceSpelling e) ResourceKind (λ j hj. (omega arith, omega arith)) (resource-clear e) r 0 (omega arith) (omega arith)
-    (h _ (record { agents-small = hn; resources-small = hr; states-small = hm; rows-small = hw })))
+    collect-proper (λ left j. value (resourceSpelling e left) (ResourceKind j)) (λ j. headerBytes + j) maxResources (λ j hj. omega arith)
+    (λ m left j f hj l g. clear-field (resource-clear e left) l (omega arith) (λ v _. sooner (omega arith) (g v))) r 0 noKinds (omega arith) (omega arith)
+    (λ kinds. h _ (record { agents-small = hn; resources-small = hr; states-small = hm; rows-small = hw })))
 
 pub job-proper : (e : Edition) → Proper 0 (job e)
 unfolding job

@@ -8,17 +8,17 @@ use Prim.Native.Nat.{ℕ, zero, suc, _+_, _-_, _≤_, _<_}
 use native.Mathlib.Nat.{eq-or-lt-of-le}
 use native.Mathlib.Omega.{arith}
 use lib.Dec.{T}
-use lib.ListN.{set}
-use Rattle.block.specs.Layout.{Block, maxJoint, maxAgents, maxResources, maxStates, maxPropositions, maxRows, boundByte, agents, resources, states, rows, count, kind}
+use lib.ListN.{getD}
+use Rattle.block.specs.Layout.{Block, maxJoint, maxAgents, maxResources, maxStates, maxPropositions, maxRows, boundByte, sumKind, agents, resources, states, propositions, rows, count, kind, resourceKind}
 use Rattle.block.specs.declared.layout.Place.{Place}
 use Rattle.block.specs.declared.layout.Place.the-variants.{Header, Mask, Count, Cost, Next, Field, ResourceKind}
 use Rattle.text.specs.declared.sizes.Edition.{Edition}
 use Rattle.text.specs.declared.sizes.Edition.the-variants.{First, Second}
 use Rattle.text.specs.declared.sizes.Sizes.{Sizes}
-use Rattle.text.specs.Inner.Fields.{sizesOf}
+use Rattle.text.specs.Inner.Fields.{collected, countsTo, kindsTo, sizesOf}
 use Rattle.text.specs.Numeral.{comma}
 use Rattle.text.specs.Format.{Spelling, Format, end, value}
-use Rattle.text.specs.Job.{bound, kindSpelling, index, maskSpelling, stateLine, costSpelling, eachResource, actions, countSpelling, actsLine, agentLines, possible, jointFields, byEdition, nextSpelling, goWord, goActions, goState, nextField, nextFields, noCounts, stateLines, states as allStates, strategic, binary, teamSpelling, teamFields, leftSpelling, rightSpelling, operandFields, rowLine, rowLines, sizeSpelling, size, resourceSpelling, sizesEnd, headerLine, job}
+use Rattle.text.specs.Job.{bound, kindSpelling, index, maskSpelling, stateLine, costSpelling, eachResource, actions, countSpelling, actsLine, collect, agentLines, possible, jointFields, byEdition, nextSpelling, goWord, goActions, goState, nextField, nextFields, noCounts, stateLines, states as allStates, strategic, binary, teamSpelling, teamFields, leftSpelling, rightSpelling, operandFields, rowLine, rowLines, sizeSpelling, size, resourceSpelling, resourceFields, noKinds, sizesEnd, headerLine, job}
 use Rattle.text.proofs.Formats.{Every}
 
 -- Q holds of each number from j to below e
@@ -40,51 +40,61 @@ loop-step {j} {e} {Q} {X} {R = R} l body rest = (there, back)
     back : Between j e Q × R → X
     back p = body .1 (p .0 j (omega arith) l, rest .1 (λ i h g. p .0 i (omega arith) g, p .1))
 
--- how many actions each agent has, as told by the lines of n agents from agent a on
-abbrev pub told : Block → ℕ → ℕ → ℕ → List ℕ → List ℕ
-told b s zero a counts = counts
-told b s (suc n) a counts = told b s n (suc a) (set counts a (count b s a))
-
 module _ (P : Spelling → Place → Type 0) (b : Block) where
   -- the field of resource j, where resources up to r follow
-  abbrev ResourceField : (ℕ → Spelling) → (ℕ → Place) → ℕ → ℕ → Type 0
-  ResourceField spelling place r j = P (spelling (r - suc j)) (place j)
+  abbrev ResourceField : (ℕ → ℕ → Spelling) → (ℕ → Place) → ℕ → ℕ → Type 0
+  ResourceField spelling place r j = P (spelling j (r - suc j)) (place j)
 
-  each-every : (spelling : ℕ → Spelling) (place : ℕ → Place) (r left j : ℕ) (f : Format) → j + left ≡ r → Every P (eachResource spelling place left j f) b ↔ (Between j r (ResourceField spelling place r) × Every P f b)
+  each-every : (spelling : ℕ → ℕ → Spelling) (place : ℕ → Place) (r left j : ℕ) (f : Format) → j + left ≡ r → Every P (eachResource spelling place left j f) b ↔ (Between j r (ResourceField spelling place r) × Every P f b)
   unfolding eachResource
   each-every spelling place r zero j f e = loop-end (omega arith)
   each-every spelling place r (suc left) j f e =
       let last : left ≡ r - suc j = omega arith in
       loop-step (omega arith) (rw last Iff·rfl) (each-every spelling place r left (suc j) f (omega arith))
 
-  -- the cost of action k in resource j, where left further actions and resources up to r follow
-  abbrev CostField : ℕ → ℕ → ℕ → ℕ → ℕ → ℕ → Type 0
-  CostField s a left r k = ResourceField (λ m. costSpelling k (left + m)) (Cost s a k) r
+  -- parts that each tell a number, the value of which their block has
+  collect-every : (part : ℕ → ℕ → (ℕ → Format) → Format) (number : ℕ → ℕ) (none : List ℕ) (n : ℕ) {Q : ℕ → Type 0} →
+      ((left j : ℕ) (f : ℕ → Format) → left ≡ n - suc j → Every P (part left j f) b ↔ (Q j × Every P (f (number j)) b)) →
+      (left j : ℕ) (f : List ℕ → Format) → j + left ≡ n → Every P (collect part left j (collected number none j) f) b ↔ (Between j n Q × Every P (f (collected number none n)) b)
+  unfolding collect
+  collect-every part number none n body zero j f e = let all : j ≡ n = omega arith in rw all (loop-end (omega arith))
+  collect-every part number none n body (suc left) j f e =
+      loop-step (omega arith) (body left j _ (omega arith)) (collect-every part number none n body left (suc j) f (omega arith))
 
-  abbrev CountFields : ℕ → ℕ → ℕ → Type 0
-  CountFields r s a =
-      P countSpelling (Count s a) × Between 0 (count b s a) (λ k. Between 0 r (CostField s a (count b s a - suc k) r k))
+  -- the cost of action k in resource j, where left further actions and the other resources follow
+  abbrev CostField : Sizes → ℕ → ℕ → ℕ → ℕ → ℕ → Type 0
+  CostField z s a left k = ResourceField (λ j m. costSpelling (z .edition) (getD (z .kinds) j sumKind) k (left + m)) (Cost s a k) (z .resources)
+
+  abbrev CountFields : Sizes → ℕ → ℕ → Type 0
+  CountFields z s a =
+      P countSpelling (Count s a) × Between 0 (count b s a) (λ k. Between 0 (z .resources) (CostField z s a (count b s a - suc k) k))
 
   actions-every : (z : Sizes) (s a c left k : ℕ) (f : Format) → k + left ≡ c →
-      Every P (actions z s a left k f) b ↔ (Between k c (λ i. Between 0 (z .resources) (CostField s a (c - suc i) (z .resources) i)) × Every P f b)
+      Every P (actions z s a left k f) b ↔ (Between k c (λ i. Between 0 (z .resources) (CostField z s a (c - suc i) i)) × Every P f b)
   unfolding actions
   actions-every z s a c zero k f e = loop-end (omega arith)
   actions-every z s a c (suc left) k f e =
       let last : left ≡ c - suc k = omega arith in
       loop-step (omega arith)
-      (rw last (each-every (λ m. costSpelling k (c - suc k + m)) (Cost s a k) (z .resources) (z .resources) 0 _ (omega arith)))
+      (rw last (each-every (λ j m. costSpelling (z .edition) (getD (z .kinds) j sumKind) k (c - suc k + m)) (Cost s a k) (z .resources) (z .resources) 0 _ (omega arith)))
       (actions-every z s a c left (suc k) f (omega arith))
 
-  agents-every : (z : Sizes) (s n left a : ℕ) (counts : List ℕ) (f : List ℕ → Format) → a + left ≡ n →
-      Every P (agentLines z s left a counts f) b ↔ (Between a n (CountFields (z .resources) s) × Every P (f (told b s left a counts)) b)
-  unfolding agentLines actsLine index
-  agents-every z s n zero a counts f e = loop-end (omega arith)
-  agents-every z s n (suc left) a counts f e =
-      let c = count b s a in
-      let acts = actions-every z s a c c 0 (agentLines z s left (suc a) (set counts a c) f) (omega arith) in
-      loop-step (omega arith)
+  acts-every : (z : Sizes) (s a : ℕ) (f : ℕ → Format) → Every P (actsLine z s a f) b ↔ (CountFields z s a × Every P (f (count b s a)) b)
+  unfolding actsLine index
+  acts-every z s a f =
+      let acts = actions-every z s a (count b s a) (count b s a) 0 (f (count b s a)) (omega arith) in
       (λ x. ((x .0, acts .0 (x .1) .0), acts .0 (x .1) .1), λ y. (y .0 .0, acts .1 (y .0 .1, y .1)))
-      (agents-every z s n left (suc a) (set counts a c) f (omega arith))
+
+  agents-every : (z : Sizes) (s n : ℕ) (f : List ℕ → Format) →
+      Every P (agentLines z s n 0 noCounts f) b ↔ (Between 0 n (CountFields z s) × Every P (f (countsTo b s n)) b)
+  agents-every z s n f = collect-every (λ left a. actsLine z s a) (count b s) noCounts n (λ left a g e. acts-every z s a g) n 0 f (omega arith)
+
+  abbrev KindField : Edition → ℕ → ℕ → Type 0
+  KindField e r j = P (resourceSpelling e (r - suc j)) (ResourceKind j)
+
+  kinds-every : (e : Edition) (r : ℕ) (f : List ℕ → Format) → Every P (resourceFields e r 0 noKinds f) b ↔ (Between 0 r (KindField e r) × Every P (f (kindsTo b r)) b)
+  kinds-every e r f =
+      collect-every (λ left j. value (resourceSpelling e left) (ResourceKind j)) (resourceKind b) noKinds r (λ left j g e. rw e Iff·rfl) r 0 f (omega arith)
 
   joint-every : (joint left a : ℕ) (f : Format) → Every P (jointFields joint left a f) b ↔ Every P f b
   unfolding jointFields index
@@ -129,14 +139,14 @@ module _ (P : Spelling → Place → Type 0) (b : Block) where
   abbrev StateFields : Sizes → ℕ → Type 0
   StateFields z s =
       P (maskSpelling z) (Mask s)
-      × Between 0 (z .agents) (CountFields (z .resources) s)
-      × Between 0 maxJoint (NextField z (told b s (z .agents) 0 noCounts) s)
+      × Between 0 (z .agents) (CountFields z s)
+      × Between 0 maxJoint (NextField z (countsTo b s (z .agents)) s)
 
   state-every : (z : Sizes) (s : ℕ) (f : Format) → Every P (stateLines z s f) b ↔ (StateFields z s × Every P f b)
   unfolding stateLines stateLine index
   state-every z s f =
-      let acts = agents-every z s (z .agents) (z .agents) 0 noCounts (λ counts. goState z s (nextFields z s counts maxJoint 0 f)) (omega arith) in
-      let counts = told b s (z .agents) 0 noCounts in
+      let acts = agents-every z s (z .agents) (λ counts. goState z s (nextFields z s counts maxJoint 0 f)) in
+      let counts = countsTo b s (z .agents) in
       let line = state-named z s (nextFields z s counts maxJoint 0 f) in
       let nexts = nexts-every z s counts maxJoint maxJoint 0 f refl in (
         λ x. let (h, g) = acts .0 (x .1) in let (n, r) = nexts .0 (line .0 g) in ((x .0, h, n), r),
@@ -154,7 +164,7 @@ module _ (P : Spelling → Place → Type 0) (b : Block) where
   team-every : (z : Sizes) (i k : ℕ) (f : Format) → Every P (teamFields z i k f) b ↔ ((T (strategic k) → TeamFields z i) × Every P f b)
   unfolding teamFields
   team-every z i k f =
-      let bounds = each-every (λ m. bound) (λ j. Field i (boundByte + j)) (z .resources) (z .resources) 0 f (omega arith) in
+      let bounds = each-every (λ j m. bound) (λ j. Field i (boundByte + j)) (z .resources) (z .resources) 0 f (omega arith) in
       test-every (strategic k) _ f (λ x. ((x .0, bounds .0 (x .1) .0), bounds .0 (x .1) .1), λ y. (y .0 .0, bounds .1 (y .0 .1, y .1)))
 
   abbrev LeftField : Sizes → ℕ → ℕ → Type 0
@@ -201,7 +211,7 @@ module _ (P : Spelling → Place → Type 0) (b : Block) where
     pub states-field : SizeField comma 2 maxStates
     pub propositions-field : SizeField comma 3 maxPropositions
     pub rows-field : SizeField (sizesEnd e) 4 maxRows
-    pub resource-fields : Between 0 (resources b) (ResourceField (resourceSpelling e) ResourceKind (resources b))
+    pub resource-fields : Between 0 (resources b) (KindField e (resources b))
     pub state-fields : Between 0 (states b) (StateFields (sizesOf e b))
     pub row-fields : Between 0 (rows b) (RowFields (sizesOf e b))
 
@@ -209,7 +219,7 @@ module _ (P : Spelling → Place → Type 0) (b : Block) where
   unfolding job headerLine size
   job-every e =
       let z = sizesOf e b in
-      let kinds = each-every (resourceSpelling e) ResourceKind (resources b) (resources b) 0 (allStates z (states b) 0 (rowLines z (rows b) 0 end)) (omega arith) in
+      let kinds = kinds-every e (resources b) (λ k. let z : Sizes = record { edition = e; agents = agents b; resources = resources b; states = states b; propositions = propositions b; rows = rows b; kinds = k } in allStates z (states b) 0 (rowLines z (rows b) 0 end)) in
       let body = states-every z (states b) (states b) 0 (rowLines z (rows b) 0 end) (omega arith) in
       let lines = rows-every z (rows b) (rows b) 0 end (omega arith) in (
         λ x. let (k, h) = kinds .0 (x .1 .1 .1 .1 .1) in let (s, g) = body .0 h in record {

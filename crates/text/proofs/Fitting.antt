@@ -1,5 +1,6 @@
 -- The fields of a block's text fit exactly where the block keeps to the conditions of numbers 2 to 5, and they are the places that it uses.
 --     fits-valid, valid-fits        every field fits, and every other byte is 0, exactly where the block is valid
+--     Tellable                      what a block may have that an edition tells
 --     used-avoided, unused-avoided  a number that is none of the fields' places is that of no place in use, and the other way round
 -- Assumes nothing.
 use mathlib.Core.Bool.{Bool, true, false, cond}
@@ -8,58 +9,70 @@ use mathlib.Core.Path.{_≡_, refl}
 use Prim.Native.Nat.{ℕ, zero, suc, _+_, _-_, _^_, _≤_, _<_, zero-le}
 use native.Mathlib.Omega.{arith}
 use lib.Dec.{eqb, lit<}
-use lib.ListN.{length}
+use lib.ListN.{length, getD}
 use lib.Pow.{pow-mono}
-use borrow.Author.Tests.{eq-eqb, ne-eqb}
-use Rattle.block.specs.Layout.{Block, maxAgents, maxResources, maxStates, maxPropositions, maxRows, maxActions, maxUnits, boundByte, blockBytes, placeOf, InUse, Used, UsesField, byteAt, at, agents, resources, states, propositions, rows, count, cost, left, bound, kind, resourceKind, sumKind, maxKind, propKind}
+use Rattle.block.specs.Layout.{Block, maxAgents, maxResources, maxStates, maxPropositions, maxRows, maxActions, maxUnits, boundByte, blockBytes, placeOf, InUse, Used, UsesField, byteAt, at, agents, resources, states, propositions, rows, count, cost, left, bound, kind, resourceKind, byteValues, chargeByte, sumKind, maxKind, propKind}
 use Rattle.block.specs.Inner.Valid.{Counted, RowFits, Valid}
 use Rattle.block.specs.declared.layout.Place.{Place}
 use Rattle.block.specs.declared.layout.Place.the-variants.{Header, Mask, Count, Cost, Next, Field, ResourceKind}
 use Rattle.text.specs.declared.sizes.Edition.{Edition}
 use Rattle.text.specs.declared.sizes.Edition.the-variants.{First, Second}
 use Rattle.text.specs.Numeral.{numbers}
-use Rattle.text.specs.Job.{byEdition, costLimit}
+use Rattle.text.specs.Inner.Fields.{kindsTo}
+use Rattle.text.specs.Job.{byEdition, noKinds}
 use Rattle.text.proofs.Decimals.{lt-or-ge}
 use Rattle.text.proofs.Spellings.{Fits, number-range, number-fits, bound-range, bound-fits, kind-range, kind-fits, resource-range, resource-fits}
+use Rattle.text.proofs.Costs.{on-zero, on-other, limit-range, range-limit, CostByte, cost-range, cost-fits}
+use Rattle.text.proofs.Collecting.{collected-at}
 use Rattle.text.proofs.FieldsByName.{Everywhere}
 use Rattle.text.proofs.KindTests.{binary-true, binary-case, strategic-true, strategic-case}
 use Rattle.text.proofs.Possible.{possible-acts}
-
--- the limit of a field that depends on whether a number is 0
-pub on-zero : (k p q : ℕ) → k ≡ 0 → cond (eqb k 0) p q ≡ p
-on-zero k p q e = simp (eq-eqb k 0 e)
-
-pub on-other : (k p q : ℕ) → 0 < k → cond (eqb k 0) p q ≡ q
-on-other k p q h = simp (ne-eqb k 0 (λ e. omega arith))
 
 either-le : (t : Bool) (p q n : ℕ) → p ≤ n → q ≤ n → cond t p q ≤ n
 either-le true p q n h g = h
 either-le false p q n h g = g
 
-cost-limit : (k : ℕ) → costLimit k ≤ suc maxUnits
-cost-limit k = either-le (eqb k 0) _ _ (suc maxUnits) (omega arith) (omega arith)
-
 from-bound : (f r : ℕ) → boundByte ≤ f → f < boundByte + r → (f - boundByte < r) × (boundByte + (f - boundByte) ≡ f)
 from-bound f r h g = omega arith
 
--- the kinds that an edition has: all, or sum alone
-abbrev pub KindsTold : Edition → Block → Type 0
-KindsTold e b = (j : ℕ) → j < resources b → resourceKind b j < byEdition e (suc sumKind) (suc maxKind)
+-- what an edition can tell: all kinds and charges, or sum alone and no charge
+pub record Tellable (e : Edition) (b : Block) : Type 0 where
+  pub kinds : (j : ℕ) → j < resources b → resourceKind b j < byEdition e (suc sumKind) (suc maxKind)
+  pub costs : (s a k j : ℕ) → s < states b → a < agents b → k < count b s a → j < resources b → cost b s a k j < byEdition e chargeByte byteValues
 
--- every kind is one of edition 2's
+-- every kind is one of edition 2's, and both editions have the bytes of numbers
 told-most : (e : Edition) {v : ℕ} → v < byEdition e (suc sumKind) (suc maxKind) → v ≤ maxKind
 told-most First h = omega arith
 told-most Second h = omega arith
 
-pub all-told : (b : Block) → Valid b → KindsTold Second b
-all-told b v j hj = omega (arith, v .sized .kinds-fit j hj)
+told-least : (e : Edition) → chargeByte ≤ byEdition e chargeByte byteValues
+told-least First = omega arith
+told-least Second = omega arith
+
+pub all-tellable : (b : Block) → Valid b → ((p : ℕ) → byteAt b p < byteValues) → Tellable Second b
+all-tellable b v bytes = record {
+  kinds = λ j hj. omega (arith, v .sized .kinds-fit j hj);
+  costs = λ s a k j hs ha hk hj. bytes (placeOf (Cost s a k j));
+}
+
+-- the kind that the first line has told of a resource
+pub kind-told : (b : Block) (j : ℕ) → j < resources b → j < maxResources → getD (kindsTo b (resources b)) j sumKind ≡ resourceKind b j
+kind-told b j hj l = collected-at (resourceKind b) noKinds (resources b) j hj l
 
 module _ (e : Edition) (b : Block) where
   abbrev FitsEverywhere : Type 0
   FitsEverywhere = Everywhere (λ x p. Fits x (at b p)) b e
 
-  pub fits-told : FitsEverywhere → KindsTold e b
-  fits-told f j hj = resource-range e (f .resource-fields j zero-le hj)
+  fits-cost : FitsEverywhere → (s a k j : ℕ) → s < states b → a < agents b → k < count b s a → j < resources b → CostByte e (resourceKind b j) k (cost b s a k j)
+  fits-cost f s a k j hs ha hk hj =
+      let r : resources b ≤ maxResources = omega (arith, number-range 1 (suc maxResources) (f .resources-field)) in
+      rw (kind-told b j hj (omega arith)) at (cost-range e (getD (kindsTo b (resources b)) j sumKind) k (f .state-fields s zero-le hs .1 a zero-le ha .1 k zero-le hk j zero-le hj))
+
+  pub fits-tellable : FitsEverywhere → Tellable e b
+  fits-tellable f = record {
+    kinds = λ j hj. resource-range e (f .resource-fields j zero-le hj);
+    costs = λ s a k j hs ha hk hj. ⊎-elim (λ h. omega (arith, limit-range k (cost b s a k j) h .0, told-least e)) (λ h. h .1) (fits-cost f s a k j hs ha hk hj);
+  }
 
   row-valid : FitsEverywhere → (i : ℕ) → i < rows b → RowFits b i
   row-valid f i hi =
@@ -87,20 +100,29 @@ module _ (e : Edition) (b : Block) where
           states-fit = omega (arith, number-range 1 (suc maxStates) (f .states-field));
           propositions-fit = omega (arith, number-range 1 (suc maxPropositions) (f .propositions-field));
           rows-fit = omega (arith, number-range 1 (suc maxRows) (f .rows-field));
-          kinds-fit = λ j hj. told-most e (fits-told f j hj);
+          kinds-fit = λ j hj. told-most e (fits-tellable f .kinds j hj);
         };
         counted = c;
         mask-fits = λ s hs. number-range 0 (2 ^ propositions b) (f .state-fields s zero-le hs .0) .1;
-        cost-fits = λ s a k j hs ha hk hj. omega (arith, cost-limit k, number-range 0 (costLimit k) (f .state-fields s zero-le hs .1 a zero-le ha .1 k zero-le hk j zero-le hj) .1);
-        idle-free = λ s a j hs ha hj. omega (arith, number-range 0 1 (f .state-fields s zero-le hs .1 a zero-le ha .1 0 zero-le (c s a hs ha .0) j zero-le hj) .1);
+        cost-fits = λ s a k j hs ha hk hj more. ⊎-elim (λ h. absurd (omega (arith, more, limit-range k (cost b s a k j) h .0))) (λ h. h .0) (fits-cost f s a k j hs ha hk hj);
+        charge-sums = λ s a k j hs ha hk hj from is. ⊎-elim (λ h. omega (arith, from, limit-range k (cost b s a k j) h .0)) (λ h. h .3 is) (fits-cost f s a k j hs ha hk hj);
+        idle-free = λ s a j hs ha hj. ⊎-elim (λ h. limit-range 0 (cost b s a 0 j) h .1 refl) (λ h. absurd (omega (arith, h .2))) (fits-cost f s a 0 j hs ha (c s a hs ha .0) hj);
         next-fits = λ s joint hs av. number-range 0 (states b) (f .state-fields s zero-le hs .2 joint zero-le (av .0) (possible-acts b s joint .1 (av .1))) .1;
         row-fits = row-valid f;
         unused-zero = u;
       }
 
-  cost-valid : Valid b → (s a k j : ℕ) → s < states b → a < agents b → k < count b s a → j < resources b → cost b s a k j < costLimit k
-  cost-valid v s a zero j hs ha hk hj = omega (arith, v .idle-free s a j hs ha hj)
-  cost-valid v s a (suc k) j hs ha hk hj = omega (arith, on-other (suc k) 1 (suc maxUnits) (omega arith), v .cost-fits s a (suc k) j hs ha hk hj)
+  cost-valid : Valid b → Tellable e b → (s a k j : ℕ) → s < states b → a < agents b → k < count b s a → j < resources b → CostByte e (resourceKind b j) k (cost b s a k j)
+  cost-valid v told s a k j hs ha hk hj = ⊎-elim
+      (λ few. inl (range-limit k (cost b s a k j) (omega arith) idle))
+      (λ more. let from = v .cost-fits s a k j hs ha hk hj more in inr (from, told .costs s a k j hs ha hk hj, acts from, v .charge-sums s a k j hs ha hk hj from))
+      (lt-or-ge (cost b s a k j) (suc maxUnits))
+    where
+      idle : k ≡ 0 → cost b s a k j ≡ 0
+      idle z = rw z (v .idle-free s a j hs ha hj)
+
+      acts : chargeByte ≤ cost b s a k j → 0 < k
+      acts from = ⊎-elim (λ z. absurd (omega (arith, from, idle (omega arith)))) (λ p. p) (lt-or-ge k 1)
 
   left-valid : (i : ℕ) → RowFits b i → left b i < cond (eqb (kind b i) propKind) (propositions b) i
   left-valid i r = ⊎-elim
@@ -112,7 +134,7 @@ module _ (e : Edition) (b : Block) where
   mask-byte : (m n : ℕ) → n ≤ maxPropositions → m < 2 ^ n → m < numbers
   mask-byte m n h l = omega (arith, pow-mono h)
 
-  pub valid-fits : Valid b → KindsTold e b → FitsEverywhere
+  pub valid-fits : Valid b → Tellable e b → FitsEverywhere
   valid-fits v told =
       let z = v .sized in
       record {
@@ -121,12 +143,12 @@ module _ (e : Edition) (b : Block) where
         states-field = number-fits 1 (suc maxStates) (z .states-fit .0) (omega arith) (omega arith);
         propositions-field = number-fits 1 (suc maxPropositions) (z .propositions-fit .0) (omega arith) (omega arith);
         rows-field = number-fits 1 (suc maxRows) (z .rows-fit .0) (omega arith) (omega arith);
-        resource-fields = λ j _ hj. resource-fits e (told j hj);
+        resource-fields = λ j _ hj. resource-fits e (told .kinds j hj);
         state-fields = λ s _ hs. (
           number-fits 0 (2 ^ propositions b) zero-le (v .mask-fits s hs) (mask-byte _ (propositions b) (z .propositions-fit .1) (v .mask-fits s hs)),
           λ a _ ha. let c = v .counted s a hs ha in (
             number-fits 1 (suc maxActions) (c .0) (omega arith) (omega arith),
-            λ k _ hk j _ hj. let l = cost-valid v s a k j hs ha hk hj in number-fits 0 (costLimit k) zero-le l (omega (arith, cost-limit k)),
+            λ k _ hk j _ hj. cost-fits e (getD (kindsTo b (resources b)) j sumKind) k (rw (kind-told b j hj (omega arith)) (cost-valid v told s a k j hs ha hk hj)),
           ),
           λ joint _ hj t. let l = v .next-fits s joint hs (hj, possible-acts b s joint .0 t) in number-fits 0 (states b) zero-le l (omega arith),
         );

@@ -128,8 +128,8 @@ sound-value : (x : Spelling) (p : Place) (k : ℕ → Format) (b₀ b : Block) (
 sound-value x p k b₀ b t i h l ih = on (search (x .spell) (x .options) t) refl
   where
     goes : (o : ℕ) (rest : List ℕ) (a : Bool) → x .allowed o ≡ a → search (x .spell) (x .options) t ≡ found o rest →
-        cond a (read (k (x .byte o)) (store b₀ p (x .byte o)) rest) (refused (x .refusal) t) ≡ accepted b → Shown (value x p k) b₀ b t
-    goes o rest false q s e = never (x .refusal) b e
+        cond a (read (k (x .byte o)) (store b₀ p (x .byte o)) rest) (refused (x .refusal o) t) ≡ accepted b → Shown (value x p k) b₀ b t
+    goes o rest false q s e = never (x .refusal o) b e
     goes o rest true q s e =
         let is = search-inv (x .spell) t (x .options) o rest s in
         let v = x .byte o in
@@ -146,7 +146,7 @@ sound-value x p k b₀ b t i h l ih = on (search (x .spell) (x .options) t) refl
         )
 
     on : (r : Found) → search (x .spell) (x .options) t ≡ r →
-        onFound r t (λ o rest. cond (x .allowed o) (read (k (x .byte o)) (store b₀ p (x .byte o)) rest) (refused (x .refusal) t)) ≡ accepted b → Shown (value x p k) b₀ b t
+        onFound r t (λ o rest. cond (x .allowed o) (read (k (x .byte o)) (store b₀ p (x .byte o)) rest) (refused (x .refusal o) t)) ≡ accepted b → Shown (value x p k) b₀ b t
     on (found o rest) s e = goes o rest (x .allowed o) refl s e
     on missing s e = never Form b e
 

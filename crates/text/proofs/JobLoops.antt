@@ -11,11 +11,11 @@ use Rattle.text.specs.Format.{Spelling, value}
 use Rattle.text.specs.Job.{index, eachResource, costs, actions, possible, jointFields, nextField, nextFields, stateLines, states, rowLine, rowLines}
 use Rattle.text.proofs.Loops.{Loop}
 
-pub each-loop : (spelling : ℕ → Spelling) (place : ℕ → Place) → Loop (eachResource spelling place) (λ left j f. value (spelling left) (place j) (λ v. f))
+pub each-loop : (spelling : ℕ → ℕ → Spelling) (place : ℕ → Place) → Loop (eachResource spelling place) (λ left j f. value (spelling j left) (place j) (λ v. f))
 unfolding eachResource
 each-loop spelling place = record { done = λ j f. refl; more = λ m j f. refl }
 
-pub actions-loop : (z : Sizes) (s a : ℕ) → Loop (actions z s a) (λ left k f. costs s a left k (z .resources) 0 f)
+pub actions-loop : (z : Sizes) (s a : ℕ) → Loop (actions z s a) (λ left k f. costs z s a left k (z .resources) 0 f)
 unfolding actions
 actions-loop z s a = record { done = λ j f. refl; more = λ m j f. refl }
 

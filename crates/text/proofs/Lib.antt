@@ -3,8 +3,11 @@ pub mod Search
 pub mod Decimals
 pub mod Adding
 pub mod Spellings
+pub mod Costs
 pub mod Formats
 pub mod Stops
+pub mod Loops
+pub mod Collecting
 pub mod DistinctPlaces
 pub mod FieldsByName
 pub mod ValidPasses
@@ -13,5 +16,4 @@ pub mod KindTests
 pub mod Fitting
 pub mod Accepts
 pub mod Numbered
-pub mod Loops
 pub mod JobLoops

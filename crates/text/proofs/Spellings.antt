@@ -14,12 +14,12 @@ use borrow.Author.Tests.{lt-ltb, ne-eqb}
 use Rattle.block.specs.Layout.{sumKind, maxKind}
 use Rattle.block.specs.declared.refusal.Refusal.{Refusal}
 use Rattle.block.specs.declared.refusal.Refusal.the-variants.{Form}
-use Rattle.text.specs.Numeral.{ascii, comma, decimal, Starts}
+use Rattle.text.specs.Numeral.{ascii, comma, lineEnd, decimal, Starts}
 use Rattle.text.specs.declared.sizes.Edition.{Edition}
 use Rattle.text.specs.declared.sizes.Edition.the-variants.{First, Second}
 use Rattle.text.specs.Format.{Spelling}
 use Rattle.text.specs.Job.{byEdition, both, either, number, listEnd, boundField, bound, kindWord, kindSpelling, resourceWord, resourceSpelling}
-use Rattle.text.proofs.Decimals.{lt-or-ge, shape, Shape, one, two, three, only-one}
+use Rattle.text.proofs.Decimals.{lt-or-ge, first-digit, only-one}
 
 abbrev pub Fits : Spelling → ℕ → Type 0
 Fits x v = (o : ℕ) × (o < x .options) × T (x .allowed o) × (x .byte o ≡ v)
@@ -28,16 +28,24 @@ pub record Clear (x : Spelling) : Type 0 where
   pub only : (t : List ℕ) (o o′ : ℕ) → o < x .options → o′ < x .options → Starts (x .spell o) t → Starts (x .spell o′) t → o ≡ o′
   pub meant : (v : ℕ) → Fits x v → (x .chosen v < x .options) × T (x .allowed (x .chosen v)) × (x .byte (x .chosen v) ≡ v)
 
+-- the byte after a field of a list is no digit
+pub list-end-small : (left : ℕ) → listEnd left < 48
+list-end-small left = either (eqb left 0)
+  where
+    either : (t : Bool) → cond t lineEnd comma < 48
+    either true = lit< tt
+    either false = lit< tt
+
 -- a number
-both-true : (a b : Bool) → T a → T b → T (both a b)
+pub both-true : (a b : Bool) → T a → T b → T (both a b)
 both-true true b p q = q
 both-true false b p q = p
 
-both-left : (a b : Bool) → T (both a b) → T a
+pub both-left : (a b : Bool) → T (both a b) → T a
 both-left true b p = tt
 both-left false b p = p
 
-both-right : (a b : Bool) → T (both a b) → T b
+pub both-right : (a b : Bool) → T (both a b) → T b
 both-right true b p = p
 both-right false b p = absurd p
 
@@ -100,13 +108,8 @@ data BoundShape (o : ℕ) (t : List ℕ) : Type 0 where
 bound-shape : (o : ℕ) (t : List ℕ) → o < 258 → Starts (boundField o ++ comma ∷ []) t → BoundShape o t
 bound-shape o t h s = bound-cases o h below at-inf at-none
   where
-    first : o < 256 → Shape comma o t → (48 ≤ getD t 0 0) × (getD t 0 0 < 58)
-    first l (one k x y) = omega arith
-    first l (two k k′ x y z) = omega arith
-    first l (three k x y z w) = omega arith
-
     below : o < 256 → BoundShape o t
-    below l = let d : Starts (decimal o ++ comma ∷ []) t = rw (bound-spelled o l) at s in let f = first l (shape comma o t (omega arith) d) in small l d (f .0) (f .1)
+    below l = let d : Starts (decimal o ++ comma ∷ []) t = rw (bound-spelled o l) at s in let f = first-digit comma o t (omega arith) d in small l d (f .0) (f .1)
 
     at-inf : o ≡ 256 → BoundShape o t
     at-inf e = let d : t ≡ (ascii "inf" ++ comma ∷ []) ++ s .0 = rw (e, bound-inf) at (s .1) in inf e (rw d)

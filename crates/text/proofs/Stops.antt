@@ -45,9 +45,9 @@ pub record Barred (x : Spelling) (v : ℕ) (t : List ℕ) : Type 0 where
 
 pub record Halted (n : ℕ) (f : Format) (b₀ : Block) (p : Place) (b : Block) (t : List ℕ) (out : Outcome) : Type 0 where
   pub spelling : Spelling
-  pub refuses : out ≡ refused (spelling .refusal) t
   pub in-layout : InLayout p
   pub barred : Barred spelling (at b p) t
+  pub refuses : out ≡ refused (spelling .refusal (barred .option)) t
   pub along : Along b spelling p f
   -- a place whose turn has passed keeps its byte
   pub kept : (q : Place) → InLayout q → turn q < n → at b q ≡ at b₀ q
@@ -64,16 +64,16 @@ module _ {n : ℕ} (x : Spelling) (q : Place) (k : ℕ → Format) (b₀ : Block
     (s : length b₀ ≡ blockBytes) where
   -- reading stops at this field
   at-field : (o : ℕ) → o < x .options → Starts (x .spell o) t₀ → x .allowed o ≡ false → stopped q (store b₀ q (x .byte o)) t₀ ≡ stopped p b t →
-      Halted n (value x q k) b₀ p b t (refused (x .refusal) t₀)
+      Halted n (value x q k) b₀ p b t (refused (x .refusal o) t₀)
   at-field o few begins bar e =
       let place : q ≡ p = cc in
       let block : store b₀ q (x .byte o) ≡ b = cc in
       let text : t₀ ≡ t = cc in
       rw (← place, ← block, ← text) (record {
         spelling = x;
-        refuses = refl;
         in-layout = i;
         barred = record { option = o; few = few; meant = sym (stored b₀ q (x .byte o) s i); not-allowed = bar; begins = begins };
+        refuses = refl;
         along = here;
         kept = λ r j m. other-turn b₀ q r (x .byte o) i j (omega arith);
       })
@@ -84,9 +84,9 @@ module _ {n : ℕ} (x : Spelling) (q : Place) (k : ℕ → Format) (b₀ : Block
   past-field o h =
       record {
         spelling = h .spelling;
-        refuses = h .refuses;
         in-layout = h .in-layout;
         barred = h .barred;
+        refuses = h .refuses;
         along = on (h .spelling) p (h .along);
         kept = λ r j m. h .kept r j (omega arith) ∙ other-turn b₀ q r (x .byte o) i j (omega arith);
       }
@@ -101,7 +101,7 @@ module _ {n : ℕ} (x : Spelling) (q : Place) (k : ℕ → Format) (b₀ : Block
     where
       goes : (o : ℕ) (rest : List ℕ) (a : Bool) → x .allowed o ≡ a → search (x .spell) (x .options) t₀ ≡ found o rest →
           cond a (stop (k (x .byte o)) (store b₀ q (x .byte o)) rest) (stopped q (store b₀ q (x .byte o)) t₀) ≡ stopped p b t →
-          Halted n (value x q k) b₀ p b t (cond a (read (k (x .byte o)) (store b₀ q (x .byte o)) rest) (refused (x .refusal) t₀))
+          Halted n (value x q k) b₀ p b t (cond a (read (k (x .byte o)) (store b₀ q (x .byte o)) rest) (refused (x .refusal o) t₀))
       goes o rest true a f e =
           let is = search-inv (x .spell) t₀ (x .options) o rest f in
           let may : T (x .allowed o) = rw a tt in
@@ -113,7 +113,7 @@ module _ {n : ℕ} (x : Spelling) (q : Place) (k : ℕ → Format) (b₀ : Block
 
       on : (r : Found) → search (x .spell) (x .options) t₀ ≡ r →
           stopFound r (λ o rest. cond (x .allowed o) (stop (k (x .byte o)) (store b₀ q (x .byte o)) rest) (stopped q (store b₀ q (x .byte o)) t₀)) ≡ stopped p b t →
-          Halted n (value x q k) b₀ p b t (onFound r t₀ (λ o rest. cond (x .allowed o) (read (k (x .byte o)) (store b₀ q (x .byte o)) rest) (refused (x .refusal) t₀)))
+          Halted n (value x q k) b₀ p b t (onFound r t₀ (λ o rest. cond (x .allowed o) (read (k (x .byte o)) (store b₀ q (x .byte o)) rest) (refused (x .refusal o) t₀)))
       on (found o rest) f e = goes o rest (x .allowed o) refl f e
       on missing f e = nowhere-stopped p b t e
 
@@ -125,9 +125,9 @@ halted {n} (exactly w f) b₀ t₀ p b t (word h) s e = on (λ rest. halted f b�
     past-this : {out : Outcome} → Halted n f b₀ p b t out → Halted n (exactly w f) b₀ p b t out
     past-this g = record {
       spelling = g .spelling;
-      refuses = g .refuses;
       in-layout = g .in-layout;
       barred = g .barred;
+      refuses = g .refuses;
       along = past-word (g .along);
       kept = g .kept;
     }
@@ -154,12 +154,12 @@ misread (value x p k) b t r u e h = on (λ v b₁ rest. misread (k v) b₁ rest 
     goes : ((v : ℕ) (b₁ : Block) (rest : List ℕ) → stop (k v) b₁ rest ≡ nowhere → read (k v) b₁ rest ≡ refused r u → r ≡ Form) →
         (o : ℕ) (rest : List ℕ) (a : Bool) →
         cond a (stop (k (x .byte o)) (store b p (x .byte o)) rest) (stopped p (store b p (x .byte o)) t) ≡ nowhere →
-        cond a (read (k (x .byte o)) (store b p (x .byte o)) rest) (refused (x .refusal) t) ≡ refused r u → r ≡ Form
+        cond a (read (k (x .byte o)) (store b p (x .byte o)) rest) (refused (x .refusal o) t) ≡ refused r u → r ≡ Form
     goes ih o rest true e h = ih (x .byte o) (store b p (x .byte o)) rest e h
     goes ih o rest false e h = nowhere-stopped p (store b p (x .byte o)) t (sym e)
 
     on : ((v : ℕ) (b₁ : Block) (rest : List ℕ) → stop (k v) b₁ rest ≡ nowhere → read (k v) b₁ rest ≡ refused r u → r ≡ Form) →
         (y : Found) → stopFound y (λ o rest. cond (x .allowed o) (stop (k (x .byte o)) (store b p (x .byte o)) rest) (stopped p (store b p (x .byte o)) t)) ≡ nowhere →
-        onFound y t (λ o rest. cond (x .allowed o) (read (k (x .byte o)) (store b p (x .byte o)) rest) (refused (x .refusal) t)) ≡ refused r u → r ≡ Form
+        onFound y t (λ o rest. cond (x .allowed o) (read (k (x .byte o)) (store b p (x .byte o)) rest) (refused (x .refusal o) t)) ≡ refused r u → r ≡ Form
     on ih (found o rest) e h = goes ih o rest (x .allowed o) e h
     on ih missing e h = cc

@@ -29,7 +29,7 @@ module _ (b : Block) (v : Valid b) where
   sizes-pass (kinds-range h) = omega (arith, v .sized .kinds-fit (h .0) (h .1), h .2)
 
   cost-passes : (s a k j : ℕ) → s < states b → a < agents b → k < count b s a → j < resources b → BadCost b s a k j → ⊥
-  cost-passes s a k j hs ha hk hj (inl h) = omega (arith, v .cost-fits s a k j hs ha hk hj)
+  cost-passes s a k j hs ha hk hj (inl h) = omega (arith, v .cost-fits s a k j hs ha hk hj (h .0), h .1)
   cost-passes s a k j hs ha hk hj (inr h) = let f : 0 < cost b s a 0 j = rw (h .0) at (h .1) in omega (arith, v .idle-free s a j hs ha hj)
 
   actions-pass : (s a : ℕ) → s < states b → a < agents b → BadActions b s a → ⊥
@@ -63,6 +63,7 @@ module _ (b : Block) (v : Valid b) where
       past (λ h. h (v .sized .bytes))
       (past sizes-pass
       (past (λ h. state-passes (h .0) (h .1) (h .2))
+      (past (λ h. v .charge-sums (h .0) (h .2 .0) (h .2 .2 .0) (h .2 .2 .2 .0) (h .1) (h .2 .1) (h .2 .2 .1) (h .2 .2 .2 .1) (h .2 .2 .2 .2 .1) (h .2 .2 .2 .2 .0))
       (past (λ h. next-passes (h .0) (h .2 .0) (h .1) (h .2 .2))
       (past (λ h. row-passes (h .0) (v .row-fits (h .0) (h .1)) (h .2))
-      (past (λ h. h .2 .1 (v .unused-zero (h .0) (h .1) (h .2 .0))) (answered refl))))))
+      (past (λ h. h .2 .1 (v .unused-zero (h .0) (h .1) (h .2 .0))) (answered refl)))))))

@@ -20,7 +20,7 @@ pub record Spelling : Type 0 where
   -- the byte that a spelling stands for, whether it may stand there, and what refuses it where it may not
   pub byte : ℕ → ℕ
   pub allowed : ℕ → Bool
-  pub refusal : Refusal
+  pub refusal : ℕ → Refusal
   -- the spelling that the writer uses for a byte
   pub chosen : ℕ → ℕ
 
@@ -63,7 +63,7 @@ read end b (x ∷ t) = refused Form (x ∷ t)
 read (exactly w f) b t = onFound (after 0 w t missing) t (λ o rest. read f b rest)
 read (value x p k) b t =
     onFound (search (x .spell) (x .options) t) t
-    (λ o rest. cond (x .allowed o) (read (k (x .byte o)) (store b p (x .byte o)) rest) (refused (x .refusal) t))
+    (λ o rest. cond (x .allowed o) (read (k (x .byte o)) (store b p (x .byte o)) rest) (refused (x .refusal o) t))
 
 -- where reading comes to a value that may not stand there: its place, the block read so far with the value's byte, and the text from the value on
 pub data Stop : Type 0 where

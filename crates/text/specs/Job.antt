@@ -1,11 +1,11 @@
--- The text of a job (document 01, "The text"; document 02, R-3), line kind by line kind. Each line is described once, for the writer and the
--- reader, and for both editions; where they differ, byEdition shows it.
-use mathlib.Core.Bool.{Bool, true, false, cond}
+-- The text of a job (document 01, "The text"; document 02, R-3 and R-7), line kind by line kind. Each line is described once, for the writer and
+-- the reader, and for both editions; where they differ, byEdition shows it.
+use mathlib.Core.Bool.{Bool, true, false, cond, not}
 use mathlib.Core.List.{List, [], _∷_, _++_}
-use Prim.Native.Nat.{ℕ, zero, suc, _+_, _^_}
+use Prim.Native.Nat.{ℕ, zero, suc, _+_, _-_, _^_}
 use lib.Dec.{ltb, leb, eqb}
-use lib.ListN.{getD, set}
-use Rattle.block.specs.Layout.{maxAgents, maxResources, maxStates, maxPropositions, maxRows, maxActions, maxUnits, maxJoint, agentsByte, resourcesByte, statesByte, propositionsByte, rowsByte, kindByte, leftByte, rightByte, teamByte, boundByte, unlimited, sumKind, maxKind, propKind, orKind, nextKind, untilKind, kinds, digit}
+use lib.ListN.{getD, set, replicate}
+use Rattle.block.specs.Layout.{maxAgents, maxResources, maxStates, maxPropositions, maxRows, maxActions, maxUnits, maxJoint, agentsByte, resourcesByte, statesByte, propositionsByte, rowsByte, kindByte, leftByte, rightByte, teamByte, boundByte, unlimited, byteValues, chargeByte, sumKind, maxKind, propKind, orKind, nextKind, untilKind, kinds, digit}
 use Rattle.block.specs.declared.layout.Place.{Place}
 use Rattle.block.specs.declared.layout.Place.the-variants.{Header, Mask, Count, Cost, Next, Field, ResourceKind}
 use Rattle.block.specs.declared.refusal.Refusal.{Refusal}
@@ -13,7 +13,7 @@ use Rattle.block.specs.declared.refusal.Refusal.the-variants as refusal
 use Rattle.text.specs.declared.sizes.Edition.{Edition}
 use Rattle.text.specs.declared.sizes.Edition.the-variants.{First, Second}
 use Rattle.text.specs.declared.sizes.Sizes.{Sizes}
-use Rattle.text.specs.Numeral.{ascii, comma, lineEnd, numbers, decimal}
+use Rattle.text.specs.Numeral.{ascii, comma, lineEnd, minus, numbers, decimal}
 use Rattle.text.specs.Format.{Spelling, Format, end, exactly, value}
 
 abbrev pub both : Bool → Bool → Bool
@@ -34,7 +34,7 @@ number sep low limit r = record {
   spell = λ n. decimal n ++ sep ∷ [];
   byte = λ n. n;
   allowed = λ n. both (leb low n) (ltb n limit);
-  refusal = r;
+  refusal = λ n. r;
   chosen = λ v. v;
 }
 
@@ -62,7 +62,7 @@ bound = record {
   spell = λ o. boundField o ++ comma ∷ [];
   byte = λ o. boundCase o unlimited 0 o;
   allowed = λ o. either (ltb o (suc maxUnits)) (leb infBound o);
-  refusal = refusal.Row;
+  refusal = λ o. refusal.Row;
   chosen = λ v. cond (eqb v unlimited) infBound v;
 }
 
@@ -76,7 +76,7 @@ kindSpelling = record {
   spell = kindWord;
   byte = λ k. k;
   allowed = λ k. true;
-  refusal = refusal.Row;
+  refusal = λ k. refusal.Row;
   chosen = λ v. v;
 }
 
@@ -96,27 +96,57 @@ stateLine z s f = exactly (ascii "state,") (index s (value (maskSpelling z) (Mas
 abbrev pub listEnd : ℕ → ℕ
 listEnd left = cond (eqb left 0) lineEnd comma
 
--- a cost is 0 to 15, and idle's is 0
+-- the spellings of a cost: the numbers, and after them in edition 2 the charges, each a minus before a number that is not 0 (document 02, R-7)
+abbrev pub lastNumber : ℕ
+lastNumber = numbers - 1
+
+abbrev pub costSpellings : Edition → ℕ
+costSpellings e = byEdition e numbers (numbers + lastNumber)
+
+-- the number after the minus
+abbrev pub charge : ℕ → ℕ
+charge o = o - lastNumber
+
+-- one of two, as a spelling is a number or a charge
+abbrev pub costCase : {A : Type 0} → A → A → ℕ → A
+costCase number charge o = cond (ltb o numbers) number charge
+
+unfoldable pub costField : ℕ → List ℕ
+costField o = costCase (decimal o) (minus ∷ decimal (charge o)) o
+
+-- the units that a cost takes or gives
+abbrev pub costUnits : ℕ → ℕ
+costUnits o = costCase o (charge o) o
+
+-- they are 0 to 15, and idle's are 0
 abbrev pub costLimit : ℕ → ℕ
 costLimit k = cond (eqb k 0) 1 (suc maxUnits)
 
--- a cost of action k, with left further costs on its line
-abbrev pub costSpelling : ℕ → ℕ → Spelling
-costSpelling k left = number (listEnd left) 0 (costLimit k) refusal.State
+-- a cost of action k in a resource of a kind, with left further costs on its line. Units out of range are number 3, and a charge on a max
+-- resource that is in range is number 13
+abbrev pub costSpelling : Edition → ℕ → ℕ → ℕ → Spelling
+costSpelling e kind k left = record {
+  options = costSpellings e;
+  spell = λ o. costField o ++ listEnd left ∷ [];
+  byte = λ o. costCase o (byteValues - charge o) o;
+  allowed = λ o. both (ltb (costUnits o) (costLimit k)) (costCase true (not (eqb kind maxKind)) o);
+  refusal = λ o. cond (ltb (costUnits o) (costLimit k)) refusal.Charge refusal.State;
+  chosen = λ v. cond (ltb v chargeByte) v (lastNumber + (byteValues - v));
+}
 
--- a field for each of n resources from resource j on, each spelled by how many follow it
-unfoldable pub eachResource : (ℕ → Spelling) → (ℕ → Place) → ℕ → ℕ → Format → Format
+-- a field for each of n resources from resource j on, each spelled by its resource and by how many follow it
+unfoldable pub eachResource : (ℕ → ℕ → Spelling) → (ℕ → Place) → ℕ → ℕ → Format → Format
 eachResource spelling place zero j f = f
-eachResource spelling place (suc n) j f = value (spelling n) (place j) (λ v. eachResource spelling place n (suc j) f)
+eachResource spelling place (suc n) j f = value (spelling j n) (place j) (λ v. eachResource spelling place n (suc j) f)
 
 -- the costs of action k from resource j on: m of them, and then n further actions
-abbrev pub costs : ℕ → ℕ → ℕ → ℕ → ℕ → ℕ → Format → Format
-costs s a n k = eachResource (λ m. costSpelling k (n + m)) (Cost s a k)
+abbrev pub costs : Sizes → ℕ → ℕ → ℕ → ℕ → ℕ → ℕ → Format → Format
+costs z s a n k = eachResource (λ j m. costSpelling (z .edition) (getD (z .kinds) j sumKind) k (n + m)) (Cost s a k)
 
 -- n actions from action k on
 unfoldable pub actions : Sizes → ℕ → ℕ → ℕ → ℕ → Format → Format
 actions z s a zero k f = f
-actions z s a (suc n) k f = costs s a n k (z .resources) 0 (actions z s a n (suc k) f)
+actions z s a (suc n) k f = costs z s a n k (z .resources) 0 (actions z s a n (suc k) f)
 
 -- a count is 1 to 4
 abbrev pub countSpelling : Spelling
@@ -127,10 +157,14 @@ unfoldable pub actsLine : Sizes → ℕ → ℕ → (ℕ → Format) → Format
 actsLine z s a f =
     exactly (ascii "acts,") (index s (index a (value countSpelling (Count s a) (λ c. actions z s a c 0 (f c)))))
 
+-- n parts from part j on, each given how many follow it; each tells a number, and what comes after depends on the list of these numbers
+unfoldable pub collect : (ℕ → ℕ → (ℕ → Format) → Format) → ℕ → ℕ → List ℕ → (List ℕ → Format) → Format
+collect part zero j told f = f told
+collect part (suc n) j told f = part n j (λ v. collect part n (suc j) (set told j v) f)
+
 -- n agents from agent a on; counts are how many actions each agent has
-unfoldable pub agentLines : Sizes → ℕ → ℕ → ℕ → List ℕ → (List ℕ → Format) → Format
-agentLines z s zero a counts f = f counts
-agentLines z s (suc n) a counts f = actsLine z s a (λ c. agentLines z s n (suc a) (set counts a c) f)
+abbrev pub agentLines : Sizes → ℕ → ℕ → ℕ → List ℕ → (List ℕ → Format) → Format
+agentLines z s = collect (λ left a. actsLine z s a)
 
 -- the joint action can be done with these counts
 unfoldable pub possible : List ℕ → ℕ → Bool
@@ -195,7 +229,7 @@ binary k = either (eqb k orKind) (eqb k untilKind)
 
 -- n bounds from resource j on
 abbrev pub boundFields : ℕ → ℕ → ℕ → Format → Format
-boundFields i = eachResource (λ m. bound) (λ j. Field i (boundByte + j))
+boundFields i = eachResource (λ j m. bound) (λ j. Field i (boundByte + j))
 
 -- a team is a mask of agents, never 0
 abbrev pub teamSpelling : Sizes → Spelling
@@ -244,13 +278,17 @@ resourceSpelling e left = record {
   spell = λ k. byEdition e [] (resourceWord k ++ listEnd left ∷ []);
   byte = λ k. k;
   allowed = λ k. true;
-  refusal = refusal.Sizes;
+  refusal = λ k. refusal.Sizes;
   chosen = λ v. v;
 }
 
 -- the kinds of n resources from resource j on
-abbrev pub resourceFields : Edition → ℕ → ℕ → Format → Format
-resourceFields e = eachResource (resourceSpelling e) ResourceKind
+abbrev pub resourceFields : Edition → ℕ → ℕ → List ℕ → (List ℕ → Format) → Format
+resourceFields e = collect (λ left j. value (resourceSpelling e left) (ResourceKind j))
+
+-- the kinds before any is told
+abbrev pub noKinds : List ℕ
+noKinds = replicate maxResources sumKind
 
 -- the first word, and the byte after F, which the kinds follow in edition 2
 abbrev pub jobWord : Edition → List ℕ
@@ -268,7 +306,8 @@ headerLine e f =
     size comma statesByte maxStates λ m.
     size comma propositionsByte maxPropositions λ p.
     size (sizesEnd e) rowsByte maxRows λ w.
-    resourceFields e r 0 (f (record { edition = e; agents = n; resources = r; states = m; propositions = p; rows = w })))
+    resourceFields e r 0 noKinds λ kinds.
+    f (record { edition = e; agents = n; resources = r; states = m; propositions = p; rows = w; kinds = kinds }))
 
 unfoldable pub job : Edition → Format
 job e = headerLine e (λ z. states z (z .states) 0 (rowLines z (z .rows) 0 end))

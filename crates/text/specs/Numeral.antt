@@ -18,6 +18,9 @@ comma = 44
 abbrev pub lineEnd : ℕ
 lineEnd = 10
 
+abbrev pub minus : ℕ
+minus = 45
+
 -- the byte of a digit 0 to 9
 abbrev pub numeral : ℕ → ℕ
 numeral d = 48 + d

@@ -18,7 +18,7 @@ use Rattle.text.specs.Numeral.{Found, found, missing, after}
 use Rattle.text.specs.Job.{either, jobWord, job}
 use Rattle.text.specs.declared.sizes.Edition.{Edition}
 use Rattle.text.specs.declared.sizes.Edition.the-variants.{First, Second}
-use Rattle.text.specs.Broken.{BrokenAt, UnlimitedNumber}
+use Rattle.text.specs.Broken.{BrokenAt, SharedByte}
 
 -- a text is at most this long, and the writer's buffer has this length
 abbrev pub textBytes : ℕ
@@ -76,7 +76,7 @@ Exact t = (b : Block) → (readText t ≡ accepted b) ↔ (Passes b × ((e : Edi
 -- one that is refused elsewhere gets the number of the form
 abbrev pub NumberedAt : Stop → Outcome → Type 0
 NumberedAt nowhere o = (r : Refusal) (rest : List ℕ) → o ≡ refused r rest → r ≡ Form
-NumberedAt (stopped p b t) o = (r : Refusal) × (o ≡ refused r t) × ((BrokenAt b p r × Meets (blockRules b) r) ⊎ UnlimitedNumber b t p r)
+NumberedAt (stopped p b t) o = (r : Refusal) × (o ≡ refused r t) × ((BrokenAt b p r × Meets (blockRules b) r) ⊎ SharedByte b t p r)
 
 abbrev pub Numbered : List ℕ → Type 0
 Numbered t = NumberedAt (stop (job (editionOf t)) blank t) (readText t)

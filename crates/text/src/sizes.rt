@@ -1,17 +1,18 @@
 // What the first line of a job tells.
+use block::layout;
 ghost use mathlib.Core.Path.{_≡_};
 ghost use Prim.Native.Nat.{_^_, _≤_};
 ghost use Rattle.block.specs.Layout.{maxPropositions};
 ghost use Rattle.text.specs.Numeral.{numbers};
 
-// The editions of the text: one has a line for each next state and sums every resource; the other has
-// the next states of a state on one line, and a kind for each resource.
+// The editions of the text: one has a line for each next state, sums every resource and has no charges; the
+// other has the next states of a state on one line, a kind for each resource, and charges.
 pub enum Edition {
     First,
     Second,
 }
 
-// The edition, and the sizes.
+// The edition, the sizes, and the kind of each resource.
 pub struct Sizes {
     pub edition: Edition,
     pub agents: usize,
@@ -19,6 +20,7 @@ pub struct Sizes {
     pub states: usize,
     pub propositions: usize,
     pub rows: usize,
+    pub kinds: [usize; layout::MAX_RESOURCES],
 }
 
 // How many masks of n bits there are.

@@ -1,5 +1,6 @@
-// The check of a block: document 01's numbers 1 to 6.
+// The check of a block: document 01's numbers 1 to 6, and 13.
 mod bits;
+mod charges;
 mod nexts;
 mod rows;
 mod sizes;
@@ -11,7 +12,7 @@ use block::refusal::Answer;
 use block::refusal::Refusal;
 ghost use Rattle.block.specs.Check.{Verdict};
 
-// Checks a block: the first of document 01's numbers 1 to 6 whose condition holds, or 0.
+// Checks a block: the first of the block's numbers whose condition holds, in the order of block's Check, or 0.
 pub fn check(block: &[u8]) -> Answer
     ensures { λ r. ⌜ Verdict (now (block .entry)) r ⌝ }
 {
@@ -23,6 +24,9 @@ pub fn check(block: &[u8]) -> Answer
     }
     if states::bad(block) {
         return Answer::Refused(Refusal::State);
+    }
+    if charges::bad(block) {
+        return Answer::Refused(Refusal::Charge);
     }
     if nexts::bad(block) {
         return Answer::Refused(Refusal::Next);

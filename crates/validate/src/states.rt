@@ -15,14 +15,14 @@ fn cost_bad(block: &[u8], s: usize, a: usize, k: usize, j: usize) -> bool
     requires { ⌜ (s < maxStates) × (a < maxAgents) × (k < maxActions) × (j < maxResources) ⌝ }
     ensures { λ r. ⌜ Decides (BadCost (now (block .entry)) s a k j) r ⌝ }
 {
-    let c = layout::cost(block, s, a, k, j);
-    if layout::MAX_UNITS < c {
-        return true;
-    }
+    let c = layout::cost_byte(block, s, a, k, j);
     if k == 0 {
         return 0 < c;
     }
-    false
+    if c <= layout::MAX_UNITS {
+        return false;
+    }
+    c < layout::CHARGE_BYTE
 }
 
 fn action_bad(block: &[u8], s: usize, a: usize, k: usize) -> bool

@@ -1,4 +1,5 @@
 // The acts lines of a state.
+use crate::output::cost;
 use crate::output::number;
 use block::layout;
 use text::ends::list_end;
@@ -8,21 +9,22 @@ ghost use Prim.Native.Nat.{_+_, _≤_, _<_};
 ghost use Rattle.block.specs.Layout as L;
 ghost use Rattle.block.specs.Layout.{maxStates, maxAgents, maxActions};
 ghost use Rattle.block.specs.Inner.Valid.{Valid};
+ghost use Rattle.text.specs.Inner.Fields.{countsTo};
 ghost use Rattle.text.specs.Job as J;
 ghost use Rattle.writer.specs.Inner.Lengths.{costsBytes, actionsBytes, actsLineBytes, agentLinesBytes};
-ghost use Rattle.writer.specs.Inner.Writing.{Past, PastWith, Room, countsTo, writtenSizes};
+ghost use Rattle.writer.specs.Inner.Writing.{Past, PastWith, Room, writtenSizes};
 
 // The costs of action k, which n further actions follow.
 fn costs(block: &[u8], text: &mut [u8], at: usize, s: usize, a: usize, n: usize, k: usize) -> usize
     requires { ⌜ Valid (now block) × Room (now text) (at + costsBytes) ⌝ }
     requires { ⌜ (s < maxStates) × ((a < maxAgents) × ((k < maxActions) × (n < maxActions))) ⌝ }
-    ensures { λ r. ⌜ Past (now (block .entry)) (J.costs s a n k (L.resources (now (block .entry))) 0) (now (text .entry)) at (now (text .exit)) r × (r ≤ at + costsBytes) ⌝ }
+    ensures { λ r. ⌜ Past (now (block .entry)) (J.costs (writtenSizes (now (block .entry))) s a n k (L.resources (now (block .entry))) 0) (now (text .entry)) at (now (text .exit)) r × (r ≤ at + costsBytes) ⌝ }
 {
     let resources = layout::resources(block);
     let mut next = at;
     for j in 0..resources {
         let sep = list_end(n + (resources - (j + 1)));
-        next = number(text, next, layout::cost(block, s, a, k, j), sep);
+        next = cost(text, next, layout::cost_byte(block, s, a, k, j), sep);
     }
     next
 }

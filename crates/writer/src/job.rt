@@ -11,16 +11,17 @@ ghost use Prim.Native.Nat.{_+_, _≤_};
 ghost use lib.ListN.{length, take};
 ghost use Rattle.block.specs.Layout as L;
 ghost use Rattle.block.specs.Inner.Valid.{Valid};
+ghost use Rattle.text.specs.Inner.Fields.{kindsTo};
 ghost use Rattle.text.specs.Job as J;
 ghost use Rattle.text.specs.Text.{textBytes, textOf};
 ghost use Rattle.writer.specs.Inner.Lengths.{resourcesBytes, headerLineBytes};
 ghost use Rattle.text.specs.declared.sizes.Edition.the-variants as Edition;
-ghost use Rattle.writer.specs.Inner.Writing.{Past, PastWith, Room, writtenSizes};
+ghost use Rattle.writer.specs.Inner.Writing.{PastWith, Room, writtenSizes};
 
 // The kinds of the resources.
 fn resource_fields(block: &[u8], text: &mut [u8], at: usize) -> usize
     requires { ⌜ Valid (now block) × Room (now text) (at + resourcesBytes) ⌝ }
-    ensures { λ r. ⌜ Past (now (block .entry)) (J.resourceFields Edition.Second (L.resources (now (block .entry))) 0) (now (text .entry)) at (now (text .exit)) r × (r ≤ at + resourcesBytes) ⌝ }
+    ensures { λ r. ⌜ PastWith (now (block .entry)) (J.resourceFields Edition.Second (L.resources (now (block .entry))) 0 J.noKinds) (kindsTo (now (block .entry)) (L.resources (now (block .entry)))) (now (text .entry)) at (now (text .exit)) r × (r ≤ at + resourcesBytes) ⌝ }
 {
     let resources = layout::resources(block);
     let mut next = at;

@@ -8,6 +8,7 @@ ghost use mathlib.Core.Path.{_≡_};
 ghost use Prim.Native.Nat.{_+_, _≤_, _<_};
 ghost use lib.ListN.{length};
 ghost use Rattle.block.specs.Layout.{kinds, maxKind};
+ghost use Rattle.text.specs.declared.sizes.Edition.the-variants as Edition;
 ghost use Rattle.text.specs.Job as J;
 ghost use Rattle.text.specs.Numeral.{numbers, decimal};
 ghost use Rattle.text.specs.Inner.Adding.{Adds};
@@ -20,6 +21,18 @@ pub fn number(text: &mut [u8], at: usize, n: usize, sep: u8) -> usize
     ensures { λ r. ⌜ (r ≤ at + fieldBytes) × (n < 100 → r ≤ at + indexBytes) ⌝ }
 {
     field(text, at, n, sep)
+}
+
+// A cost and the comma or line end after it; a charge has a minus.
+pub fn cost(text: &mut [u8], at: usize, v: usize, sep: u8) -> usize
+    requires { ⌜ (at + fieldBytes ≤ length (now text)) × (v < numbers) ⌝ }
+    ensures { λ r. ⌜ Adds (J.costField (J.costSpelling Edition.Second 0 0 0 .chosen v) ++ sep ∷ []) (now (text .entry)) at (now (text .exit)) r × (r ≤ at + fieldBytes) ⌝ }
+{
+    if v < layout::CHARGE_BYTE {
+        return number(text, at, v, sep);
+    }
+    let units = put(text, at, b'-');
+    field(text, units, layout::BYTE_VALUES - v, sep)
 }
 
 // A bound and a comma; an unlimited one is inf.

@@ -3,11 +3,9 @@ use mathlib.Core.List.{List}
 use Prim.Native.Nat.{ℕ, _≤_, _<_}
 use lib.ListN.{length, drop}
 use Rattle.text.specs.Numeral.{numbers, Found, found, missing}
-use Rattle.text.specs.Format.{Spelling, Outcome, accepted, refused, store}
-use Rattle.text.specs.Job.{boundSpellings, bound, kindSpelling, resourceSpelling}
+use Rattle.text.specs.Format.{Spelling, Outcome, accepted, refused}
+use Rattle.text.specs.Job.{bound, kindSpelling, resourceSpelling, costSpelling}
 use Rattle.block.specs.Layout.{Block, maxAgents, maxResources, maxStates, maxPropositions, maxRows}
-use Rattle.block.specs.declared.layout.Place.{Place}
-use Rattle.block.specs.declared.refusal.Refusal.the-variants.{Form}
 use Rattle.text.specs.declared.sizes.Sizes.{Sizes}
 use Rattle.scan.specs.declared.step.Step.{Step}
 use Rattle.scan.specs.declared.step.Step.the-variants as step
@@ -52,25 +50,12 @@ abbrev pub foundAt : List ℕ → Numeral → Found
 foundAt t (numeral.Found n next) = found n (drop next t)
 foundAt t numeral.Missing = missing
 
--- the number that was found is below the limit
-abbrev pub NumberedBelow : ℕ → Numeral → Type 0
-NumberedBelow limit (numeral.Found n next) = n < limit
-NumberedBelow limit numeral.Missing = Unit {0}
-
--- what was found at a place as a value, and the block with it stored
-abbrev pub valueOf : Numeral → ℕ → Value
-valueOf (numeral.Found n next) at = value.At n next
-valueOf numeral.Missing at = value.Refused Form at
-
-abbrev pub storedFound : Block → Place → Numeral → Block
-storedFound b x (numeral.Found n next) = store b x n
-storedFound b x numeral.Missing = b
-
 -- the spellings of a field that has its own
 abbrev pub spellingOf : Spelled → Spelling
 spellingOf spelled.Bound = bound
 spellingOf spelled.Row = kindSpelling
 spellingOf (spelled.Resource e left) = resourceSpelling e left
+spellingOf (spelled.Cost e kind k left) = costSpelling e kind k left
 
 -- the next place, or that of the field where reading ended, lies within the text
 abbrev pub Inside : List ℕ → Step → Type 0
@@ -82,7 +67,7 @@ InsideWith t (value.At v next) = (v < numbers) × (next ≤ length t)
 InsideWith t (value.Refused r at) = at ≤ length t
 
 abbrev pub InsideNumeral : List ℕ → Numeral → Type 0
-InsideNumeral t (numeral.Found n next) = (n < boundSpellings) × (next ≤ length t)
+InsideNumeral t (numeral.Found n next) = next ≤ length t
 InsideNumeral t numeral.Missing = Unit {0}
 
 -- the sizes are in range

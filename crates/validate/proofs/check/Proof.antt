@@ -5,7 +5,7 @@ use lib.ListN.{drop}
 use Rattle.block.specs.Refusal.{Answers, NoValue}
 use Rattle.block.specs.Layout.{Block}
 use Rattle.block.specs.Check.{blockRules, Verdict}
-use Rattle.block.specs.Inner.Valid.{Sized}
+use Rattle.block.specs.Inner.Valid.{Sized, Counted}
 use Rattle.block.specs.declared.refusal.Answer.{Answer}
 use Rattle.block.proofs.Decide as D
 use Rattle.block.proofs.Passing.{sized, counted}
@@ -27,14 +27,20 @@ past-sizes c f = past-length (c .before .before) (past (D.falsity (c .before .ba
 past-states : (c : tie.Else3) {a : Answer} → Answers (drop 3 (blockRules (bytes (c .before .before .before .before)))) NoValue a → Verdict (bytes (c .before .before .before .before)) a
 past-states c f = past-sizes (c .before .before) (past (D.falsity (c .before .bad2 .ensures) (c .if3 .left)) f)
 
-past-nexts : (c : tie.Else4) {a : Answer} → Answers (drop 4 (blockRules (bytes (c .before .before .before .before .before .before)))) NoValue a → Verdict (bytes (c .before .before .before .before .before .before)) a
-past-nexts c f = past-states (c .before .before) (past (D.falsity (c .before .bad3 .ensures) (c .if4 .left)) f)
+past-charges : (c : tie.Else4) {a : Answer} → Answers (drop 4 (blockRules (bytes (c .before .before .before .before .before .before)))) NoValue a → Verdict (bytes (c .before .before .before .before .before .before)) a
+past-charges c f = past-states (c .before .before) (past (D.falsity (c .before .bad3 .ensures) (c .if4 .left)) f)
 
-past-rows : (c : tie.Else5) {a : Answer} → Answers (drop 5 (blockRules (bytes (c .before .before .before .before .before .before .before .before)))) NoValue a → Verdict (bytes (c .before .before .before .before .before .before .before .before)) a
-past-rows c f = past-nexts (c .before .before) (past (D.falsity (c .before .bad4 .ensures) (c .if5 .left)) f)
+past-nexts : (c : tie.Else5) {a : Answer} → Answers (drop 5 (blockRules (bytes (c .before .before .before .before .before .before .before .before)))) NoValue a → Verdict (bytes (c .before .before .before .before .before .before .before .before)) a
+past-nexts c f = past-charges (c .before .before) (past (D.falsity (c .before .bad4 .ensures) (c .if5 .left)) f)
+
+past-rows : (c : tie.Else6) {a : Answer} → Answers (drop 6 (blockRules (bytes (c .before .before .before .before .before .before .before .before .before .before)))) NoValue a → Verdict (bytes (c .before .before .before .before .before .before .before .before .before .before)) a
+past-rows c f = past-nexts (c .before .before) (past (D.falsity (c .before .bad5 .ensures) (c .if6 .left)) f)
 
 is-sized : (c : tie.Else2) → Sized (bytes (c .before .before))
 is-sized c = sized (c .before .before .if1 .left) (D.falsity (c .before .bad .ensures) (c .if2 .left))
+
+is-counted : (c : tie.Else3) → Sized (bytes (c .before .before .before .before)) × Counted (bytes (c .before .before .before .before))
+is-counted c = (is-sized (c .before .before), counted (bytes (c .before .before .before .before)) (D.falsity (c .before .bad2 .ensures) (c .if3 .left)))
 
 returns : tie.Need-returns
 returns c = turned-down (c .if1 .taken)
@@ -52,27 +58,31 @@ returns-3 : tie.Need-returns-3
 returns-3 c = past-sizes (c .before .before) (turned-down (D.truth (c .before .bad2 .ensures) (c .if3 .taken)))
 
 bad-requires-3 : tie.Need-bad-requires-3
-bad-requires-3 c κs = is-sized (c .before .before)
+bad-requires-3 c κs = let known = is-counted c in search needs
 
 returns-4 : tie.Need-returns-4
 returns-4 c = past-states (c .before .before) (turned-down (D.truth (c .before .bad3 .ensures) (c .if4 .taken)))
 
 bad-requires-4 : tie.Need-bad-requires-4
-bad-requires-4 c κs = is-sized (c .before .before .before .before)
+bad-requires-4 c κs = let known = is-counted (c .before .before) in search needs
 
 returns-5 : tie.Need-returns-5
-returns-5 c = past-nexts (c .before .before) (turned-down (D.truth (c .before .bad4 .ensures) (c .if5 .taken)))
+returns-5 c = past-charges (c .before .before) (turned-down (D.truth (c .before .bad4 .ensures) (c .if5 .taken)))
 
 bad-requires-5 : tie.Need-bad-requires-5
-bad-requires-5 c κs =
-    let past = c .before .before .before .before in
-    (is-sized (past .before .before), counted (bytes (past .before .before .before .before)) (D.falsity (past .before .bad2 .ensures) (past .if3 .left)))
+bad-requires-5 c κs = let known = is-counted (c .before .before .before .before) in search needs
 
 returns-6 : tie.Need-returns-6
-returns-6 c = past-rows (c .before .before) (turned-down (D.truth (c .before .bad5 .ensures) (c .if6 .taken)))
+returns-6 c = past-nexts (c .before .before) (turned-down (D.truth (c .before .bad5 .ensures) (c .if6 .taken)))
+
+bad-requires-6 : tie.Need-bad-requires-6
+bad-requires-6 c κs = let known = is-counted (c .before .before .before .before .before .before) in search needs
 
 returns-7 : tie.Need-returns-7
-returns-7 c = past-rows (c .before .before) (past (D.falsity (c .before .bad5 .ensures) (c .if6 .left)) (answered refl))
+returns-7 c = past-rows (c .before .before) (turned-down (D.truth (c .before .bad6 .ensures) (c .if7 .taken)))
+
+returns-8 : tie.Need-returns-8
+returns-8 c = past-rows (c .before .before) (past (D.falsity (c .before .bad6 .ensures) (c .if7 .left)) (answered refl))
 
 pub check-spec : {M : Type 1} → statement M
 check-spec =
@@ -89,4 +99,6 @@ check-spec =
     returns-5
     bad-requires-5
     returns-6
-    returns-7)
+    bad-requires-6
+    returns-7
+    returns-8)

@@ -1,5 +1,7 @@
 -- `write` writes the text of a block that the check passes. Assumes nothing.
+use Prim.Native.Nat.{ℕ, _<_}
 use native.Mathlib.Omega.{arith}
+use Rattle.block.specs.Layout.{byteValues, byteAt}
 use Rattle.block.proofs.Passing.{passing}
 use Rattle.writer.proofs.Calls.{another-length, not-passing, text-and-zeros}
 use borrow.Author.Needs.{needs}
@@ -36,7 +38,8 @@ returns-2 c =
     let zeros = c .before .before .zeros .ensures in
     let passed = rw (enum-told .1) at check in
     let written = job .ensures in
-    text-and-zeros (g .text .now) (job .last .1 .0) (omega arith) passed (omega arith) (written .0) (written .1) zeros
+    let bytes : (p : ℕ) → byteAt (g .block .now) p < byteValues = λ p. omega (arith, c .before .before .before .before .before .before .before .before .before .before .before .before .before .shared-slice-known .given p) in
+    text-and-zeros (g .text .now) (job .last .1 .0) (omega arith) bytes passed (omega arith) (written .0) (written .1) zeros
 
 returns-3 : tie.Need-returns-3
 returns-3 c =

@@ -1,15 +1,13 @@
 -- What the steps of the writer do: each goes on from a place of the text, and what stands before that place stays.
 use mathlib.Core.List.{List, _++_}
 use mathlib.Core.Path.{_≡_}
-use Prim.Native.Nat.{ℕ, zero, suc, _<_}
-use lib.ListN.{length, take, set}
-use Rattle.block.specs.Layout as L
+use Prim.Native.Nat.{ℕ, _<_}
+use lib.ListN.{length, take}
 use Rattle.block.specs.Layout.{Block}
 use Rattle.text.specs.Format.{Format, write}
 use Rattle.text.specs.declared.sizes.Edition.the-variants.{Second}
 use Rattle.text.specs.declared.sizes.Sizes.{Sizes}
 use Rattle.text.specs.Inner.Fields.{sizesOf}
-use Rattle.text.specs.Job.{noCounts}
 use Rattle.text.specs.Text.{textBytes}
 
 -- a part of a format has been added, whatever follows it
@@ -23,11 +21,6 @@ PastWith {A} b part v t at u next = (f : A → Format) → take next u ++ write 
 -- the writer's buffer has room up to a place, and a byte to spare, since a number is always given four
 abbrev pub Room : List ℕ → ℕ → Type 0
 Room t n = (length t ≡ textBytes) × (n < textBytes)
-
--- how many actions each agent has in state s, as far as the first a agents tell
-abbrev pub countsTo : Block → ℕ → ℕ → List ℕ
-countsTo b s zero = noCounts
-countsTo b s (suc a) = set (countsTo b s a) a (L.count b s a)
 
 -- what the first line of a block's text tells: the writer writes edition 2
 abbrev pub writtenSizes : Block → Sizes

@@ -13,10 +13,10 @@ use Rattle.reader.proofs.actions.costs.Statement.{statement}
 use Rattle.reader.proofs.actions.costs.Tie as tie
 
 abbrev Inv-loop : tie.InvT-loop
-Inv-loop text job₀ resources who k n next₀ j₀ job next j = Inside text next × (length job ≡ blockBytes) × (j ≤ resources) × Reached (J.costs (who .state) (who .agent) n k) text resources next₀ job₀ next job j
+Inv-loop text job₀ z who k n resources next₀ j₀ job next j = Inside text next × (length job ≡ blockBytes) × (j ≤ resources) × Reached (J.costs z (who .state) (who .agent) n k) text resources next₀ job₀ next job j
 
 abbrev μ-loop : tie.MeasureT-loop
-μ-loop text job₀ resources who k n next₀ j₀ job next j = resources - j
+μ-loop text job₀ z who k n resources next₀ j₀ job next j = resources - j
 
 loop-holds : tie.Need-loop-holds Inv-loop μ-loop
 loop-holds c = (search needs, search needs, search needs, reached-none)

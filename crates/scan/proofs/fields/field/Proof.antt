@@ -58,7 +58,7 @@ returns-3 c =
     let t = drop (g .at) (g .text .now) in
     let there = rw told at (call .0) in
     let is = search-inv (λ n. decimal n ++ g .range .sep ∷ []) t 256 _ _ there in
-    (λ k. value-next (number (g .range .sep) (g .range .low) (g .range .limit) (g .range .refusal)) (g .x) k (g .job .now) t _ _ _ _ there (in-range (c .before .before .before .before .before .before .if1 .left) (c .before .before .before .before .if2 .left)) refl (c .before .before .put .ensures), ((is .0, (rw told at (call .1)) .1), (c .before .before .before .before .before .before .if1 .left, c .before .before .before .before .if2 .left)))
+    (λ k. value-next (number (g .range .sep) (g .range .low) (g .range .limit) (g .range .refusal)) (g .x) k (g .job .now) t _ _ _ _ there (in-range (c .before .before .before .before .before .before .if1 .left) (c .before .before .before .before .if2 .left)) refl (c .before .before .put .ensures), ((is .0, rw told at (call .1)), (c .before .before .before .before .before .before .if1 .left, c .before .before .before .before .if2 .left)))
 
 returns-4 : tie.Need-returns-4
 returns-4 c =

@@ -27,7 +27,7 @@ returns c =
     let t = drop (g .at) (g .text .now) in
     let there = rw told at (call .0) in
     let is = search-inv (λ n. decimal n ++ comma ∷ []) t 256 _ _ there in
-    (λ f b. index-next (g .n) t f b _ (rw (← c .if1 .taken) (is .1)), (rw told at (call .1)) .1)
+    (λ f b. index-next (g .n) t f b _ (rw (← c .if1 .taken) (is .1)), rw told at (call .1))
 
 returns-2 : tie.Need-returns-2
 returns-2 c =

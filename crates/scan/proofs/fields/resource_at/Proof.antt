@@ -1,6 +1,5 @@
 -- `resource_at` finds a word in edition 2, and nothing to read in edition 1. Assumes nothing.
 use Rattle.scan.proofs.Reading.{silent-search}
-use lib.Dec.{lit<}
 use borrow.Author.Needs.{needs}
 use Rattle.scan.proofs.fields.resource_at.Statement.{statement}
 use Rattle.scan.proofs.fields.resource_at.Tie as tie
@@ -15,7 +14,7 @@ resource-word-requires : tie.Need-resource-word-requires
 resource-word-requires c κs = search needs
 
 returns : tie.Need-returns
-returns c = rw (c .enum-told .given .1) (silent-search _, (lit< tt, c .before .before .before .pre))
+returns c = rw (c .enum-told .given .1) (silent-search _, c .before .before .before .pre)
 
 returns-2 : tie.Need-returns-2
 returns-2 c = rw (c .before .enum-told2 .given .1) (c .resource-word .ensures)

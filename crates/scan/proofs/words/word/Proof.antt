@@ -20,7 +20,7 @@ returns : tie.Need-returns
 returns c =
     let told = c .before .next .given .1 in
     let call = c .before .before .before .word-or .ensures in
-    (λ f b. ap (λ (x : Found). onFound x (drop (c .before .before .before .before .before .before .args .at) (c .before .before .before .before .before .before .args .text .now)) (λ o rest. read f b rest)) (sym (rw told at (call .0))), (rw told at (call .1)) .1)
+    (λ f b. ap (λ (x : Found). onFound x (drop (c .before .before .before .before .before .before .args .at) (c .before .before .before .before .before .before .args .text .now)) (λ o rest. read f b rest)) (sym (rw told at (call .0))), rw told at (call .1))
 
 returns-2 : tie.Need-returns-2
 returns-2 c =

@@ -9,12 +9,13 @@ use Rattle.text.specs.Format.{write}
 use Rattle.text.specs.Job as J
 use Rattle.text.proofs.JobLoops.{each-loop}
 use Rattle.writer.specs.Inner.Lengths.{fieldBytes}
+use Rattle.writer.specs.Inner.Writing.{writtenSizes}
 use Rattle.writer.proofs.Writing.{Looped, looped-none, looped-more, looped-all}
 use Rattle.writer.proofs.agents.costs.Statement.{statement}
 use Rattle.writer.proofs.agents.costs.Tie as tie
 
 abbrev Inv-loop : tie.InvT-loop
-Inv-loop block text₀ at s a n k resources next₀ j₀ text next j = (j ≤ resources) × ((length text ≡ length text₀) × ((next ≤ at + fieldBytes * j) × Looped (J.costs s a n k) resources block text₀ at text next j))
+Inv-loop block text₀ at s a n k resources next₀ j₀ text next j = (j ≤ resources) × ((length text ≡ length text₀) × ((next ≤ at + fieldBytes * j) × Looped (J.costs (writtenSizes block) s a n k) resources block text₀ at text next j))
 
 abbrev μ-loop : tie.MeasureT-loop
 μ-loop block text₀ at s a n k resources next₀ j₀ text next j = resources - j
@@ -37,11 +38,11 @@ add-list-end-2 c = omega arith
 list-end-requires : tie.Need-list-end-requires Inv-loop μ-loop
 list-end-requires c κs = tt
 
-cost-requires : tie.Need-cost-requires Inv-loop μ-loop
-cost-requires c κs = omega arith
+cost-byte-requires : tie.Need-cost-byte-requires Inv-loop μ-loop
+cost-byte-requires c κs = omega arith
 
-number-requires : tie.Need-number-requires Inv-loop μ-loop
-number-requires c κs =
+cost-requires : tie.Need-cost-requires Inv-loop μ-loop
+cost-requires c κs =
     let g = c .before .before .before .before .before .before .before .before .args in
     let known = c .before .before .before .before .before .before .before .shared-slice-known .given in
     let now = c .before .before .before .before .loop in
@@ -58,10 +59,10 @@ loop-again c =
     let g = c .before .before .before .before .before .before .before .before .before .before .before .args in
     let inv = c .before .before .before .before .before .before .before .loop .inv in
     let list-end = c .before .before .before .before .before .list-end .ensures .0 in
-    let cost = c .before .before .before .cost .ensures in
-    let number = c .before .before .number .ensures in
+    let byte = c .before .before .before .cost-byte .ensures in
+    let cost = c .before .before .cost .ensures in
     let b = g .block .now in
-    (omega arith, (omega arith, (omega arith, looped-more (each-loop _ _) (inv .1 .1 .1) (omega arith) (λ f. rw (cost, list-end) at (number .0 (write f b))))))
+    (omega arith, (omega arith, (omega arith, looped-more (each-loop _ _) (inv .1 .1 .1) (omega arith) (λ f. rw (byte, list-end) at (cost .0 (write f b))))))
 
 same-length : tie.Need-same-length Inv-loop μ-loop
 same-length c = omega arith
@@ -85,8 +86,8 @@ costs-spec =
     sub-list-end
     add-list-end-2
     list-end-requires
+    cost-byte-requires
     cost-requires
-    number-requires
     add-j
     loop-less
     loop-again

@@ -3,7 +3,7 @@ use mathlib.Core.Path.{_≡_, refl, ap, _∙_}
 use Prim.Native.Nat.{_-_, _≤_}
 use native.Mathlib.Numerals.{add-one}
 use native.Mathlib.Omega.{arith}
-use Rattle.writer.specs.Inner.Writing.{countsTo}
+use Rattle.text.specs.Inner.Fields.{countsTo}
 use Rattle.writer.proofs.agents.counts.Statement.{statement}
 use Rattle.writer.proofs.agents.counts.Tie as tie
 

@@ -1,14 +1,21 @@
 -- `header_line` writes the five sizes and the kinds. Assumes nothing.
+use mathlib.Core.List.{List}
 use mathlib.Core.Path.{_∙_}
+use Prim.Native.Nat.{ℕ}
 use native.Mathlib.Omega.{arith}
 use Rattle.block.specs.Layout as L
+use Rattle.block.specs.Layout.{Block}
 use Rattle.text.specs.declared.sizes.Edition.the-variants.{Second}
-use Rattle.text.specs.Format.{write}
-use Rattle.text.specs.Job.{headerLine, size, resourceFields}
-use Rattle.writer.specs.Inner.Writing.{writtenSizes}
+use Rattle.text.specs.declared.sizes.Sizes.{Sizes}
+use Rattle.text.specs.Format.{Format, write}
+use Rattle.text.specs.Job.{headerLine, size, resourceFields, noKinds}
 use borrow.Author.Needs.{needs}
 use Rattle.writer.proofs.job.header_line.Statement.{statement}
 use Rattle.writer.proofs.job.header_line.Tie as tie
+
+-- what follows the line, by the kinds
+abbrev sized : (Sizes → Format) → Block → List ℕ → Format
+sized f b kinds = f (record { edition = Second; agents = L.agents b; resources = L.resources b; states = L.states b; propositions = L.propositions b; rows = L.rows b; kinds = kinds })
 
 slice-aggregate-word : tie.Need-slice-aggregate-word
 slice-aggregate-word c = search needs
@@ -67,9 +74,9 @@ returns c =
     let b = c .before .before .before .before .before .before .before .before .before .before .before .before .before .before .before .before .before .before .before .before .before .before .before .before .before .before .before .before .before .before .before .before .before .before .before .before .args .block .now in
     let kinds = c .before .before .resource-fields .ensures in (
       λ f.
-          kinds .0 (f (writtenSizes b))
+          kinds .0 (sized f b)
           ∙ rw (c .before .before .before .before .before .before .before .before .before .before .before .before .before .before .before .before .before .before .before .before .before .before .before .before .before .before .before .agents .ensures, c .before .before .before .before .before .before .before .before .before .before .before .before .before .before .before .before .before .before .before .before .before .before .resources .ensures, c .before .before .before .before .before .before .before .before .before .before .before .before .before .before .before .before .before .states .ensures, c .before .before .before .before .before .before .before .before .before .before .before .before .propositions .ensures, c .before .before .before .before .before .before .before .rows .ensures) at (
-          c .before .before .before .before .before .before .number5 .ensures .0 (write (resourceFields Second (L.resources b) 0 (f (writtenSizes b))) b)
+          c .before .before .before .before .before .before .number5 .ensures .0 (write (resourceFields Second (L.resources b) 0 noKinds (sized f b)) b)
           ∙ c .before .before .before .before .before .before .before .before .before .before .before .number4 .ensures .0 _
           ∙ c .before .before .before .before .before .before .before .before .before .before .before .before .before .before .before .before .number3 .ensures .0 _
           ∙ c .before .before .before .before .before .before .before .before .before .before .before .before .before .before .before .before .before .before .before .before .before .number2 .ensures .0 _

@@ -1,19 +1,20 @@
 -- `resource_fields` writes the kinds of the resources. Assumes nothing.
-use mathlib.Core.Path.{_≡_, refl}
+use mathlib.Core.Path.{_≡_, refl, sym, _∙_}
 use Prim.Native.Nat.{_+_, _-_, _*_, _≤_}
 use native.Mathlib.Omega.{arith}
 use lib.ListN.{length}
 use Rattle.text.specs.declared.sizes.Edition.the-variants.{Second}
-use Rattle.text.specs.Format.{write}
+use Rattle.block.specs.Layout.{resourceKind}
+use Rattle.block.specs.declared.layout.Place.the-variants.{ResourceKind}
+use Rattle.text.specs.Format.{value, write}
 use Rattle.text.specs.Job as J
-use Rattle.text.proofs.JobLoops.{each-loop}
 use Rattle.writer.specs.Inner.Lengths.{fieldBytes}
-use Rattle.writer.proofs.Writing.{Looped, looped-none, looped-more, looped-all}
+use Rattle.writer.proofs.Writing.{Collected, collected-none, collected-more, collected-all}
 use Rattle.writer.proofs.job.resource_fields.Statement.{statement}
 use Rattle.writer.proofs.job.resource_fields.Tie as tie
 
 abbrev Inv-loop : tie.InvT-loop
-Inv-loop block text₀ at resources next₀ j₀ text next j = (j ≤ resources) × ((length text ≡ length text₀) × ((next ≤ at + fieldBytes * j) × Looped (J.resourceFields Second) resources block text₀ at text next j))
+Inv-loop block text₀ at resources next₀ j₀ text next j = (j ≤ resources) × ((length text ≡ length text₀) × ((next ≤ at + fieldBytes * j) × Collected (λ left i. value (J.resourceSpelling Second left) (ResourceKind i)) (resourceKind block) J.noKinds resources block text₀ at text next j))
 
 abbrev μ-loop : tie.MeasureT-loop
 μ-loop block text₀ at resources next₀ j₀ text next j = resources - j
@@ -22,7 +23,7 @@ resources-requires : tie.Need-resources-requires Inv-loop μ-loop
 resources-requires c κs = omega arith
 
 loop-holds : tie.Need-loop-holds Inv-loop μ-loop
-loop-holds c = (omega arith, (refl, (omega arith, looped-none)))
+loop-holds c = (omega arith, (refl, (omega arith, collected-none)))
 
 add-list-end : tie.Need-add-list-end Inv-loop μ-loop
 add-list-end c = omega arith
@@ -49,16 +50,16 @@ loop-again : tie.Need-loop-again Inv-loop μ-loop
 loop-again c =
     let inv = c .before .before .before .before .before .before .before .loop .inv in
     let b = c .before .before .before .before .before .before .before .before .before .before .before .args .block .now in
-    (omega arith, (omega arith, (omega arith, looped-more (each-loop _ _) (inv .1 .1 .1) (omega arith) (λ f. rw (c .before .before .before .before .before .resource-kind .ensures, c .before .before .before .list-end .ensures .0) at (c .before .before .resource .ensures .0 (write f b))))))
+    (omega arith, (omega arith, (omega arith, collected-more (inv .1 .1 .1) (omega arith) (λ f. rw (c .before .before .before .before .before .resource-kind .ensures, c .before .before .before .list-end .ensures .0) at (c .before .before .resource .ensures .0 (write (f (resourceKind b (c .before .before .before .before .before .before .before .loop .j))) b))))))
 
 same-length : tie.Need-same-length Inv-loop μ-loop
 same-length c = omega arith
 
 returns : tie.Need-returns Inv-loop μ-loop
 returns c =
-    let resources = c .before .before .resources .ensures in
-    let inv = c .before .loop .inv in
-    (looped-all (each-loop _ _) (rw resources at (inv .1 .1 .1)) (omega arith), omega arith)
+    let resources = c .before .before .resources in
+    let all : resources .result ≡ c .before .loop .j = omega arith in
+    (collected-all (rw (resources .ensures) at (c .before .loop .inv .1 .1 .1)) (sym (resources .ensures) ∙ all), omega arith)
 
 pub resource-fields-spec : {M : Type 1} → statement M
 resource-fields-spec =

@@ -1,7 +1,7 @@
 -- `cost_limit` is 1 for idle and 16 for other actions. Assumes nothing.
 use borrow.Author.Tests.{ne-eqb}
-use Rattle.reader.proofs.actions.cost_limit.Statement.{statement}
-use Rattle.reader.proofs.actions.cost_limit.Tie as tie
+use Rattle.scan.proofs.costs.cost_limit.Statement.{statement}
+use Rattle.scan.proofs.costs.cost_limit.Tie as tie
 
 returns : tie.Need-returns
 returns c = rw (c .if1 .taken)

@@ -1,0 +1,74 @@
+// Number 13: charges on max resources.
+use block::layout;
+ghost use Prim.Native.Nat.{_<_};
+ghost use Rattle.block.specs.Decide.{Some};
+ghost use Rattle.block.specs.Inner.Tests.{Decides};
+ghost use Rattle.block.specs.Layout.{maxStates, maxAgents, maxActions, maxResources, resources, agents, states, count};
+ghost use Rattle.block.specs.Check.{BadCharge, BadCharges};
+ghost use Rattle.block.specs.Inner.Valid.{Sized, Counted};
+
+fn charge_bad(block: &[u8], s: usize, a: usize, k: usize, j: usize) -> bool
+    requires { ⌜ Sized (now block) ⌝ }
+    requires { ⌜ (s < maxStates) × (a < maxAgents) × (k < maxActions) × (j < maxResources) ⌝ }
+    ensures { λ r. ⌜ Decides (BadCharge (now (block .entry)) s a k j) r ⌝ }
+{
+    if layout::resource_kind(block, j) != layout::MAX_KIND {
+        return false;
+    }
+    layout::CHARGE_BYTE <= layout::cost_byte(block, s, a, k, j)
+}
+
+fn action_bad(block: &[u8], s: usize, a: usize, k: usize) -> bool
+    requires { ⌜ Sized (now block) ⌝ }
+    requires { ⌜ (s < maxStates) × (a < maxAgents) × (k < maxActions) ⌝ }
+    ensures { λ r. ⌜ Decides (Some (resources (now (block .entry))) (BadCharge (now (block .entry)) s a k)) r ⌝ }
+{
+    let n = layout::resources(block);
+    for j in 0..n {
+        if charge_bad(block, s, a, k, j) {
+            return true;
+        }
+    }
+    false
+}
+
+fn actions_bad(block: &[u8], s: usize, a: usize) -> bool
+    requires { ⌜ Sized (now block) × Counted (now block) ⌝ }
+    requires { ⌜ (s < states (now block)) × (a < agents (now block)) ⌝ }
+    ensures { λ r. ⌜ Decides (Some (count (now (block .entry)) s a) (λ k. Some (resources (now (block .entry))) (BadCharge (now (block .entry)) s a k))) r ⌝ }
+{
+    let n = layout::count(block, s, a);
+    for k in 0..n {
+        if action_bad(block, s, a, k) {
+            return true;
+        }
+    }
+    false
+}
+
+fn state_bad(block: &[u8], s: usize) -> bool
+    requires { ⌜ Sized (now block) × Counted (now block) ⌝ }
+    requires { ⌜ s < states (now block) ⌝ }
+    ensures { λ r. ⌜ Decides (BadCharges (now (block .entry)) s) r ⌝ }
+{
+    let n = layout::agents(block);
+    for a in 0..n {
+        if actions_bad(block, s, a) {
+            return true;
+        }
+    }
+    false
+}
+
+pub fn bad(block: &[u8]) -> bool
+    requires { ⌜ Sized (now block) × Counted (now block) ⌝ }
+    ensures { λ r. ⌜ Decides (Some (states (now (block .entry))) (BadCharges (now (block .entry)))) r ⌝ }
+{
+    let n = layout::states(block);
+    for s in 0..n {
+        if state_bad(block, s) {
+            return true;
+        }
+    }
+    false
+}
