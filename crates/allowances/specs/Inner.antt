@@ -1,3 +1,3 @@
 -- Definitions that serve proofs and the contracts of inner functions only.
 pub mod Pairs
-pub mod Raised
+pub mod Asked

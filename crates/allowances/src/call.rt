@@ -1,6 +1,6 @@
 // The smallest allowances for a state, in a lent list of 32 bytes.
 use crate::pairs;
-use crate::raised;
+use crate::pairs::Asked;
 use block::fill;
 use block::layout;
 use block::refusal::Answer;
@@ -34,19 +34,24 @@ fn turned_down(block: &[u8], i: usize, s: usize, list: usize, room: usize) -> An
     admit::state(block, i, s)
 }
 
-// Lists them. The row is solved once, with its bounds raised in a copy of the job.
+// Lists them. The rows below are labelled once; the row itself is solved with other bounds in a copy of the job.
 fn find(block: &[u8], i: usize, s: usize, list: &mut [u8], room: &mut [u8]) -> usize
     requires { ⌜ Valid (now block) ⌝ }
     requires { ⌜ (i < L.rows (now block)) × L.Strategic (L.kind (now block) i) × (s < L.states (now block)) ⌝ }
     requires { ⌜ (length (now list) ≡ allowancesBytes) × (length (now room) ≡ roomBytes) ⌝ }
     ensures { λ r. ⌜ AllowancesIn (now (block .entry)) i s (now (list .exit)) r × (length (now (room .exit)) ≡ roomBytes) ⌝ }
 {
-    let mut copy = [0u8; layout::BLOCK_BYTES];
-    raised::raise_copy(block, i, &mut copy);
     let mut ways = [0u8; lines::WAYS_BYTES];
-    ready::prepare(&copy, i, &mut ways, room);
+    let lower = ready::lower_sets(block, i, &mut ways, room);
+    let ask = Asked {
+        row: i,
+        state: s,
+        left: lower.left,
+        right: lower.right,
+    };
+    let mut copy = [0u8; layout::BLOCK_BYTES];
     fill::zeros(list, 0);
-    pairs::list_pairs(&copy, i, room, s, list)
+    pairs::list_pairs(block, ask, list, &mut copy, &mut ways, room)
 }
 
 // The count of the smallest allowances with which row i is true in state s, which are in the front of the list. The room is left filled with

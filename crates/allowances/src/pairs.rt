@@ -1,6 +1,8 @@
-// The smallest allowances, listed from the ranks of a row whose bounds are the largest: its positions have all smaller ones for stocks.
+// The smallest allowances: a walk along the border between the pairs of bounds that are enough and those that are not.
+use crate::bounds;
 use block::layout;
 use choice::kinds;
+use solver::rows;
 use turns::buffers;
 use turns::positions;
 ghost use mathlib.Core.Path.{_≡_};
@@ -10,8 +12,18 @@ ghost use Rattle.block.specs.Inner.Tests.{Decides};
 ghost use Rattle.block.specs.Inner.Valid.{Valid};
 ghost use Rattle.block.specs.Layout as L;
 ghost use Rattle.allowances.specs.Allowances.{Shows, allowancesBytes, AllowancesIn};
-ghost use Rattle.allowances.specs.Inner.Pairs.{Enough, Spans, stockOf, FirstEnough};
-ghost use Rattle.allowances.specs.Inner.Raised.{Tabled};
+ghost use Rattle.turns.specs.Sizes.{roomBytes};
+ghost use Rattle.ways.specs.Lines.{waysBytes};
+ghost use Rattle.allowances.specs.Inner.Asked.{Asking};
+ghost use Rattle.allowances.specs.Inner.Pairs.{Enough, Spans, FirstEnough};
+
+// A state of a row, and the sets of the rows that it names.
+pub struct Asked {
+    pub row: usize,
+    pub state: usize,
+    pub left: usize,
+    pub right: usize,
+}
 
 // The numbers that are tried for a resource, from the first below the end.
 struct Range {
@@ -40,49 +52,55 @@ fn tried(block: &[u8], i: usize, j: usize) -> Range
     }
 }
 
-// The stock that stands for an allowance: where it is unlimited, 0.
-fn stock(n: usize) -> u8
-    requires { ⌜ n < 256 ⌝ }
-    ensures { λ r. ⌜ r ≡ stockOf n ⌝ }
+// Whether the row is true in the state with x and y for its bounds: those of a copy, which is solved. A stock left under other bounds tells
+// nothing, since a bound is also what a charge fills up to.
+fn enough(
+    block: &[u8],
+    ask: Asked,
+    x: usize,
+    y: usize,
+    copy: &mut [u8],
+    ways: &mut [u8],
+    ranks: &mut [u8],
+) -> bool
+    requires { ⌜ Asking (now block) ask ⌝ }
+    requires { ⌜ Shows (now block) (ask .row) 0 x × Shows (now block) (ask .row) 1 y ⌝ }
+    requires { ⌜ (length (now copy) ≡ L.blockBytes) × (length (now ways) ≡ waysBytes) × (length (now ranks) ≡ roomBytes) ⌝ }
+    ensures { λ r. ⌜ Decides (Enough (now (block .entry)) (ask .row) (ask .state) x y) r ⌝ }
+    ensures { λ _. ⌜ (length (now (copy .exit)) ≡ L.blockBytes) × (length (now (ways .exit)) ≡ waysBytes) × (length (now (ranks .exit)) ≡ roomBytes) ⌝ }
 {
-    if n == layout::UNLIMITED {
-        return 0;
-    }
-    n as u8
+    bounds::put_copy(block, ask.row, x, y, copy);
+    rows::rank_row(copy, ask.row, ask.left, ask.right, ways, ranks);
+    let p = positions::full(copy, ask.row, ask.state);
+    kinds::claims(layout::kind(copy, ask.row), buffers::rank_at(ranks, p))
 }
 
-// Whether row i is true in state s with x and y for its bounds.
-fn enough(block: &[u8], i: usize, ranks: &[u8], s: usize, x: usize, y: usize) -> bool
-    requires { ⌜ Tabled (now block) i (now ranks) ⌝ }
-    requires { ⌜ (s < L.states (now block)) × Shows (now block) i 0 x × Shows (now block) i 1 y ⌝ }
-    ensures { λ r. ⌜ Decides (Enough (now (block .entry)) i s x y) r ⌝ }
-{
-    let stocks = [stock(x), stock(y)];
-    let p = positions::number(block, i, s, &stocks);
-    kinds::claims(layout::kind(block, i), buffers::rank_at(ranks, p))
-}
-
-// The smallest number for resource 1, from the first below the end, that is enough beside x for resource 0; the end where there is none.
+// The smallest number of the range for resource 1 that is enough beside x for resource 0; the end where there is none. From the end downwards,
+// as far as numbers are enough: more is never worse.
 fn first_enough(
     block: &[u8],
-    i: usize,
-    ranks: &[u8],
-    s: usize,
+    ask: Asked,
     x: usize,
-    first: usize,
-    end: usize,
+    range: Range,
+    copy: &mut [u8],
+    ways: &mut [u8],
+    ranks: &mut [u8],
 ) -> usize
-    requires { ⌜ Tabled (now block) i (now ranks) ⌝ }
-    requires { ⌜ (s < L.states (now block)) × Shows (now block) i 0 x × (first ≤ end) ⌝ }
-    requires { ⌜ ((y : ℕ) → first ≤ y → y < end → Shows (now block) i 1 y) ⌝ }
-    ensures { λ r. ⌜ FirstEnough (now (block .entry)) i s x first end r ⌝ }
+    requires { ⌜ Asking (now block) ask ⌝ }
+    requires { ⌜ Shows (now block) (ask .row) 0 x × (range .first ≤ range .end) × ((y : ℕ) → range .first ≤ y → y < range .end → Shows (now block) (ask .row) 1 y) ⌝ }
+    requires { ⌜ (length (now copy) ≡ L.blockBytes) × (length (now ways) ≡ waysBytes) × (length (now ranks) ≡ roomBytes) ⌝ }
+    ensures { λ r. ⌜ FirstEnough (now (block .entry)) (ask .row) (ask .state) x (range .first) (range .end) r ⌝ }
+    ensures { λ _. ⌜ (length (now (copy .exit)) ≡ L.blockBytes) × (length (now (ways .exit)) ≡ waysBytes) × (length (now (ranks .exit)) ≡ roomBytes) ⌝ }
 {
-    for y in first..end {
-        if enough(block, i, ranks, s, x, y) {
+    let first = range.first;
+    let mut y = range.end;
+    while first < y {
+        if !enough(block, ask, x, y - 1, copy, ways, ranks) {
             return y;
         }
+        y -= 1;
     }
-    end
+    y
 }
 
 // Stores the allowance x, y as the k-th of the list.
@@ -96,17 +114,30 @@ fn store(list: &mut [u8], k: usize, x: usize, y: usize)
 }
 
 // Lists them in a buffer of zeros and tells how many there are. With a larger first number only a smaller second one is worth listing.
-pub fn list_pairs(block: &[u8], i: usize, ranks: &[u8], s: usize, list: &mut [u8]) -> usize
-    requires { ⌜ Tabled (now block) i (now ranks) ⌝ }
-    requires { ⌜ (s < L.states (now block)) × (now list ≡ replicate allowancesBytes 0) ⌝ }
-    ensures { λ r. ⌜ AllowancesIn (now (block .entry)) i s (now (list .exit)) r ⌝ }
+pub fn list_pairs(
+    block: &[u8],
+    ask: Asked,
+    list: &mut [u8],
+    copy: &mut [u8],
+    ways: &mut [u8],
+    ranks: &mut [u8],
+) -> usize
+    requires { ⌜ Asking (now block) ask ⌝ }
+    requires { ⌜ now list ≡ replicate allowancesBytes 0 ⌝ }
+    requires { ⌜ (length (now copy) ≡ L.blockBytes) × (length (now ways) ≡ waysBytes) × (length (now ranks) ≡ roomBytes) ⌝ }
+    ensures { λ r. ⌜ AllowancesIn (now (block .entry)) (ask .row) (ask .state) (now (list .exit)) r ⌝ }
+    ensures { λ _. ⌜ (length (now (copy .exit)) ≡ L.blockBytes) × (length (now (ways .exit)) ≡ waysBytes) × (length (now (ranks .exit)) ≡ roomBytes) ⌝ }
 {
-    let xs = tried(block, i, 0);
-    let ys = tried(block, i, 1);
+    let xs = tried(block, ask.row, 0);
+    let ys = tried(block, ask.row, 1);
     let mut n = 0;
     let mut end = ys.end;
     for x in xs.first..xs.end {
-        let y = first_enough(block, i, ranks, s, x, ys.first, end);
+        let range = Range {
+            first: ys.first,
+            end: end,
+        };
+        let y = first_enough(block, ask, x, range, copy, ways, ranks);
         if y < end {
             store(list, n, x, y);
             n += 1;

@@ -16,7 +16,7 @@ use Rattle.block.proofs.OneRow.{same-agents, same-resources, same-states, same-
 use Rattle.game.specs.Rbatl as R
 use Rattle.game.specs.Rbatl.{unlimited, Bounds, Formula, Sat}
 use Rattle.game.specs.Position.{joint}
-use Rattle.game.specs.Model.{bit, byKind, combineOf, structureOf, boundOf, boundsBy, formulaWith, rowFormula, formulasBelow, RowTrue, RowTrueWith}
+use Rattle.game.specs.Model.{bit, byKind, combineOf, structureOf, boundOf, boundsBy, formulaWith, rowFormula, formulasBelow, formulaOf, RowTrue, RowTrueWith}
 use Rattle.game.proofs.Bridge.Agreeing.{Agrees, sat-same}
 use Rattle.game.proofs.Blocks.Passing.{joint-available, valid-proper}
 
@@ -72,6 +72,14 @@ module _ {i : ℕ} {Changed : ℕ → Type 0} {b b′ : Block} (valid : Valid b)
   formulas-same (suc k) l =
       let below = formulas-same k (omega arith) in
       fun-ext (λ j. ap₂ (cond (eqb j k)) (row-same k (omega arith) below) (ap (λ (lower : ℕ → Formula). lower j) below))
+
+-- the truth of the rows below row i
+module _ {i : ℕ} {Changed : ℕ → Type 0} {b b′ : Block} (valid : Valid b) (valid′ : Valid b′) (inside : i < L.rows b) (only : OnlyFields i Changed b b′) where
+  pub lower-same : (k : ℕ) → k < i → (q : ℕ) → q < L.states b → RowTrue b k q ↔ RowTrue b′ k q
+  lower-same k lower q l =
+      let formula = row-same valid inside only k lower (formulas-same valid inside only k (omega arith)) in
+      subst (λ (φ : Formula). RowTrue b k q ↔ Sat (structureOf b′) φ q) (sym formula)
+      (sat-same (structures-agree valid inside only) (valid-proper b valid) (valid-proper b′ valid′) (formulaOf b k) q l)
 
 -- row i with any bounds, where only its own bounds differ
 module _ {i : ℕ} {b b′ : Block} (valid : Valid b) (valid′ : Valid b′) (inside : i < L.rows b) (only : OnlyFields i (IsBound b) b b′) where

@@ -39,6 +39,11 @@ pub record RowLabelled (b : Block) (i : ℕ) (sets sets′ : List ℕ) : Type 0 
   pub others : (j : ℕ) → (j ≡ i → ⊥) → wordIn sets′ j ≡ wordIn sets j
   pub long : length sets′ ≡ length sets
 
+-- left and right are the sets of the rows that row i names
+pub record LowerTold (b : Block) (i left right : ℕ) : Type 0 where
+  pub left-set : L.propKind < L.kind b i → RowSet b (L.left b i) left
+  pub right-set : L.Binary (L.kind b i) → RowSet b (L.right b i) right
+
 -- a row with the sets of the rows that it names, and its ranks
 pub record Prepared (b : Block) (i left right : ℕ) (ranks : List ℕ) : Type 0 where
   pub left-set : L.propKind < L.kind b i → RowSet b (L.left b i) left

@@ -1,32 +1,18 @@
--- `find` solves the copy with raised bounds, and lists from its ranks. Assumes nothing.
+-- `find` labels the rows below, and lists by trying other bounds. Assumes nothing.
+use mathlib.Core.Path.{_∙_}
 use Prim.Native.Nat.{ℕ}
-use native.Mathlib.Omega.{arith}
 use lib.ListN.{length-replicate}
 use Rattle.turns.proofs.Bytes.{cleared}
 use Rattle.allowances.specs.Allowances.{allowancesBytes}
-use Rattle.allowances.proofs.Raising.{raised-valid, raised-row, raised-states, raised-tabled, raised-allowances}
 use borrow.Author.Needs.{needs}
 use Rattle.allowances.proofs.call.find.Statement.{statement}
 use Rattle.allowances.proofs.call.find.Tie as tie
 
-slice-aggregate-raise-copy : tie.Need-slice-aggregate-raise-copy
-slice-aggregate-raise-copy c = search needs
+slice-aggregate-lower-sets : tie.Need-slice-aggregate-lower-sets
+slice-aggregate-lower-sets c = search needs
 
-raise-copy-requires : tie.Need-raise-copy-requires
-raise-copy-requires c κs = search needs
-
-slice-aggregate-prepare : tie.Need-slice-aggregate-prepare
-slice-aggregate-prepare c = search needs
-
-slice-aggregate-prepare-2 : tie.Need-slice-aggregate-prepare-2
-slice-aggregate-prepare-2 c = search needs
-
-prepare-requires : tie.Need-prepare-requires
-prepare-requires c κs =
-    let pre = c .before .before .before .before .before .before .before .before .before .pre in
-    let raised = c .before .before .before .before .raise-copy .ensures in
-    let row = raised-row (pre .0) (pre .1 .0 .0) (pre .1 .0 .1) raised in
-    (raised-valid (pre .0) (pre .1 .0 .0) (pre .1 .0 .1) raised, (row .0, row .1, length-replicate {A = ℕ} 6704 0, pre .1 .1 .1))
+lower-sets-requires : tie.Need-lower-sets-requires
+lower-sets-requires c κs = search needs
 
 zeros-requires : tie.Need-zeros-requires
 zeros-requires c κs = search needs
@@ -34,14 +20,17 @@ zeros-requires c κs = search needs
 slice-aggregate-list-pairs : tie.Need-slice-aggregate-list-pairs
 slice-aggregate-list-pairs c = search needs
 
+slice-aggregate-list-pairs-2 : tie.Need-slice-aggregate-list-pairs-2
+slice-aggregate-list-pairs-2 c = search needs
+
 list-pairs-requires : tie.Need-list-pairs-requires
-list-pairs-requires c κs =
-    let args = c .before .before .before .before .before .before .before .before .before .before .before .before .before .before .before .before .before .before .before .before .args in
-    let pre = c .before .before .before .before .before .before .before .before .before .before .before .before .before .before .before .before .before .before .before .before .pre in
-    let raised = c .before .before .before .before .before .before .before .before .before .before .before .before .before .before .before .raise-copy .ensures in (
-      raised-tabled (pre .0) (pre .1 .0 .0) (pre .1 .0 .1) raised (c .before .before .before .before .before .before .before .before .before .before .prepare .ensures),
-      (omega (arith, pre .1 .0 .2, raised-states (pre .0) (pre .1 .0 .0) (pre .1 .0 .1) raised), cleared (args .list .now) _ allowancesBytes (c .before .before .before .before .before .zeros .ensures) (pre .1 .1 .0)),
-    )
+list-pairs-requires c κs = (
+  record { valid = c .before .before .before .before .before .before .before .before .before .before .before .before .before .before .before .before .before .pre .0; inside = c .before .before .before .before .before .before .before .before .before .before .before .before .before .before .before .before .before .pre .1 .0 .0; strategic = c .before .before .before .before .before .before .before .before .before .before .before .before .before .before .before .before .before .pre .1 .0 .1; state = c .before .before .before .before .before .before .before .before .before .before .before .before .before .before .before .before .before .pre .1 .0 .2; lower = c .before .before .before .before .before .before .before .before .before .before .before .lower-sets .ensures .0 },
+  (
+    cleared (c .before .before .before .before .before .before .before .before .before .before .before .before .before .before .before .before .before .args .list .now) _ allowancesBytes (c .before .before .before .before .before .before .zeros .ensures) (c .before .before .before .before .before .before .before .before .before .before .before .before .before .before .before .before .before .pre .1 .1 .0),
+    (length-replicate {A = ℕ} 2471 0, c .before .before .before .before .before .before .before .before .before .before .before .lower-sets .ensures .1 .0 ∙ length-replicate {A = ℕ} 6704 0, c .before .before .before .before .before .before .before .before .before .before .before .lower-sets .ensures .1 .1 ∙ c .before .before .before .before .before .before .before .before .before .before .before .before .before .before .before .before .before .pre .1 .1 .1),
+  ),
+)
 
 same-length : tie.Need-same-length
 same-length c = search needs
@@ -50,23 +39,17 @@ same-length-2 : tie.Need-same-length-2
 same-length-2 c = search needs
 
 returns : tie.Need-returns
-returns c =
-    let args = c .before .before .before .before .before .before .before .before .before .before .before .before .before .before .before .before .before .before .before .before .before .before .before .args in
-    let pre = c .before .before .before .before .before .before .before .before .before .before .before .before .before .before .before .before .before .before .before .before .before .before .before .pre in
-    let raised = c .before .before .before .before .before .before .before .before .before .before .before .before .before .before .before .before .before .before .raise-copy .ensures in
-    (raised-allowances (pre .0) (pre .1 .0 .0) (pre .1 .0 .1) raised (args .s) (pre .1 .0 .2) _ _ (c .before .before .list-pairs .ensures), c .before .before .before .before .before .before .before .before .before .before .before .before .before .prepare .ensures .long)
+returns c = search needs
 
 pub find-spec : {M : Type 1} → statement M
 find-spec =
     tie.close
     (tie.spec
-    slice-aggregate-raise-copy
-    raise-copy-requires
-    slice-aggregate-prepare
-    slice-aggregate-prepare-2
-    prepare-requires
+    slice-aggregate-lower-sets
+    lower-sets-requires
     zeros-requires
     slice-aggregate-list-pairs
+    slice-aggregate-list-pairs-2
     list-pairs-requires
     same-length
     same-length-2
