@@ -165,7 +165,8 @@ const struct command commands[] = {
         .summary = "a drawing of the job for a row",
         .does = "Draws the job in the language of Graphviz: the states, filled where the row is\n"
                 "true, and the joint actions that lead from one to another. The title has the row\n"
-                "and the kind of each resource.\n",
+                "and the kind of each resource. A state has the move at full stock, with what it\n"
+                "costs of each resource; a cost below 0 is a charge.\n",
         .takes = "Arguments:\n"
                  "  ROW    a row of any kind; it may be left out where the job has exactly one of\n"
                  "         kind next, always or until, which is then drawn\n",

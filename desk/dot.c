@@ -63,7 +63,7 @@ static void draw_move(const struct drawing *drawing, unsigned state)
     printf("\\nmove ");
     print_move_pattern(block, rbatl_row_team(block, drawing->row), move);
     for (unsigned resource = 0; resource < rbatl_job_resources(block); resource++) {
-        printf("%s%u", before, move_cost(block, state, move, resource));
+        printf("%s%d", before, move_cost(block, state, move, resource));
         before = " and ";
     }
 }

@@ -33,13 +33,14 @@ bool is_reply(const uint8_t *block, unsigned row, unsigned state, unsigned numbe
     return part_of(number, opponents_of(block, row)) == number && has_joint(block, state, number);
 }
 
-/* Agents outside the coalition have action 0 in its move, which costs nothing. */
-unsigned move_cost(const uint8_t *block, unsigned state, unsigned move, unsigned resource)
+/* Agents outside the coalition have action 0 in its move, which costs nothing. A
+ * resource of kind max is not charged, so that its largest cost is at least 0. */
+int move_cost(const uint8_t *block, unsigned state, unsigned move, unsigned resource)
 {
-    unsigned sum = 0, largest = 0;
+    int sum = 0, largest = 0;
     for (unsigned agent = 0; agent < rbatl_job_agents(block); agent++) {
         unsigned action = rbatl_action_of(move, agent);
-        unsigned cost = rbatl_action_cost(block, state, agent, action, resource);
+        int cost = rbatl_action_cost(block, state, agent, action, resource);
         sum += cost;
         if (cost > largest)
             largest = cost;

@@ -18,7 +18,7 @@ unsigned part_of(unsigned joint, unsigned agents);
 /* Whether the number is an available reply to the row's coalition in the state. */
 bool is_reply(const uint8_t *block, unsigned row, unsigned state, unsigned number);
 
-/* What a coalition's move takes of a resource, by its kind. */
-unsigned move_cost(const uint8_t *block, unsigned state, unsigned move, unsigned resource);
+/* What a coalition's move costs of a resource, by its kind; below 0 where it charges. */
+int move_cost(const uint8_t *block, unsigned state, unsigned move, unsigned resource);
 
 #endif

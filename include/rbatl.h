@@ -20,10 +20,10 @@
  * Each call answers a value from 0, or minus the number of a refusal (enum
  * rbatl_refusal; its words, rbatl_refusal_text in rbatl_job.h). A refused call
  * leaves every buffer as it was, except working room. Of several refusals the
- * first in this order is answered: RBATL_E_LENGTH; then those of the block,
- * RBATL_E_SIZES to RBATL_E_UNUSED, each tried over the whole block; then
- * RBATL_E_ROW_CHOICE, RBATL_E_POSITION, RBATL_E_WRONG_SIDE, RBATL_E_MOVE and
- * RBATL_E_REPLY. A text has an order of its own (rbatl_read).
+ * first in this order is answered: RBATL_E_LENGTH; then those of the block in the
+ * order of rbatl_check, each tried over the whole block; then RBATL_E_ROW_CHOICE,
+ * RBATL_E_POSITION, RBATL_E_WRONG_SIDE, RBATL_E_MOVE and RBATL_E_REPLY. A text has
+ * an order of its own (rbatl_read).
  *
  * Working room may hold anything before a call and holds zeros after it, refused
  * or not, except that RBATL_E_LENGTH leaves it as it was.
@@ -39,9 +39,9 @@
  * Cost: rbatl_move and rbatl_reply solve the row anew at each call. For the moves
  * of up to 64 positions ask rbatl_worksheet, which solves it once, as
  * rbatl_rehearse does; for those of all positions fetch the row's table.
- * rbatl_allowances solves the row once, with bounds of RBATL_MAX_BOUND, and takes
- * about as long as the table with them. rbatl_job.h reads all of these by name, as
- * it does sets and blocks.
+ * rbatl_allowances solves the row anew with each pair of bounds that it tries, some
+ * thirty at most, since the stock left under one bound says nothing of another.
+ * rbatl_job.h reads all of these by name, as it does sets and blocks.
  *
  * Machine: x86-64 with the calling convention of System V, and no other.
  *
@@ -68,9 +68,10 @@ extern "C" {
  * when a host is compiled, as in `#if RBATL_VERSION_NUMBER < 30000`, and the
  * same as a string. Before 3.0.0 a block had 2469 bytes, without kinds of
  * resources, and rbatl_write wrote edition 1; before 3.1.0 there was no
- * rbatl_allowances, and before 3.2.0 no rbatl_rehearse. */
-#define RBATL_VERSION_NUMBER 30200
-#define RBATL_VERSION "3.2.0"
+ * rbatl_allowances, before 3.2.0 no rbatl_rehearse, and before 3.3.0 no action could
+ * charge. */
+#define RBATL_VERSION_NUMBER 30300
+#define RBATL_VERSION "3.3.0"
 
 /* Length of a block; the longest text that is read, and the length of the
  * buffer that a text is written to. */
@@ -128,16 +129,17 @@ extern "C" {
 #define RBATL_MAX_PROPOSITIONS 8
 #define RBATL_MAX_ROWS 32
 
-/* Largest number of actions of an agent in a state, the largest cost of one,
- * the largest limited bound, and the byte of an unlimited bound. */
+/* Largest number of actions of an agent in a state, the largest cost of one and the
+ * largest charge, the largest limited bound, and the byte of an unlimited bound. */
 #define RBATL_MAX_ACTIONS 4
 #define RBATL_MAX_COST 15
 #define RBATL_MAX_BOUND 15
 #define RBATL_UNLIMITED 255
 
-/* The kinds of a resource: what a coalition's move takes of it is the sum of its
+/* The kinds of a resource: what a coalition's move costs of it is the sum of its
  * agents' costs, as for charge, or the largest of them, as for minutes that run
- * side by side. The costs of successive moves add up in both. */
+ * side by side. A cost below 0 is a charge, of RBATL_SUM alone, and what a move costs
+ * may then be below 0 too. */
 enum rbatl_cost_kind {
     RBATL_SUM = 0,
     RBATL_MAX
@@ -162,7 +164,8 @@ enum rbatl_refusal {
      * range, or the kind of a resource is unknown (in a text RBATL_E_FORM). */
     RBATL_E_SIZES = 2,
     /* A state has a proposition that does not exist, a count of actions that
-     * is not 1 to 4, a cost above 15, or an idle action with a cost. */
+     * is not 1 to 4, a cost or charge above 15, or an idle action with a cost or
+     * charge. */
     RBATL_E_STATE = 3,
     /* A next state does not exist. */
     RBATL_E_NEXT = 4,
@@ -186,17 +189,21 @@ enum rbatl_refusal {
     /* The move to reply to is not available or not affordable. */
     RBATL_E_MOVE = 11,
     /* A byte of a script is no available reply when its turn comes. */
-    RBATL_E_REPLY = 12
+    RBATL_E_REPLY = 12,
+    /* An action charges a resource of kind max. */
+    RBATL_E_CHARGE = 13
 };
 
 /* Checks a block: 0 if it holds a job; -RBATL_E_LENGTH for any other length;
- * else minus the first of RBATL_E_SIZES, RBATL_E_STATE, RBATL_E_NEXT,
- * RBATL_E_ROW and RBATL_E_UNUSED whose condition holds anywhere in the block.
+ * else minus the first of RBATL_E_SIZES, RBATL_E_STATE, RBATL_E_CHARGE,
+ * RBATL_E_NEXT, RBATL_E_ROW and RBATL_E_UNUSED whose condition holds anywhere in
+ * the block.
  * Its bytes, which rbatl_job.h reads by name, are
  * - 0 to 4: the numbers of agents, resources, states, propositions and rows;
  * - 5 + s: the propositions true in state s, bit k for proposition k;
  * - 29 + 3s + a: the number of actions of agent a in state s;
- * - 101 + 24s + 8a + 2k + j: what action k of agent a there costs of resource j;
+ * - 101 + 24s + 8a + 2k + j: what action k of agent a there costs of resource j, 0
+ *   to 15, or 256 minus what it charges, which is 1 to 15;
  * - 677 + 64s + a0 + 4 * a1 + 16 * a2: the next state by the agents' actions;
  * - 2213 + 8i on: row i as kind (enum rbatl_kind), left, right, coalition,
  *   bound of each of two resources, 0, 0; left and right are lower rows, or left
@@ -210,12 +217,13 @@ int32_t rbatl_check(const uint8_t *block, size_t block_len);
  * or a text above RBATL_TEXT_BYTES; else minus the first refusal that the fields
  * meet from left to right and line by line, each tried for its form
  * (RBATL_E_FORM), the comma or line end after it included, and then for its value
- * (RBATL_E_SIZES, RBATL_E_STATE, RBATL_E_NEXT, RBATL_E_ROW). The first word tells
- * the edition:
- * - `job`: all resources are of kind RBATL_SUM, and each joint action of a state
- *   has a `go` line with its actions and its next state;
+ * (RBATL_E_SIZES, RBATL_E_STATE before RBATL_E_CHARGE, RBATL_E_NEXT, RBATL_E_ROW).
+ * The first word tells the edition:
+ * - `job`: all resources are of kind RBATL_SUM, no cost has a minus, and each joint
+ *   action of a state has a `go` line with its actions and its next state;
  * - `job2`: after the sizes the first line has a word for each resource, `sum` or
- *   `max`, and a state has one `go` line, with all its next states.
+ *   `max`, a charge is a cost with a minus before its number, and a state has one
+ *   `go` line, with all its next states.
  * A bound is a number, `inf`, which is unlimited, or empty, which is 0 (unlimited
  * before version 2.0.0). The text needs no byte 0 at its end, and has none. A
  * refused call leaves the block as it was. */
@@ -235,14 +243,18 @@ int32_t rbatl_write(const uint8_t *block, size_t block_len, uint8_t *text, size_
 
 /* Labels the rows of a block: 0, and word i of the sets has bit s exactly where
  * row i is true in state s; words past the last row are 0. A row of kind next,
- * always or until is true where its coalition has a strategy, paid from the
- * bounds along every play, that makes left true at the second state, left true
- * at every state, or right true at some state with left true at all earlier
- * ones. Only the coalition's costs count. The sets are RBATL_SETS_BYTES: 32
- * words of four bytes, lowest byte first. The room is RBATL_ROOM_BYTES of
- * working room. -RBATL_E_LENGTH for a block, sets or a room of any other
- * length, and then nothing changes; else what rbatl_check answers on the block,
- * and the sets stay as they were. */
+ * always or until is true where its coalition has a strategy whose every move the
+ * stocks pay along every play, and that makes left true at the second state, left
+ * true at every state, or right true at some state with left true at all earlier
+ * ones. The stock of a resource starts at its bound. A move costs what the
+ * coalition's agents' actions cost, by the kind of the resource, and those of others
+ * count nothing; the stock pays it if it is at least that. What is left is the stock
+ * less the cost, which is more where the move charges, but never more than the bound;
+ * an unlimited resource binds nothing, and its stock is 0. The sets are
+ * RBATL_SETS_BYTES: 32 words of four bytes, lowest byte first. The room is
+ * RBATL_ROOM_BYTES of working room. -RBATL_E_LENGTH for a block, sets or a room of
+ * any other length, and then nothing changes; else what rbatl_check answers on the
+ * block, and the sets stay as they were. */
 int32_t rbatl_label(const uint8_t *block, size_t block_len, uint8_t *sets, size_t sets_len,
                     uint8_t *room, size_t room_len);
 
@@ -253,7 +265,8 @@ int32_t rbatl_label(const uint8_t *block, size_t block_len, uint8_t *sets, size_
  * The ranks are RBATL_RANKS_BYTES: words of two bytes, lowest byte first; the
  * moves are RBATL_MOVES_BYTES. Past the last position both are 0. A rank is
  * - until: the fewest moves within which the coalition can enforce the row, 0
- *   where right holds;
+ *   where right holds; it is below the number of positions, and with charges it may
+ *   be above the number of states;
  * - always: the fewest within which its opponents, knowing its present move
  *   each time, can make left false, 0 where it is false;
  * - next: 1 where the coalition can;
@@ -329,11 +342,12 @@ int32_t rbatl_allowances(const uint8_t *block, size_t block_len, uint8_t row, ui
  * move, one of until where right holds, at once if it does in the first state, and
  * one of always when the script is used up: these are finished. It is unfinished
  * exactly if the script runs out first, of next or until. Bytes past the end are
- * not read. The moves never overspend the bounds, and of until there are at most as
- * many as the rank of the first position. Where a rehearsal of next or until is
- * finished, the row is true on every play of these moves that begins so; of always,
- * left was true in every state so far. The script has 0 to RBATL_SCRIPT_BYTES. The
- * room is RBATL_ROOM_BYTES of working room. -RBATL_E_LENGTH for a longer script, or
+ * not read. The stocks pay every move, and of until there are at most as many as
+ * the rank of the first position, which with charges may be above
+ * RBATL_SCRIPT_BYTES. Where a rehearsal of next or until is finished, the row is
+ * true on every play of these moves that begins so; of always, left was true in
+ * every state so far. The script has 0 to RBATL_SCRIPT_BYTES. The room is
+ * RBATL_ROOM_BYTES of working room. -RBATL_E_LENGTH for a longer script, or
  * for a block, a report or a room of any other length, and then nothing changes;
  * else what rbatl_check answers on the block; else -RBATL_E_ROW_CHOICE; else
  * -RBATL_E_POSITION for a state that does not exist; else -RBATL_E_WRONG_SIDE where

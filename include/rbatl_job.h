@@ -132,11 +132,14 @@ static inline unsigned rbatl_action_count(const uint8_t *block, unsigned state, 
     return agent < rbatl_job_agents(block) ? block[rbatl_place_of_count(state, agent)] : 1;
 }
 
-/* What an action of an agent costs of a resource in a state. */
-static inline unsigned rbatl_action_cost(const uint8_t *block, unsigned state, unsigned agent,
-                                         unsigned action, unsigned resource)
+/* What an action of an agent costs of a resource in a state, -RBATL_MAX_COST to
+ * RBATL_MAX_COST; below 0 where it charges, which its byte holds as 256 minus the
+ * charge. */
+static inline int rbatl_action_cost(const uint8_t *block, unsigned state, unsigned agent,
+                                    unsigned action, unsigned resource)
 {
-    return block[rbatl_place_of_cost(state, agent, action, resource)];
+    int byte = block[rbatl_place_of_cost(state, agent, action, resource)];
+    return byte <= RBATL_MAX_COST ? byte : byte - 256;
 }
 
 /* The state that a joint action leads to. */
@@ -318,7 +321,7 @@ static inline const char *rbatl_refusal_text(int32_t number)
                "or the kind of a resource is unknown";
     case RBATL_E_STATE:
         return "a state has an absent proposition, a count of actions that is not 1 to 4, "
-               "a cost above 15, or an idle action with a cost";
+               "a cost or charge above 15, or an idle action with a cost or charge";
     case RBATL_E_NEXT:
         return "a next state does not exist";
     case RBATL_E_ROW:
@@ -340,6 +343,8 @@ static inline const char *rbatl_refusal_text(int32_t number)
         return "the coalition's move is not available there, or not affordable";
     case RBATL_E_REPLY:
         return "a reply of the script is not available when its turn comes";
+    case RBATL_E_CHARGE:
+        return "an action charges a resource of kind max";
     default:
         return "no refusal has this number";
     }

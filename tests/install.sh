@@ -150,6 +150,7 @@ done << 'end'
 10 s/^// move 2 0 1
 11 s/^// reply 2 0 1 1
 12 s/^// rehearse 2 0 1
+13 s/^job,\(.*\)/job2,\1,max/;s/^\(acts,0.*,\)2$/\1-2/ check
 end
 
 gone() { [[ -d $root && -z $(find "$root" ! -type d) ]]; }

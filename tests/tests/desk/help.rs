@@ -41,7 +41,7 @@ fn the_version() {
     let version = header.split("#define RBATL_VERSION \"").nth(1);
     let version = version.and_then(|rest| rest.split('"').next());
     assert_eq!(said("--version"), format!("desk {}\n", version.unwrap()));
-    assert_eq!(said("--version"), "desk 3.2.0\n");
+    assert_eq!(said("--version"), "desk 3.3.0\n");
 }
 
 /// The call as in the overview, then what it does, takes and prints.

@@ -3,6 +3,7 @@
 mod answers;
 mod arguments;
 mod asked;
+mod charges;
 mod drawing;
 mod help;
 mod job_file;

@@ -73,6 +73,67 @@ fn edition_2() {
     all_refuse(&with("go,0,0,1,2,3", "go,0,0,1,2,3,4"), 7);
 }
 
+/// The costs of edition 2: minutes.job with another charge of one action, which is
+/// resource 0's, of kind sum.
+#[test]
+fn charges() {
+    let job = String::from_utf8(jobs::text("minutes.job")).unwrap();
+    let with = |costs: &str| {
+        let line = format!("acts,0,0,2,{costs}\n");
+        job.replacen("acts,0,0,2,0,0,2,3\n", &line, 1).into_bytes()
+    };
+    for cost in ["-1", "-9", "-10", "-15", "15"] {
+        assert!(passes(&with(&format!("0,0,{cost},3"))), "{cost}");
+    }
+    for cost in ["-16", "-99", "-100", "-255", "16", "255"] {
+        all_refuse(&with(&format!("0,0,{cost},3")), 3);
+    }
+    for cost in [
+        "-0", "-", "--1", "-01", "-00", "-256", "-1000", "- 1", "-1 ", "+1", "1-", "-a", "−1",
+    ] {
+        all_refuse(&with(&format!("0,0,{cost},3")), 7);
+    }
+    // Idle charges nothing, of either kind.
+    all_refuse(&with("-1,0,2,3"), 3);
+    all_refuse(&with("0,-1,2,3"), 3);
+}
+
+/// A charge on minutes, which are of kind max, after 3 and before the next states.
+#[test]
+fn charges_of_kind_max() {
+    let job = String::from_utf8(jobs::text("minutes.job")).unwrap();
+    let with = |old: &str, new: &str| job.replacen(old, new, 1);
+    for charge in ["-1", "-3", "-15"] {
+        let text = with("acts,0,0,2,0,0,2,3", &format!("acts,0,0,2,0,0,2,{charge}"));
+        all_refuse(text.as_bytes(), 13);
+        let later = text.replacen("go,0,0,1,2,3", "go,0,0,1,2,9", 1);
+        all_refuse(later.as_bytes(), 13);
+        let sooner = text.replacen("state,0,0", "state,0,2", 1);
+        all_refuse(sooner.as_bytes(), 3);
+        // In minutes-sum.job both are of kind sum.
+        let summed = text.replacen("sum,max", "sum,sum", 1);
+        assert!(passes(summed.as_bytes()), "{charge}");
+    }
+    for (charge, number) in [("-16", 3), ("-255", 3), ("-0", 7), ("-256", 7)] {
+        let text = with("acts,0,0,2,0,0,2,3", &format!("acts,0,0,2,0,0,2,{charge}"));
+        all_refuse(text.as_bytes(), number);
+    }
+    let text = with("acts,0,0,2,0,0,2,3", "acts,0,0,2,0,0,2,-3");
+    let said = desk("list", text.as_bytes()).err;
+    let words = "desk: refused, 13: an action charges a resource of kind max\n";
+    assert_eq!(said, words);
+}
+
+/// Edition 1 has no minus, whatever follows it.
+#[test]
+fn charges_in_edition_1() {
+    for cost in ["-1", "-2", "-15", "-16", "-255", "-0", "-", "--1"] {
+        let line = format!("acts,0,0,2,0,{cost}");
+        all_refuse(&changed("acts,0,0,2,0,2", &line), 7);
+    }
+    all_refuse(&changed("acts,0,0,2,0,2", "acts,0,0,2,-1,2"), 7);
+}
+
 #[test]
 fn states() {
     assert!(passes(&changed("state,0,0", "state,0,1")));

@@ -67,6 +67,22 @@ fn edition_2() {
     }
 }
 
+/// Under the minus of a charge that is refused.
+#[test]
+fn charges() {
+    let job = String::from_utf8(jobs::text("minutes.job")).unwrap();
+    for (cost, column) in [("2,-3", 18), ("-16,3", 16), ("-0,3", 16), ("--1,3", 16)] {
+        let line = format!("acts,0,0,2,0,0,{cost}");
+        let text = job.replacen("acts,0,0,2,0,0,2,3", &line, 1);
+        let mark = " ".repeat(column - 1);
+        let expected = format!("line 3, column {column}:\n{line}\n{mark}^\n");
+        assert_eq!(shown(text.as_bytes()), expected, "{cost}");
+    }
+    let text = changed("acts,0,0,2,0,2", "acts,0,0,2,0,-2");
+    let expected = "line 3, column 14:\nacts,0,0,2,0,-2\n             ^\n";
+    assert_eq!(shown(&text), expected);
+}
+
 /// A text that ends too soon, one that goes on, and none.
 #[test]
 fn ends() {
