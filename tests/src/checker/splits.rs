@@ -1,15 +1,16 @@
 //! Document 003, section 4: labelling over splits of the bound, smaller bounds
-//! first. The two fixed points are those of its lemma 1 (section 3.1), since
-//! section 4's own loops fall short of the truth definition for a bound that is
-//! not of 0 and ∞ alone: always, taken there as the least fixed point, misses
-//! states whose opponents can put off for ever what must be paid, and until
-//! misses those where right holds and left does not.
+//! first, of jobs in which nothing is charged. The two fixed points are those of its
+//! lemma 1 (section 3.1), since section 4's own loops fall short of the truth
+//! definition for a bound that is not of 0 and ∞ alone: always, taken there as the
+//! least fixed point, misses states whose opponents can put off for ever what must be
+//! paid, and until misses those where right holds and left does not.
 
 use super::structure::*;
 use crate::layout::MAX_RESOURCES;
 
 /// [φ] for each row.
 pub fn label(structure: &Structure) -> Vec<Set> {
+    assert!(!structure.charges, "a split takes from a bound alone");
     let mut sets: Vec<Set> = Vec::new();
     for &formula in &structure.formulas {
         let set = match formula {
@@ -51,7 +52,7 @@ pub fn next_by_bounds(structure: &Structure, row: usize) -> Vec<Set> {
 
 /// The moves of a coalition in each state: cost(q, σ) and out(q, σ).
 struct Game {
-    moves: Vec<Vec<(Amounts, Set)>>,
+    moves: Vec<Vec<(Cost, Set)>>,
 }
 
 impl Game {
@@ -66,7 +67,7 @@ impl Game {
 
     /// Pre(A, ρ, b).
     fn pre(&self, set: Set, bound: Amounts) -> Set {
-        let able = |moves: &[(Amounts, Set)]| {
+        let able = |moves: &[(Cost, Set)]| {
             let mut moves = moves.iter();
             moves.any(|&(cost, outcomes)| outcomes & !set == 0 && at_most(cost, bound))
         };
@@ -146,8 +147,9 @@ impl Grid {
 /// The d with d + d' = b, ∞ where b is; none if d' is somewhere above b.
 fn difference(b: Amounts, smaller: Amounts) -> Option<Amounts> {
     let part = |resource: usize| match b[resource] {
-        INFINITE => INFINITE,
-        limit => limit - smaller[resource],
+        INFINITE => Some(INFINITE),
+        limit => limit.checked_sub(smaller[resource]),
     };
-    at_most(smaller, b).then(|| std::array::from_fn(part))
+    let parts = [part(0)?, part(1)?];
+    Some(parts)
 }
