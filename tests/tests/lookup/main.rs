@@ -18,7 +18,7 @@ mod sheet_borders;
 mod sheets;
 
 use rbatl_tests::agree::{self, Outcome};
-use rbatl_tests::answers::{assert_each_came, number};
+use rbatl_tests::answers::{assert_each_came, assert_none_came, number, Counts};
 use rbatl_tests::damage::{damage, BORDERS};
 use rbatl_tests::games;
 use rbatl_tests::jobs;

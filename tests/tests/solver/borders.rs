@@ -182,7 +182,7 @@ fn full_sizes() {
 
 /// Every place of Catch, with values at the borders; each number of the block comes.
 pub fn each_changed_byte(call: impl Fn(&[u8], &str) -> Outcome) {
-    let mut seen = [0; 9];
+    let mut seen = Counts::default();
     for place in 0..BLOCK_BYTES {
         for value in BORDERS {
             let mut block = catch();

@@ -56,7 +56,7 @@ fn cut_before_every_line() {
 #[test]
 fn every_byte_changed() {
     let lent = agree::pattern(BLOCK_BYTES);
-    let mut seen = [0; 8];
+    let mut seen = Counts::default();
     for name in SMALL {
         let job = jobs::text(name);
         for place in 0..job.len() {
@@ -74,7 +74,7 @@ fn every_byte_changed() {
 #[test]
 fn every_byte_inserted() {
     let lent = agree::pattern(BLOCK_BYTES);
-    let mut seen = [0; 8];
+    let mut seen = Counts::default();
     for name in SMALL {
         let job = jobs::text(name);
         for place in 0..=job.len() {
@@ -94,7 +94,7 @@ fn every_byte_inserted() {
 #[test]
 fn every_byte_dropped_and_doubled() {
     let lent = agree::pattern(BLOCK_BYTES);
-    let mut seen = [0; 8];
+    let mut seen = Counts::default();
     for (i, job) in many_texts().iter().enumerate() {
         let step = if job.len() < 8192 { 1 } else { 16 };
         for place in (0..job.len()).step_by(step) {
@@ -114,7 +114,7 @@ fn every_byte_dropped_and_doubled() {
 #[test]
 fn every_two_lines_swapped_and_every_line_repeated_anywhere() {
     let lent = agree::pattern(BLOCK_BYTES);
-    let mut seen = [0; 8];
+    let mut seen = Counts::default();
     for name in SMALL {
         let job = jobs::text(name);
         let job = lines(&job);
