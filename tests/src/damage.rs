@@ -73,7 +73,7 @@ pub fn whole_and_damaged() -> Vec<(Vec<u8>, u8)> {
 
 /// Damages a job, or leaves it whole, and says how.
 pub fn damage(rng: &mut Rng, block: &mut Vec<u8>) -> &'static str {
-    match rng.below(16) {
+    match rng.below(17) {
         0 => "whole",
         1 => {
             change_length(rng, block);
@@ -94,6 +94,11 @@ pub fn damage(rng: &mut Rng, block: &mut Vec<u8>) -> &'static str {
             let places: Vec<usize> = places.collect();
             set(rng, block, &places);
             "several targets"
+        }
+        8 => {
+            let place = cost_place(rng, block);
+            block[place] = cost_byte(-(rng.within(1..=MAX_COST.into()) as i32));
+            "charge"
         }
         _ => {
             let (name, target) = rng.pick(&TARGETS);

@@ -121,7 +121,7 @@ pub fn some_charges(rng: &mut Rng, block: &mut [u8]) {
 /// kind max has none; where there is no other, it changes its kind.
 pub fn fill_charges(rng: &mut Rng, block: &mut [u8]) {
     let charged = rng.below(Sizes::of(block).resources);
-    if rng.one_in(2) || !has_sum(block) {
+    if !has_sum(block) {
         block[resource_kind(charged)] = SUM;
     }
     let (most, often) = (rng.pick(&[1, 2, 5, MAX_COST]), rng.pick(&[2, 3, 6]));

@@ -250,6 +250,7 @@ fn respell_cost(rng: &mut Rng, text: &mut Vec<u8>) -> String {
             put(rng, text, field, |rng, old| match rng.below(4) {
                 0 => format!("-{old}"),
                 1 => old.trim_start_matches('-').to_string(),
+                2 => format!("-{}", rng.within(1..=15)),
                 _ => rng.pick(&MINUSES).to_string(),
             })
         }

@@ -18,6 +18,8 @@ struct Plan {
     gain: i32,
     /// What the way in, on and out takes of it.
     prices: [i32; 3],
+    /// One of so many replies leads elsewhere.
+    spoilt: usize,
 }
 
 const CRADLE: usize = 1;
@@ -50,6 +52,7 @@ impl Plan {
             resource: rng.below(sizes.resources),
             gain: rng.pick(&[1, 1, 2, 3]),
             prices: [price(rng), rng.pick(&[0, 0, 1]), price(rng)],
+            spoilt: rng.pick(&[3, 6, 16]),
         }
     }
 
@@ -106,7 +109,21 @@ pub fn cradle(rng: &mut Rng) -> Vec<u8> {
             block[row(i, BOUND + plan.resource)] = plan.shape.bound;
         }
     }
+    ask_at_last(rng, &mut block, &plan);
     block
+}
+
+/// The last row asks the driver for the end of the way, within bounds that often just
+/// do.
+fn ask_at_last(rng: &mut Rng, block: &mut [u8], plan: &Plan) {
+    let i = plan.shape.sizes.rows - 1;
+    let fields = [UNTIL, 1, 0, plan.shape.driver];
+    block[row(i, KIND)..row(i, BOUND)].copy_from_slice(&fields);
+    for resource in 0..plan.shape.sizes.resources {
+        let limited = resource == plan.resource || rng.one_in(2);
+        let bound = if limited { plan.shape.bound } else { UNLIMITED };
+        block[row(i, BOUND + resource)] = bound;
+    }
 }
 
 /// The lead can go on and out. Of a second resource it mostly takes nothing, and now and
@@ -124,14 +141,16 @@ fn set_costs(rng: &mut Rng, block: &mut [u8], plan: &Plan, state: usize) {
     }
 }
 
-/// What the lead does decides, and what others do seldom matters. Idling waits or loses.
+/// What the lead does decides, unless others spoil it. Idling waits or loses.
 fn set_targets(rng: &mut Rng, block: &mut [u8], plan: &Plan, state: usize) {
     let idle = rng.pick(&[0, state, state]);
     let joints: Vec<usize> = joint_actions(block, state).collect();
     for joint in joints {
         let action = actions(joint)[plan.lead];
         let target = match part(joint, plan.shape.driver) {
-            number if number != joint && rng.one_in(16) => rng.below(plan.shape.sizes.states),
+            number if number != joint && rng.one_in(plan.spoilt) => {
+                rng.below(plan.shape.sizes.states)
+            }
             _ => plan.target(state, action, idle),
         };
         block[next(state, joint)] = target as u8;
@@ -159,6 +178,7 @@ pub fn tiny_cradle(rng: &mut Rng) -> Vec<u8> {
         resource: rng.below(sizes.resources),
         gain: rng.within(1..=2) as i32,
         prices: [0, 0, rng.within(1..=bound.into()) as i32],
+        spoilt: 4,
     };
     block[resource_kind(plan.resource)] = SUM;
     for state in 0..2 {
@@ -168,8 +188,7 @@ pub fn tiny_cradle(rng: &mut Rng) -> Vec<u8> {
     for i in 4..sizes.rows {
         ask_for_the_way(rng, &mut block, driver, i);
     }
-    let last = [UNTIL, 1, 0, driver, bound];
-    block[row(sizes.rows - 1, KIND)..=row(sizes.rows - 1, BOUND)].copy_from_slice(&last);
+    ask_at_last(rng, &mut block, &plan);
     block
 }
 
@@ -187,7 +206,7 @@ fn set_tiny_state(rng: &mut Rng, block: &mut [u8], plan: &Plan, state: usize) {
     let joints: Vec<usize> = joint_actions(block, state).collect();
     for joint in joints {
         let target = match part(joint, plan.shape.driver) {
-            number if number != joint && rng.one_in(4) => rng.below(3),
+            number if number != joint && rng.one_in(plan.spoilt) => rng.below(3),
             _ if actions(joint)[plan.lead] == 1 => state + 1,
             _ => 0,
         };

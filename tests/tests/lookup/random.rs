@@ -71,7 +71,7 @@ fn every_position() {
     println!("{} replies are not 0", seen.active);
     assert_each_came(&seen.moves, &[0, 10], 5 * cases(CASES));
     assert_each_came(&seen.replies, &[0, 10, 11], 5 * cases(CASES));
-    assert!(seen.active > cases(CASES));
+    assert!(seen.active > cases(CASES) / 2);
 }
 
 /// Every number of a byte as the move, at some positions that are not won.

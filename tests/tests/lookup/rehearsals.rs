@@ -200,7 +200,7 @@ fn whole_jobs() {
     seen.assert_each_came(cases(CASES) / 4);
     assert_eq!(seen.resources.len(), 4 + 16, "{seen:?}");
     let fewest = seen.resources.values().min();
-    assert!(fewest >= Some(&(cases(CASES) / 20)), "{seen:?}");
+    assert!(fewest >= Some(&(cases(CASES) / 100)), "{seen:?}");
 }
 
 /// A script of 255 bytes and the same with one more.
