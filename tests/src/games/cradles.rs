@@ -13,9 +13,11 @@ struct Plan {
     shape: Shape,
     /// The agent of the driver whose action decides.
     lead: usize,
-    /// The resource that is charged, and what a pass gives.
+    /// The resource that is charged, what a pass gives of it, and what it takes of the
+    /// other.
     resource: usize,
     gain: i32,
+    fee: i32,
     /// What the way in, on and out takes of it.
     prices: [i32; 3],
     /// One of so many replies leads elsewhere.
@@ -51,6 +53,7 @@ impl Plan {
             lead: driver.trailing_zeros() as usize,
             resource: rng.below(sizes.resources),
             gain: rng.pick(&[1, 1, 2, 3]),
+            fee: rng.pick(&[0, 0, 1, 2]),
             prices: [price(rng), rng.pick(&[0, 0, 1]), price(rng)],
             spoilt: rng.pick(&[3, 6, 16]),
         }
@@ -126,15 +129,16 @@ fn ask_at_last(rng: &mut Rng, block: &mut [u8], plan: &Plan) {
     }
 }
 
-/// The lead can go on and out. Of a second resource it mostly takes nothing, and now and
-/// then spends what it charges of the first.
+/// The lead can go on and out. Of a second resource it takes the cradle's fee, and
+/// mostly nothing else.
 fn set_costs(rng: &mut Rng, block: &mut [u8], plan: &Plan, state: usize) {
     block[count(state, plan.lead)] = 3;
     for action in 1..3 {
         for resource in 0..plan.shape.sizes.resources {
             let spent = match resource == plan.resource {
                 true => plan.cost(state, action),
-                false => i32::from(rng.one_in(6)),
+                false if (state, action) == (CRADLE, 1) => plan.fee,
+                false => i32::from(rng.one_in(12)),
             };
             block[cost(state, plan.lead, action, resource)] = cost_byte(spent);
         }
@@ -177,6 +181,7 @@ pub fn tiny_cradle(rng: &mut Rng) -> Vec<u8> {
         lead: driver.trailing_zeros() as usize,
         resource: rng.below(sizes.resources),
         gain: rng.within(1..=2) as i32,
+        fee: rng.pick(&[0, 0, 0, 1]),
         prices: [0, 0, rng.within(1..=bound.into()) as i32],
         spoilt: 4,
     };
@@ -199,7 +204,7 @@ fn set_tiny_state(rng: &mut Rng, block: &mut [u8], plan: &Plan, state: usize) {
     for resource in 0..plan.shape.sizes.resources {
         let spent = match resource == plan.resource {
             true => [-plan.gain, plan.prices[2]][state],
-            false => i32::from(rng.one_in(4)),
+            false => [plan.fee, 0][state],
         };
         block[cost(state, plan.lead, 1, resource)] = cost_byte(spent);
     }

@@ -127,6 +127,21 @@ fn trials(block: &[u8], i: u8) -> Trials {
     Trials(pairs.map(&mut with).collect())
 }
 
+/// Each state has the allowances that the library's own lists tell. Gives their counts.
+pub fn counts_of_trials(job: &[u8], i: u8, what: &str) -> Vec<usize> {
+    let trials = trials(job, i);
+    let count = |state: usize| {
+        let mut due = trials.smallest(state).concat();
+        let (mut list, mut room) = ([255; ALLOWANCES_BYTES], ZEROS);
+        let count = ffi::allowances(job, i, state as u8, &mut list, &mut room);
+        assert_eq!(count, due.len() as i32 / 2, "{what}, state {state}");
+        due.resize(ALLOWANCES_BYTES, 0);
+        assert_eq!(list[..], due[..], "{what}, state {state}");
+        count as usize
+    };
+    (0..Sizes::of(job).states).map(count).collect()
+}
+
 /// 6,144 positions in every strategic row: beside what the library says of each pair,
 /// since the checker would take minutes.
 #[test]
@@ -137,15 +152,8 @@ fn full_jobs() {
         let kind = rng.pick(&[NEXT, ALWAYS, UNTIL]);
         let (coalition, reach) = (rng.within(1..=7) as u8, rng.within(0..=3));
         let (job, i) = (games::maze(rng, kind, coalition, reach), 2);
-        let trials = trials(&job, i);
-        for state in 0..MAX_STATES {
-            let mut due = trials.smallest(state).concat();
-            let (mut list, mut room) = ([255; ALLOWANCES_BYTES], ZEROS);
-            let count = ffi::allowances(&job, i, state as u8, &mut list, &mut room);
-            assert_eq!(count, due.len() as i32 / 2, "case {case}, state {state}");
-            counts[(due.len() / 2).min(3)] += 1;
-            due.resize(ALLOWANCES_BYTES, 0);
-            assert_eq!(list[..], due[..], "case {case}, state {state}");
+        for count in counts_of_trials(&job, i, &format!("case {case}")) {
+            counts[count.min(3)] += 1;
         }
     }
     assert_each_came(&counts, &[0, 1, 2], FULL_CASES / 2);

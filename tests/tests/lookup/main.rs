@@ -3,6 +3,7 @@
 //! zeros in the room, and plays that they decide.
 
 mod allowance_borders;
+mod allowance_charges;
 mod allowance_jobs;
 mod allowance_texts;
 mod allowances;
