@@ -9,7 +9,7 @@ mod trades;
 use crate::layout::*;
 use crate::random::{any_block, fill_charges, fill_kinds, some_charges, Rng};
 pub use cradles::{cradle, tiny_cradle};
-pub use long::{charged_maze, cradle_ring, long_way, maze, ring};
+pub use long::{charged_maze, charged_stairs, cradle_ring, long_way, maze, ring};
 use std::ops::RangeInclusive;
 use teamwork::side_by_side;
 pub use teamwork::{teamwork, tiny_teamwork};

@@ -172,6 +172,12 @@ fn sum(costs: &[Cost]) -> Cost {
     std::array::from_fn(|resource| costs.iter().map(|cost| cost[resource]).sum())
 }
 
+/// Whether no resource costs more than its limit; an unlimited one may cost anything.
+fn at_most(cost: Cost, limits: Amounts) -> bool {
+    let mut pairs = cost.into_iter().zip(limits);
+    pairs.all(|(cost, limit)| limit == INFINITE || i64::from(cost) <= i64::from(limit))
+}
+
 /// What a cost leaves of an amount, without a ceiling.
 fn less(amounts: Amounts, cost: Cost) -> Amounts {
     std::array::from_fn(|resource| match amounts[resource] {

@@ -52,13 +52,14 @@ pub fn next_by_bounds(structure: &Structure, row: usize) -> Vec<Set> {
 
 /// The moves of a coalition in each state: cost(q, σ) and out(q, σ).
 struct Game {
-    moves: Vec<Vec<(Cost, Set)>>,
+    moves: Vec<Vec<(Amounts, Set)>>,
 }
 
 impl Game {
     fn of(structure: &Structure, coalition: u8) -> Game {
         let outcomes = |mv: &Move| mv.replies.iter().fold(0, |set, r| set | 1 << r.target);
-        let state = |moves: &Vec<Move>| moves.iter().map(|mv| (mv.cost, outcomes(mv))).collect();
+        let cost = |mv: &Move| mv.cost.map(|cost| u32::try_from(cost).expect("no charge"));
+        let state = |moves: &Vec<Move>| moves.iter().map(|mv| (cost(mv), outcomes(mv))).collect();
         let moves = structure.moves(coalition);
         Game {
             moves: moves.iter().map(state).collect(),
@@ -67,7 +68,7 @@ impl Game {
 
     /// Pre(A, ρ, b).
     fn pre(&self, set: Set, bound: Amounts) -> Set {
-        let able = |moves: &[(Cost, Set)]| {
+        let able = |moves: &[(Amounts, Set)]| {
             let mut moves = moves.iter();
             moves.any(|&(cost, outcomes)| outcomes & !set == 0 && at_most(cost, bound))
         };
@@ -147,9 +148,13 @@ impl Grid {
 /// The d with d + d' = b, ∞ where b is; none if d' is somewhere above b.
 fn difference(b: Amounts, smaller: Amounts) -> Option<Amounts> {
     let part = |resource: usize| match b[resource] {
-        INFINITE => Some(INFINITE),
-        limit => limit.checked_sub(smaller[resource]),
+        INFINITE => INFINITE,
+        limit => limit - smaller[resource],
     };
-    let parts = [part(0)?, part(1)?];
-    Some(parts)
+    at_most(smaller, b).then(|| std::array::from_fn(part))
+}
+
+fn at_most(amounts: Amounts, bound: Amounts) -> bool {
+    let mut pairs = amounts.iter().zip(bound);
+    pairs.all(|(&amount, limit)| amount <= limit)
 }

@@ -191,9 +191,3 @@ fn together(kinds: [u8; MAX_RESOURCES], a: Cost, b: Cost) -> Cost {
         _ => a[resource] + b[resource],
     })
 }
-
-/// Whether no resource costs more than its limit, and an unlimited one anything.
-pub fn at_most(cost: Cost, limits: Amounts) -> bool {
-    let mut pairs = cost.into_iter().zip(limits);
-    pairs.all(|(cost, limit)| limit == INFINITE || i64::from(cost) <= i64::from(limit))
-}

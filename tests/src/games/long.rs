@@ -117,6 +117,40 @@ fn charged_ring(kind: u8, coalition: u8, rising: bool, half: Prices, gate: Price
     block
 }
 
+/// Stairs of 15 steps, each paid by a unit of either resource, so that each pair of
+/// bounds with sum 15 is a smallest allowance at their foot. At the top, where the row is
+/// settled, one agent of the coalition can charge; off the stairs nothing holds.
+pub fn charged_stairs(kind: u8, coalition: u8) -> Vec<u8> {
+    let mut block = full_frame(kind, coalition);
+    let (top, off) = (usize::from(MAX_BOUND), MAX_STATES - 1);
+    let lead = coalition.trailing_zeros() as usize;
+    for state in 0..MAX_STATES {
+        block[mask(state)] = match state {
+            _ if state < top => 1,
+            _ if state == top => 3,
+            _ => 0,
+        };
+        block[count(state, 0)..count(state + 1, 0)].fill(MAX_ACTIONS as u8);
+        for joint in 0..JOINTS {
+            let target = match actions(joint)[lead] {
+                1 | 2 if state < top => state + 1,
+                _ if state == top => top,
+                _ => off,
+            };
+            block[next(state, joint)] = target as u8;
+        }
+        let step = [[1, 0], [0, 1], [0, 0]];
+        let charge = [[-1, -1], [0, 0], [0, 0]];
+        set_prices(
+            &mut block,
+            state,
+            lead,
+            if state < top { step } else { charge },
+        );
+    }
+    block
+}
+
 fn set_prices(block: &mut [u8], state: usize, agent: usize, prices: Prices) {
     for (k, price) in prices.into_iter().enumerate() {
         for (resource, spent) in price.into_iter().enumerate() {

@@ -2,6 +2,7 @@
 //! not.
 
 use super::*;
+use rbatl_tests::games;
 use rbatl_tests::random::Rng;
 
 /// In state 0 action 1 gives a unit of the first resource for one of the second, action
@@ -150,6 +151,19 @@ fn staircase() {
         // With 4 the way in leaves 1 and 3 are lacking, which take 6; with 7 none.
         assert_eq!(asked.allowances(2, 0), [[4, 6], [5, 4], [6, 2], [7, 0]]);
         assert_eq!(asked.allowances(2, 1), [[4, 0]]);
+    }
+}
+
+/// As many as there can be, in a job of full size.
+#[test]
+fn longest_staircase() {
+    for kind in [ALWAYS, UNTIL] {
+        let asked = Asked::of(&games::charged_stairs(kind, 5));
+        for step in [0, 1, 14, 15] {
+            let due: Vec<[u8; 2]> = (0..=15 - step).map(|x| [x, 15 - step - x]).collect();
+            assert_eq!(asked.allowances(2, step), due);
+        }
+        assert!(asked.allowances(2, 16).is_empty());
     }
 }
 
