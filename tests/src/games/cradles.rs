@@ -85,7 +85,7 @@ impl Plan {
             _ if state == 0 || state == self.goal() => state,
             (_, 0) => idle,
             (CRADLE, 2..) => self.goal(),
-            _ if ring.contains(&(state + 1)) && state != self.door() => state + 1,
+            _ if ring.contains(&(state + 1)) => state + 1,
             _ => CRADLE,
         }
     }

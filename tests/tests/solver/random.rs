@@ -12,14 +12,16 @@ const FULL_CASES: u64 = 50;
 const CROWDED_CASES: u64 = 200;
 
 /// Some jobs with something to play for, some where kinds of resources matter, some
-/// with rows of every shape.
+/// where charges do, some with rows of every shape.
 fn small_job(rng: &mut Rng) -> Vec<u8> {
-    match rng.below(4) {
+    match rng.below(6) {
         0 => {
             let sizes = small_sizes(rng);
             block(rng, sizes)
         }
         1 => games::teamwork(rng),
+        2 => games::charged(rng, games::teamwork),
+        3 => games::cradle(rng),
         _ => games::small(rng),
     }
 }
