@@ -117,8 +117,8 @@ pub fn some_charges(rng: &mut Rng, block: &mut [u8]) {
     }
 }
 
-/// Some of the costs become charges, all of a size that fits together. A resource of
-/// kind max has none; where there is no other, it changes its kind.
+/// Some of the costs become charges, none above a size that is drawn for the job. A
+/// resource of kind max has none; where there is no other, one becomes of kind sum.
 pub fn fill_charges(rng: &mut Rng, block: &mut [u8]) {
     let charged = rng.below(Sizes::of(block).resources);
     if !has_sum(block) {
