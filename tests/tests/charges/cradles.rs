@@ -180,7 +180,7 @@ fn upkeep(bound: u8, gain: i32, price: i32) -> Vec<u8> {
 /// How many moves it takes until left is false, never if that takes too many.
 fn moves_kept(state: usize, mut stock: u8, bound: u8, gain: i32, price: i32) -> u16 {
     for moves in 0..200 {
-        let spent = if (state + moves) % 2 == 0 {
+        let spent = if (state + moves).is_multiple_of(2) {
             -gain
         } else {
             price
