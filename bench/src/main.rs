@@ -1,12 +1,14 @@
 //! How long `rbatl_table` and `rbatl_label` take on jobs of full size (24
 //! states, three agents with four actions, bounds 15 and 15), as ratios to a
 //! Rust program that does the same sweeps, to plain sweeps and to section 4 of
-//! document 003; how long a worksheet takes beside one move, a reply, smallest allowances
+//! document 003; the same with charges, where that section has nothing to say; how long a
+//! worksheet takes beside one move, a reply, smallest allowances
 //! beside one table, and a rehearsal beside one move; what rows cost that the asked one
 //! does not need; how long a text of each edition takes to read and write; and how much
 //! stack every call uses.
 
 mod cases;
+mod charges;
 mod needs;
 mod rehearsal;
 mod sheet;
@@ -19,11 +21,11 @@ use cases::{Case, ROW};
 use rbatl_tests::checker::splits;
 use rbatl_tests::checker::structure::Structure;
 use rbatl_tests::ffi;
-use rbatl_tests::layout::{resource_kind, row, BLOCK_BYTES, KIND, MAX_ROWS, NEXT, SUM};
+use rbatl_tests::layout::{row, BLOCK_BYTES, KIND, MAX_ROWS, NEXT};
 use rbatl_tests::listing::LISTING_BYTES;
 use rbatl_tests::model::{At, MOVES_BYTES, RANKS_BYTES, ROOM_BYTES, SETS_BYTES};
 use rbatl_tests::model::{ALLOWANCES_BYTES, REPORT_BYTES, SHEET_POSITIONS, STATES_BYTES};
-use rbatl_tests::text::{self, EDITIONS};
+use rbatl_tests::text::{self, has_first_edition, EDITIONS};
 use std::hint::black_box;
 use sweeps::{Order, Sweeper};
 
@@ -185,8 +187,17 @@ fn consume<T>(result: T) {
     black_box(result);
 }
 
-/// All programs must come to the same result, or their times mean nothing.
+/// All programs must come to the same result, or their times mean nothing. Gives the
+/// largest finite rank.
 fn longest_rank(case: &Case) -> u16 {
+    let set = Sweeper::of(&case.job).set(Order::Places);
+    assert_eq!(Sweeper::of(&case.job).set(Order::Plain), set);
+    assert_eq!(splits::label(&Structure::of(&case.job))[ROW], set);
+    rank_beside_sweeps(case)
+}
+
+/// Those of the library must be the sweeps'.
+fn rank_beside_sweeps(case: &Case) -> u16 {
     let mut buffers = Buffers::new();
     buffers.table(&case.job);
     buffers.label(&case.job);
@@ -203,10 +214,8 @@ fn longest_rank(case: &Case) -> u16 {
         case.name
     );
     let set = Sweeper::of(&case.job).set(Order::Places);
-    assert_eq!(Sweeper::of(&case.job).set(Order::Plain), set);
     let stored = &buffers.sets[4 * ROW..4 * ROW + 4];
     assert_eq!(stored, set.to_le_bytes(), "{}: set", case.name);
-    assert_eq!(splits::label(&Structure::of(&case.job))[ROW], set);
     let finite = ranks.into_iter().filter(|&rank| rank != u16::MAX);
     finite.max().unwrap_or(0)
 }
@@ -248,12 +257,13 @@ fn main() {
         " {:>9} {:>8} {:>4} {:>9} {:>9}",
         "sheet", "/move", "won", "move", "reply"
     );
-    let (mut largest, mut largest_sheet) = ([[0.0f64; 2]; 2], 0.0f64);
+    let (mut largest, mut largest_sheet, mut slowest) = ([[0.0f64; 2]; 2], 0.0f64, 0.0f64);
     for case in cases::all() {
         print!("{:30} {:5}", case.name, longest_rank(&case));
         for (times, largest) in measure(&case).iter().zip(&mut largest) {
             let ratios = print_times(times);
             *largest = std::array::from_fn(|k| largest[k].max(ratios[k]));
+            slowest = slowest.max(times.call);
         }
         largest_sheet = largest_sheet.max(print_sheet(&case));
     }
@@ -263,6 +273,7 @@ fn main() {
         println!("largest ratio to the {program}: table {table:.2}, label {label:.2}");
     }
     println!("largest ratio of a sheet to one move: {largest_sheet:.2}");
+    charges::print(slowest);
     needs::print();
     rehearsal::print();
     print_crowd();
@@ -308,9 +319,9 @@ fn print_sheet(case: &Case) -> f64 {
     ratio
 }
 
-/// The texts of a job: in both editions, if it has no resource of kind max.
+/// The texts of a job: in both editions, if it has them.
 fn texts_of(job: &[u8]) -> Vec<Vec<u8>> {
-    match job[resource_kind(0)..BLOCK_BYTES] == [SUM, SUM] {
+    match has_first_edition(job) {
         true => EDITIONS.map(|edition| text::write_as(edition, job)).into(),
         false => vec![text::write(job)],
     }
@@ -350,7 +361,8 @@ fn stacks(job: &[u8]) -> Vec<(&'static str, usize)> {
 /// The most that each call takes over all jobs.
 fn print_stack() {
     let mut largest: Vec<(&str, usize)> = Vec::new();
-    for case in cases::all() {
+    let charging = cases::charging().into_iter().chain(cases::long_ways());
+    for case in cases::all().into_iter().chain(charging) {
         let stacks = stacks(&case.job);
         largest.resize(stacks.len(), ("", 0));
         for (most, used) in largest.iter_mut().zip(stacks) {

@@ -1,7 +1,9 @@
 //! The smallest allowances for a state beside the row's table with bounds 15 and 15,
-//! of jobs with two resources and with one.
+//! of jobs with two resources and with one. With charges that table does not tell them:
+//! there, beside the same walk in Rust, which solves the row for each pair that it tries.
 
-use crate::cases::{self, ROW};
+use crate::cases::{self, Case, ROW};
+use crate::sweeps::{Order, Sweeper};
 use crate::{consume, timing, Buffers};
 use rbatl_tests::checker::allowances::{Pair, Trials};
 use rbatl_tests::checker::NEVER;
@@ -97,4 +99,99 @@ pub fn print() {
     let [two, one] = largest;
     println!();
     println!("largest ratio of allowances to a table: two resources {two:.2}, one {one:.2}");
+    print_charging();
+}
+
+/// The states for which a pair of bounds is enough, by a solution of its own.
+fn enough(job: &[u8], pair: Pair) -> u32 {
+    let mut job = job.to_vec();
+    job[row(ROW, BOUND)..row(ROW, PADDING)].copy_from_slice(&pair);
+    Sweeper::of(&job).set(Order::Places)
+}
+
+/// The allowances of a state, and how many pairs were tried: with the first bound
+/// rising, the second falls for as long as one less is enough.
+fn walk(job: &[u8], state: usize) -> (Vec<Pair>, usize) {
+    let seconds = if Sizes::of(job).resources == 1 {
+        1
+    } else {
+        STOCKS
+    };
+    let (mut pairs, mut tried, mut least) = (Vec::new(), 0, seconds as u8);
+    for first in 0..=MAX_BOUND {
+        let before = least;
+        while least > 0 {
+            tried += 1;
+            if enough(job, [first, least - 1]) >> state & 1 == 0 {
+                break;
+            }
+            least -= 1;
+        }
+        if least < before {
+            pairs.push([first, least]);
+        }
+        if least == 0 {
+            break;
+        }
+    }
+    (pairs, tried)
+}
+
+/// All pairs, each with the states that it is enough for.
+fn all_trials(job: &[u8]) -> Trials {
+    let seconds = if Sizes::of(job).resources == 1 {
+        1
+    } else {
+        STOCKS
+    };
+    let pair = |place: usize| [place / seconds, place % seconds].map(|bound| bound as u8);
+    let pairs = (0..STOCKS * seconds).map(pair);
+    Trials(pairs.map(|pair| (pair, enough(job, pair))).collect())
+}
+
+/// The time of the call and of the walk, for the state for which most pairs are tried,
+/// how many these are, and the state's allowances. The lists must be those of all pairs,
+/// and so must the walk's be.
+fn measure_charging(case: &Case) -> (f64, f64, usize, usize) {
+    let job = with_bounds(&case.job, 0);
+    let (mut buffers, trials) = (Buffers::new(), all_trials(&job));
+    let walks = Vec::from_iter((0..MAX_STATES).map(|state| walk(&job, state)));
+    for (state, (pairs, _)) in walks.iter().enumerate() {
+        let due = trials.smallest(state);
+        let found = buffers.allowances(&job, state as u8);
+        let listed = &buffers.allowances[..2 * due.len()];
+        let same = found == due.len() && listed == due.concat() && *pairs == due;
+        assert!(same, "{}: allowances of state {state}", case.name);
+    }
+    let state = (0..MAX_STATES).max_by_key(|&state| walks[state].1);
+    let state = state.expect("a state");
+    let [needs, rust] = timing::best_of([
+        &mut || consume(buffers.allowances(&job, state as u8)),
+        &mut || consume(walk(&job, state)),
+    ]);
+    let (pairs, tried) = &walks[state];
+    (needs, rust, *tried, pairs.len())
+}
+
+const LEGEND: &str = "
+needs:  with charges; /walk: its ratio to the same walk in Rust, at most 1.1; tried: pairs of
+        bounds, for each of which the row is solved; most: allowances of the state.
+";
+
+fn print_charging() {
+    println!("{LEGEND}");
+    let [needs, walk, tried, most] = ["needs", "/walk", "tried", "most"];
+    println!("{:32} {needs:>9} {walk:>8} {tried:>5} {most:>5}", "case");
+    let mut largest = 0.0f64;
+    for case in cases::charging() {
+        let (needs, rust, tried, most) = measure_charging(&case);
+        let (needs, ratio) = (1e3 * needs, needs / rust);
+        println!(
+            "{:32} {needs:9.3} {ratio:8.2} {tried:5} {most:5}",
+            case.name
+        );
+        largest = largest.max(ratio);
+    }
+    println!();
+    println!("largest ratio of allowances with charges to the walk: {largest:.2}");
 }

@@ -70,7 +70,10 @@ pub fn print() {
         "case", "rehearsal", "/move", "moves"
     );
     let mut largest = 0.0f64;
-    for case in cases::all() {
+    let charging = cases::charging()
+        .into_iter()
+        .filter(Case::has_two_resources);
+    for case in cases::all().into_iter().chain(charging) {
         let times = measure(&case);
         let ratio = times.rehearsal / times.single;
         let moves = times.moves.map_or("none".into(), |moves| moves.to_string());

@@ -1,21 +1,20 @@
 //! The library's sweeps in plain Rust: one stock place after another, the
 //! least stock first, each by sweeps over the states to and fro until nothing
 //! changes; a position by the coalition's moves, as far as they matter to its
-//! rank. Then one pass for the moves, which leaves a state where every position
-//! has its own. The moves of each state and their replies are worked out first. Beside them plain sweeps, which go over all positions
-//! in one order until nothing changes.
+//! rank. Where a move charges, places are settled again for as long as one is pending.
+//! Then one pass for the moves, which leaves a state where every position has its own.
+//! The moves of each state and their replies are worked out first, those left out that
+//! a full stock does not pay. Beside them plain sweeps, which go over all positions in
+//! one order until nothing changes.
 
+mod moves;
+mod pending;
+
+use moves::{moves, Move};
 use rbatl_tests::layout::*;
 
 const NEVER: u16 = u16::MAX;
 const NO_MOVE: u8 = u8::MAX;
-
-/// A coalition's move: its number, where the replies lead, and its cost.
-struct Move {
-    number: u8,
-    targets: Vec<usize>,
-    cost: [usize; 2],
-}
 
 /// In which order positions are settled.
 #[derive(Clone, Copy)]
@@ -34,6 +33,8 @@ pub struct Sweeper {
     sizes: [usize; 2],
     stocks: usize,
     moves: Vec<Vec<Move>>,
+    /// Whether a move charges.
+    gives: bool,
 }
 
 impl Sweeper {
@@ -48,13 +49,16 @@ impl Sweeper {
         };
         let sizes = [0, 1].map(|resource| usize::from(field(BOUND + resource)) + 1);
         let states = 0..MAX_STATES;
+        let moves = states.map(|s| moves(block, s, field(COALITION), sizes));
+        let moves: Vec<Vec<Move>> = moves.collect();
         Sweeper {
             kind: field(KIND),
             left: holds(field(LEFT)),
             right: holds(field(RIGHT)),
             sizes,
             stocks: sizes[0] * sizes[1],
-            moves: states.map(|s| moves(block, s, field(COALITION))).collect(),
+            gives: moves.iter().flatten().any(|mv| mv.given != [0, 0]),
+            moves,
         }
     }
 
@@ -94,6 +98,7 @@ impl Sweeper {
         }
         match (self.kind, order) {
             (NEXT, _) => (0..MAX_STATES).for_each(|state| self.mark(state, &mut ranks)),
+            (_, Order::Places) if self.gives => self.settle_pending(&mut ranks),
             (_, Order::Places) => self.settle_places(&mut ranks),
             (_, Order::Plain) => self.settle_plainly(&mut ranks),
         }
@@ -102,28 +107,45 @@ impl Sweeper {
 
     fn settle_places(&self, ranks: &mut [u16]) {
         for place in 0..self.stocks {
-            let stocks = [place / self.sizes[1], place % self.sizes[1]];
-            let (mut back, mut changed) = (false, true);
-            while changed {
-                changed = false;
-                for k in 0..MAX_STATES {
-                    let state = if back { MAX_STATES - 1 - k } else { k };
-                    changed |= self.settle_at(state, place, stocks, ranks);
-                }
-                back = !back;
-            }
+            self.settle::<false>(place, ranks);
         }
     }
 
-    fn settle_at(&self, state: usize, place: usize, stocks: [usize; 2], ranks: &mut [u16]) -> bool {
+    fn stocks_of(&self, place: usize) -> [usize; 2] {
+        [place / self.sizes[1], place % self.sizes[1]]
+    }
+
+    /// Whether a rank fell at the stock place. `GIVES` says whether a move charges.
+    fn settle<const GIVES: bool>(&self, place: usize, ranks: &mut [u16]) -> bool {
+        let stocks = self.stocks_of(place);
+        let (mut back, mut changed, mut fell) = (false, true, false);
+        while changed {
+            changed = false;
+            for k in 0..MAX_STATES {
+                let state = if back { MAX_STATES - 1 - k } else { k };
+                changed |= self.settle_at::<GIVES>(state, place, stocks, ranks);
+            }
+            fell |= changed;
+            back = !back;
+        }
+        fell
+    }
+
+    fn settle_at<const GIVES: bool>(
+        &self,
+        state: usize,
+        place: usize,
+        stocks: [usize; 2],
+        ranks: &mut [u16],
+    ) -> bool {
         let rank = ranks[state * self.stocks + place];
         let safe = self.kind == ALWAYS || self.left[state];
         if !safe || rank <= 1 {
             return false;
         }
         let value = match self.kind {
-            ALWAYS => self.always_value(state, place, stocks, ranks, rank),
-            _ => self.until_value(state, place, stocks, ranks, rank),
+            ALWAYS => self.always_value::<GIVES>(state, place, stocks, ranks, rank),
+            _ => self.until_value::<GIVES>(state, place, stocks, ranks, rank),
         };
         let falls = value < rank - 1;
         if falls {
@@ -133,20 +155,23 @@ impl Sweeper {
     }
 
     /// The moves that the stocks can pay, each with the place left.
-    fn affordable(
+    fn affordable<const GIVES: bool>(
         &self,
         state: usize,
         place: usize,
         stocks: [usize; 2],
     ) -> impl Iterator<Item = (&Move, usize)> {
         let moves = self.moves[state].iter();
-        let paid = moves.filter(move |mv| mv.cost[0] <= stocks[0] && mv.cost[1] <= stocks[1]);
-        paid.map(move |mv| (mv, place - (mv.cost[0] * self.sizes[1] + mv.cost[1])))
+        let paid = moves.filter(move |mv| mv.is_paid(stocks));
+        paid.map(move |mv| match GIVES {
+            true => (mv, mv.landing(self.sizes, stocks)),
+            false => (mv, place - usize::from(mv.spent)),
+        })
     }
 
     /// The smallest over the moves of the largest rank over the replies, or one
     /// less than the rank that stands.
-    fn until_value(
+    fn until_value<const GIVES: bool>(
         &self,
         state: usize,
         place: usize,
@@ -155,7 +180,7 @@ impl Sweeper {
         rank: u16,
     ) -> u16 {
         let mut value = rank - 1;
-        for (mv, rest) in self.affordable(state, place, stocks) {
+        for (mv, rest) in self.affordable::<GIVES>(state, place, stocks) {
             let mut worst = 0;
             for &target in &mv.targets {
                 worst = worst.max(ranks[target * self.stocks + rest]);
@@ -173,7 +198,7 @@ impl Sweeper {
 
     /// The largest over the moves of the smallest rank over the replies, as soon
     /// as the rank that stands cannot fall.
-    fn always_value(
+    fn always_value<const GIVES: bool>(
         &self,
         state: usize,
         place: usize,
@@ -182,7 +207,7 @@ impl Sweeper {
         rank: u16,
     ) -> u16 {
         let mut value = 0;
-        for (mv, rest) in self.affordable(state, place, stocks) {
+        for (mv, rest) in self.affordable::<GIVES>(state, place, stocks) {
             let mut worst = NEVER;
             for &target in &mv.targets {
                 worst = worst.min(ranks[target * self.stocks + rest]);
@@ -212,13 +237,15 @@ impl Sweeper {
         }
     }
 
-    /// The stock places that can pay the cost, each with the place left.
-    fn payable(&self, cost: [usize; 2]) -> impl Iterator<Item = (usize, usize)> {
-        let sizes = self.sizes;
-        let spent = cost[0] * sizes[1] + cost[1];
-        (cost[0]..sizes[0]).flat_map(move |stock| {
-            let places = stock * sizes[1] + cost[1]..(stock + 1) * sizes[1];
-            places.map(move |place| (place, place - spent))
+    /// The stock places that can pay the move, each with the place left.
+    fn payable<'a>(&'a self, mv: &'a Move) -> impl Iterator<Item = (usize, usize)> + 'a {
+        let (sizes, taken) = (self.sizes, mv.taken.map(usize::from));
+        (taken[0]..sizes[0]).flat_map(move |stock| {
+            let places = stock * sizes[1] + taken[1]..(stock + 1) * sizes[1];
+            places.map(move |place| match self.gives {
+                true => (place, mv.landing(sizes, self.stocks_of(place))),
+                false => (place, place - usize::from(mv.spent)),
+            })
         })
     }
 
@@ -228,7 +255,7 @@ impl Sweeper {
             return false;
         }
         for mv in &self.moves[state] {
-            for (place, rest) in self.payable(mv.cost) {
+            for (place, rest) in self.payable(mv) {
                 let outcomes = mv.targets.iter().map(|&t| ranks[t * self.stocks + rest]);
                 let worst = outcomes.max().unwrap_or(NEVER);
                 let rank = &mut ranks[state * self.stocks + place];
@@ -247,7 +274,7 @@ impl Sweeper {
         }
         let mut best = vec![0; self.stocks];
         for mv in &self.moves[state] {
-            for (place, rest) in self.payable(mv.cost) {
+            for (place, rest) in self.payable(mv) {
                 let outcomes = mv.targets.iter().map(|&t| ranks[t * self.stocks + rest]);
                 best[place] = outcomes.min().unwrap_or(0).max(best[place]);
             }
@@ -268,10 +295,10 @@ impl Sweeper {
             if !mv.targets.iter().all(|&target| self.left[target]) {
                 continue;
             }
-            for (place, _) in self.payable(mv.cost) {
+            for (place, _) in self.payable(mv) {
                 ranks[state * self.stocks + place] = 1;
             }
-            if mv.cost == [0, 0] {
+            if mv.taken == [0, 0] {
                 return;
             }
         }
@@ -280,7 +307,7 @@ impl Sweeper {
     fn fill_moves(&self, state: usize, ranks: &[u16], moves: &mut [u8]) {
         let first = state * self.stocks;
         for mv in &self.moves[state] {
-            for (place, rest) in self.payable(mv.cost) {
+            for (place, rest) in self.payable(mv) {
                 let rank = ranks[first + place];
                 let good = |&target: &usize| match self.kind {
                     UNTIL => ranks[target * self.stocks + rest] < rank,
@@ -294,7 +321,7 @@ impl Sweeper {
                 }
             }
             let mut places = first..first + self.stocks;
-            if mv.cost == [0, 0] && !places.any(|place| self.is_open(place, ranks, moves)) {
+            if mv.taken == [0, 0] && !places.any(|place| self.is_open(place, ranks, moves)) {
                 return;
             }
         }
@@ -304,37 +331,4 @@ impl Sweeper {
     fn is_open(&self, position: usize, ranks: &[u16], moves: &[u8]) -> bool {
         moves[position] == NO_MOVE && self.wins(ranks[position])
     }
-}
-
-/// The moves of a state in rising number.
-fn moves(block: &[u8], state: usize, coalition: u8) -> Vec<Move> {
-    let mut moves: Vec<Move> = Vec::new();
-    let mut places = [usize::MAX; JOINTS];
-    for joint in 0..JOINTS {
-        let agents = (0..MAX_AGENTS).filter(|agent| coalition >> agent & 1 == 1);
-        let (mut number, mut spent) = (0, [0; 2]);
-        for agent in agents {
-            let action = actions(joint)[agent];
-            number += action << (2 * agent);
-            for (resource, spent) in spent.iter_mut().enumerate() {
-                let more = usize::from(block[cost(state, agent, action, resource)]);
-                *spent = match block[resource_kind(resource)] {
-                    MAX => more.max(*spent),
-                    _ => more + *spent,
-                };
-            }
-        }
-        // The first joint action of a move is the one whose opponents idle.
-        if number == joint {
-            places[number] = moves.len();
-            moves.push(Move {
-                number: number as u8,
-                targets: Vec::new(),
-                cost: spent,
-            });
-        }
-        let target = block[next(state, joint)];
-        moves[places[number]].targets.push(target.into());
-    }
-    moves
 }

@@ -47,6 +47,18 @@ impl Scan<'_> {
         Some(value as u8)
     }
 
+    /// A cost, or in edition 2 a charge of a resource that is not of kind max.
+    fn cost(&mut self, most: usize, charges: bool, end: u8) -> Option<u8> {
+        match charges && self.0.first() == Some(&b'-') {
+            true => {
+                self.0 = &self.0[1..];
+                let charge = self.number(most, end).filter(|&charge| charge > 0)?;
+                Some(charge.wrapping_neg())
+            }
+            false => self.number(most, end),
+        }
+    }
+
     fn index(&mut self, due: usize) -> Option<()> {
         let found = self.number(255, b',')?;
         (usize::from(found) == due).then_some(())
@@ -81,7 +93,7 @@ fn read(text: &[u8], lent: &mut [u8]) -> Option<()> {
     read_first_line(&mut scan, &mut block, edition)?;
     let sizes = Sizes::of(&block);
     for state in 0..sizes.states {
-        read_state(&mut scan, &mut block, sizes, state)?;
+        read_state(&mut scan, &mut block, sizes, state, edition)?;
         read_nexts(&mut scan, &mut block, sizes, state, edition)?;
     }
     for i in 0..sizes.rows {
@@ -114,7 +126,13 @@ fn read_first_line(scan: &mut Scan, block: &mut [u8], edition: Edition) -> Optio
     Some(())
 }
 
-fn read_state(scan: &mut Scan, block: &mut [u8], sizes: Sizes, state: usize) -> Option<()> {
+fn read_state(
+    scan: &mut Scan,
+    block: &mut [u8],
+    sizes: Sizes,
+    state: usize,
+    edition: Edition,
+) -> Option<()> {
     scan.field(b"state", b',')?;
     scan.index(state)?;
     block[mask(state)] = scan.number((1 << sizes.propositions) - 1, b'\n')?;
@@ -128,7 +146,9 @@ fn read_state(scan: &mut Scan, block: &mut [u8], sizes: Sizes, state: usize) -> 
             let most = if action == 0 { 0 } else { MAX_COST.into() };
             for resource in 0..sizes.resources {
                 let last = action + 1 == actions.into() && resource + 1 == sizes.resources;
-                block[cost(state, agent, action, resource)] = scan.number(most, end_of(last))?;
+                let charges = edition == Edition::Two && block[resource_kind(resource)] == SUM;
+                let spent = scan.cost(most, charges, end_of(last))?;
+                block[cost(state, agent, action, resource)] = spent;
             }
         }
     }
@@ -217,8 +237,22 @@ impl Out<'_> {
         self.length += word.len();
     }
 
+    fn cost(&mut self, byte: u8) {
+        match byte > MAX_COST {
+            true => {
+                self.word(b",-");
+                self.digits(byte.wrapping_neg());
+            }
+            false => self.number(byte),
+        }
+    }
+
     fn number(&mut self, number: u8) {
         self.word(b",");
+        self.digits(number);
+    }
+
+    fn digits(&mut self, number: u8) {
         for (unit, digit) in [
             (100, number / 100),
             (10, number / 10 % 10),
@@ -268,7 +302,7 @@ fn write_state(out: &mut Out, block: &[u8], sizes: Sizes, state: usize) {
             .for_each(|field| out.number(field));
         for action in 0..actions.into() {
             for resource in 0..sizes.resources {
-                out.number(block[cost(state, agent, action, resource)]);
+                out.cost(block[cost(state, agent, action, resource)]);
             }
         }
     }
@@ -301,30 +335,40 @@ fn write_row(out: &mut Out, block: &[u8], sizes: Sizes, i: usize) {
     out.word(b"\n");
 }
 
-/// Times of jobs/full.job. All programs must come to the same bytes.
+/// Times of jobs/full.job, as it is and with a charge for every other cost. All programs
+/// must come to the same bytes.
 pub fn print() {
     let job = jobs::load("full.job");
     println!("a text of full size, in milliseconds, and as a ratio to a Rust program that does the same:");
     for edition in EDITIONS {
-        let text = write_as(edition, &job);
-        let (mut buffers, mut block) = (Buffers::new(), vec![0; BLOCK_BYTES]);
-        let [library, rust] =
-            timing::best_of([&mut || buffers.read(black_box(&text)), &mut || {
-                read(black_box(&text), &mut block).expect("a text that is read")
-            }]);
-        assert!(buffers.block == job && block == job, "{edition:?}");
-        let name = format!("read {}, {} bytes", edition.word(), text.len());
-        println!("{name:30} {:9.3} {:8.2}", 1e3 * library, library / rust);
+        print_read(edition, &job, "");
     }
+    print_write(&job, "");
+    let mut charged = job;
+    for (place, _) in cost_places(&charged.clone()).step_by(2) {
+        charged[place] = charged[place].wrapping_neg();
+    }
+    print_read(Edition::Two, &charged, ", charges");
+    print_write(&charged, ", charges");
+}
+
+fn print_read(edition: Edition, job: &[u8], what: &str) {
+    let text = write_as(edition, job);
+    let (mut buffers, mut block) = (Buffers::new(), vec![0; BLOCK_BYTES]);
+    let [library, rust] = timing::best_of([&mut || buffers.read(black_box(&text)), &mut || {
+        read(black_box(&text), &mut block).expect("a text that is read")
+    }]);
+    assert!(buffers.block == job && block == job, "{edition:?}");
+    let name = format!("read {}, {} bytes{what}", edition.word(), text.len());
+    println!("{name:30} {:9.3} {:8.2}", 1e3 * library, library / rust);
+}
+
+fn print_write(job: &[u8], what: &str) {
     let (mut buffers, mut text) = (Buffers::new(), vec![0; TEXT_BYTES]);
-    let [library, rust] = timing::best_of([&mut || buffers.write(black_box(&job)), &mut || {
-        black_box(write(black_box(&job), &mut text));
+    let [library, rust] = timing::best_of([&mut || buffers.write(black_box(job)), &mut || {
+        black_box(write(black_box(job), &mut text));
     }]);
     assert!(buffers.listing == text, "the written text");
-    println!(
-        "{:30} {:9.3} {:8.2}",
-        "write job2",
-        1e3 * library,
-        library / rust
-    );
+    let name = format!("write job2{what}");
+    println!("{name:30} {:9.3} {:8.2}", 1e3 * library, library / rust);
 }

@@ -23,8 +23,8 @@ struct shape {
 
 #define BIT(refusal) (1u << (refusal))
 #define OF_BLOCK                                                                                   \
-    (BIT(RBATL_E_LENGTH) | BIT(RBATL_E_SIZES) | BIT(RBATL_E_STATE) | BIT(RBATL_E_NEXT) |           \
-     BIT(RBATL_E_ROW) | BIT(RBATL_E_UNUSED))
+    (BIT(RBATL_E_LENGTH) | BIT(RBATL_E_SIZES) | BIT(RBATL_E_STATE) | BIT(RBATL_E_CHARGE) |         \
+     BIT(RBATL_E_NEXT) | BIT(RBATL_E_ROW) | BIT(RBATL_E_UNUSED))
 #define OF_TEXT ((OF_BLOCK & ~BIT(RBATL_E_UNUSED)) | BIT(RBATL_E_FORM))
 #define OF_ROW (OF_BLOCK | BIT(RBATL_E_ROW_CHOICE))
 #define OF_MOVE (OF_ROW | BIT(RBATL_E_POSITION) | BIT(RBATL_E_WRONG_SIDE))
@@ -181,7 +181,7 @@ static void check_answer(const struct run *run, const struct request *request, i
     bool refused = answer < 0;
 
     expect(run, answer <= shape->largest_answer, shape->name, "an answer out of range");
-    expect(run, answer >= -RBATL_E_REPLY, shape->name, "an unknown refusal");
+    expect(run, answer >= -RBATL_E_CHARGE, shape->name, "an unknown refusal");
     expect(run, !refused || shape->refusals & BIT((unsigned)-answer), shape->name,
            "a refusal that the call does not have");
     expect(run, (answer == -RBATL_E_LENGTH) == bad_length(request), shape->name,

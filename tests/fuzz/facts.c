@@ -37,9 +37,19 @@ bool is_allowed(const struct view *view, size_t position, unsigned move)
         return false;
     for (unsigned resource = 0; resource < RBATL_MAX_RESOURCES; resource++)
         if (is_limited(view, resource) &&
-            move_cost(view->block, state, move, resource) > stock_of(view, position, resource))
+            taken_by(view->block, state, move, resource) > (int)stock_of(view, position, resource))
             return false;
     return true;
+}
+
+/* What an allowed move leaves of a stock: never more than the row's bound. */
+static unsigned left_over(const struct view *view, size_t position, unsigned move,
+                          unsigned resource)
+{
+    unsigned bound = rbatl_row_bound(view->block, view->row, resource);
+    int left = (int)stock_of(view, position, resource) -
+               taken_by(view->block, state_of(view, position), move, resource);
+    return (unsigned)left < bound ? (unsigned)left : bound;
 }
 
 size_t outcome_of(const struct view *view, size_t position, unsigned move, unsigned reply)
@@ -48,8 +58,7 @@ size_t outcome_of(const struct view *view, size_t position, unsigned move, unsig
 
     for (unsigned resource = 0; resource < RBATL_MAX_RESOURCES; resource++)
         if (is_limited(view, resource))
-            left[resource] = stock_of(view, position, resource) -
-                             move_cost(view->block, state, move, resource);
+            left[resource] = left_over(view, position, move, resource);
     return rbatl_position_of(view->block, view->row,
                              rbatl_next_state(view->block, state, move | reply), left[0], left[1]);
 }

@@ -102,7 +102,7 @@ int32_t ask_text(struct run *run, enum entry entry, const uint8_t *text, size_t 
 /* The text of a passing block in an edition; its length. */
 size_t write_text(const uint8_t *block, enum edition edition, uint8_t *bytes);
 
-/* Whether the block is the meaning of a text of edition 1. */
+/* Whether the passing block is the meaning of a text of edition 1. */
 bool has_first_edition(const uint8_t *block);
 
 /* A passing block is written as it should be, and its text, in either edition and
@@ -134,6 +134,23 @@ void try_needs(struct run *run, const uint8_t *block, unsigned row);
 
 /* Rehearsals of a row, by its table and the sets of its operands. */
 void try_rehearsals(struct run *run, const struct view *view);
+
+/* What an action costs of a resource, and what a coalition's move takes of it by its
+ * kind: below 0 where it charges. */
+int cost_at(const uint8_t *block, unsigned state, unsigned agent, unsigned action,
+            unsigned resource);
+int taken_by(const uint8_t *block, unsigned state, unsigned move, unsigned resource);
+
+/* Whether an action of a passing block charges a resource. */
+bool has_charges(const uint8_t *block);
+
+/* Makes some costs of resources of kind sum charges. */
+void add_charges(struct random *random, uint8_t *block);
+
+/* A cradle that the first agent passes again and again: what its actions in a state
+ * cost, and where a joint action leads. */
+void cradle_costs(struct random *random, uint8_t *block, unsigned state);
+unsigned cradle_target(struct random *random, const uint8_t *block, unsigned state, unsigned joint);
 
 /* Random jobs, and damage to them. */
 void random_job(struct random *random, uint8_t *block);

@@ -3,13 +3,14 @@
 
 #include <string.h>
 
-/* Values at both sides of every border of document 01. */
+/* Values at both sides of every border of documents 01 and 02. */
 static const uint8_t borders[] = {
-    0, 1, 2, 3, 4, 5, 6, 7, 8, 9, 14, 15, 16, 17, 23, 24, 25, 31, 32, 33, 127, 128, 253, 254, 255,
+    0,  1,  2,  3,  4,  5,  6,   7,   8,   9,   14,  15,  16,  17,
+    23, 24, 25, 31, 32, 33, 127, 128, 239, 240, 241, 253, 254, 255,
 };
 
 /* How the next states of a job come about. */
-enum play { FREE, CONTEST, TEAMWORK, TRADE, PLAYS };
+enum play { FREE, CONTEST, TEAMWORK, TRADE, CRADLE, PLAYS };
 
 /* Mostly few states, since large tables take long. */
 static void random_sizes(struct random *random, uint8_t *block)
@@ -87,12 +88,18 @@ static void trade_costs(struct random *random, uint8_t *block, unsigned state)
     }
 }
 
+/* Whether there is a way from state 1 to the last, off which state 0 is. */
+static bool has_way(enum play play)
+{
+    return play == TRADE || play == CRADLE;
+}
+
 static unsigned random_mask(struct random *random, const uint8_t *block, unsigned state,
                             enum play play)
 {
-    if (play == TRADE && state > 0)
+    if (has_way(play) && state > 0)
         return state + 1 == rbatl_job_states(block) ? UINT8_MAX : UINT8_MAX - 1;
-    if (play == TRADE)
+    if (has_way(play))
         return 0;
     if (play != FREE && one_in(random, 2))
         return state % 2 == 0 ? UINT8_MAX : 0;
@@ -122,6 +129,8 @@ static unsigned target_of(struct random *random, const uint8_t *block, enum play
         return shared_target(random, block, state, joint);
     case TRADE:
         return traded_target(random, block, state, joint);
+    case CRADLE:
+        return cradle_target(random, block, state, joint);
     default:
         return random_target(random, block, state, joint);
     }
@@ -136,6 +145,8 @@ static void random_state(struct random *random, uint8_t *block, unsigned state, 
         random_actions(random, block, state, agent);
     if (play == TRADE)
         trade_costs(random, block, state);
+    if (play == CRADLE)
+        cradle_costs(random, block, state);
     for (unsigned joint = 0; joint < RBATL_JOINT_ACTIONS; joint++)
         if (has_joint(block, state, joint))
             block[rbatl_place_of_next(state, joint)] =
@@ -166,7 +177,7 @@ static void random_row(struct random *random, uint8_t *block, unsigned row, unsi
 
 /* Most strategic rows ask for the last state, which alone has proposition 0, or to
  * stay away from state 0, which has none; the first two rows are propositions. */
-static void ask_for_trade(struct random *random, uint8_t *block, unsigned row)
+static void ask_for_way(struct random *random, uint8_t *block, unsigned row)
 {
     uint8_t *fields = block + rbatl_place_of_field(row, 0);
 
@@ -192,11 +203,15 @@ void random_job(struct random *random, uint8_t *block)
         random_state(random, block, state, play);
     for (unsigned row = 0; row < rbatl_job_rows(block); row++) {
         random_row(random, block, row, most);
-        if (play == TRADE)
-            ask_for_trade(random, block, row);
+        if (has_way(play))
+            ask_for_way(random, block, row);
     }
     for (unsigned resource = 0; resource < rbatl_job_resources(block); resource++)
         block[rbatl_place_of_resource_kind(resource)] = one_in(random, 2) ? RBATL_MAX : RBATL_SUM;
+    if (play == CRADLE)
+        block[rbatl_place_of_resource_kind(0)] = RBATL_SUM;
+    if (one_in(random, 3))
+        add_charges(random, block);
 }
 
 /* A place that the job may use, sort by sort, or any place. */

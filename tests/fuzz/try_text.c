@@ -63,7 +63,8 @@ static void expect_text_of(struct run *run, const uint8_t *block, const uint8_t 
     enum edition edition = memcmp(text, "job2,", 5) == 0 ? SECOND : FIRST;
     size_t end = fill_bounds(text, length, filled);
 
-    expect(run, edition == SECOND || has_first_edition(block), "read", "a kind of edition 1");
+    expect(run, edition == SECOND || has_first_edition(block), "read",
+           "a kind or a charge of edition 1");
     expect(run, write_text(block, edition, due) == end, "read", "another length than is due");
     expect(run, memcmp(due, filled, end) == 0, "read", "the block of another text");
 }

@@ -24,6 +24,14 @@ static void add_number(struct text *text, unsigned number)
     add_word(text, field);
 }
 
+static void add_cost(struct text *text, int cost)
+{
+    char field[16];
+
+    snprintf(field, sizeof field, ",%d", cost);
+    add_word(text, field);
+}
+
 static void add_first_line(struct text *text, const uint8_t *block, enum edition edition)
 {
     add_word(text, edition == SECOND ? "job2" : "job");
@@ -44,7 +52,7 @@ static void add_actions(struct text *text, const uint8_t *block, unsigned state,
     add_number(text, count);
     for (unsigned action = 0; action < count; action++)
         for (unsigned j = 0; j < rbatl_job_resources(block); j++)
-            add_number(text, rbatl_action_cost(block, state, agent, action, j));
+            add_cost(text, cost_at(block, state, agent, action, j));
     add_word(text, "\n");
 }
 
@@ -112,5 +120,5 @@ bool has_first_edition(const uint8_t *block)
     for (unsigned resource = 0; resource < rbatl_job_resources(block); resource++)
         if (rbatl_resource_kind(block, resource) != RBATL_SUM)
             return false;
-    return true;
+    return !has_charges(block);
 }

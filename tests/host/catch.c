@@ -56,7 +56,12 @@ struct damage fill_damaged(uint8_t *block, size_t i)
         {"count 5", {rbatl_place_of_count(0, 0), 5}, -RBATL_E_STATE},
         {"cost 15", {rbatl_place_of_cost(0, 0, 1, 0), 15}, 0},
         {"cost 16", {rbatl_place_of_cost(0, 0, 1, 0), 16}, -RBATL_E_STATE},
+        {"charge 16", {rbatl_place_of_cost(0, 0, 1, 0), 240}, -RBATL_E_STATE},
+        {"charge 15", {rbatl_place_of_cost(0, 0, 1, 0), 241}, 0},
+        {"charge 15 of kind max", {rbatl_place_of_cost(0, 0, 1, 0), 241}, -RBATL_E_CHARGE},
+        {"charge 1 of kind max", {rbatl_place_of_cost(1, 0, 1, 0), 255}, -RBATL_E_CHARGE},
         {"idle with a cost", {rbatl_place_of_cost(1, 0, 0, 0), 1}, -RBATL_E_STATE},
+        {"idle with a charge", {rbatl_place_of_cost(1, 0, 0, 0), 255}, -RBATL_E_STATE},
         {"next state 2", {rbatl_place_of_next(0, 0), 2}, 0},
         {"next state 3", {rbatl_place_of_next(0, 0), 3}, -RBATL_E_NEXT},
         {"row 1 on itself", {rbatl_place_of_field(1, RBATL_FIELD_LEFT), 1}, -RBATL_E_ROW},
@@ -74,5 +79,7 @@ struct damage fill_damaged(uint8_t *block, size_t i)
 
     fill_catch(block);
     block[damages[i].change.place] = damages[i].change.value;
+    if (damages[i].answer == -RBATL_E_CHARGE)
+        block[rbatl_place_of_resource_kind(0)] = RBATL_MAX;
     return damages[i];
 }

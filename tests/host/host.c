@@ -35,6 +35,9 @@
 /* The first lines of a smallest job of edition 2. */
 #define SMALL_2 "job2,1,1,1,1,1,sum\nstate,0,0\nacts,0,0,1,0\n"
 
+/* A job up to the costs of idling and of one action more. */
+#define COSTS(line, costs) line "\nstate,0,0\nacts,0,0,2," costs "\n"
+
 const char catch_text[] = FRONT LAST;
 const char catch_text_2[] = FRONT_2 LAST;
 
@@ -65,6 +68,16 @@ const struct refused_text refused_texts[] = {
     {SMALL_2 "go,0,0,0\n", -RBATL_E_FORM},
     {SMALL_2 "go,0\n", -RBATL_E_FORM},
     {SMALL_2 "go,0,0\nnot,0\n", -RBATL_E_ROW},
+    {COSTS("job2,1,1,1,1,1,sum", "0,-16"), -RBATL_E_STATE},
+    {COSTS("job2,1,1,1,1,1,sum", "0,-255"), -RBATL_E_STATE},
+    {COSTS("job2,1,1,1,1,1,sum", "0,-256"), -RBATL_E_FORM},
+    {COSTS("job2,1,1,1,1,1,sum", "0,-0"), -RBATL_E_FORM},
+    {COSTS("job2,1,1,1,1,1,sum", "0,--1"), -RBATL_E_FORM},
+    {COSTS("job2,1,1,1,1,1,sum", "-3,0"), -RBATL_E_STATE},
+    {COSTS("job2,1,1,1,1,1,max", "0,-3"), -RBATL_E_CHARGE},
+    {COSTS("job2,1,1,1,1,1,max", "0,-16"), -RBATL_E_STATE},
+    {COSTS("job2,1,1,1,1,1,max", "-3,0"), -RBATL_E_STATE},
+    {COSTS("job,1,1,1,1,1", "0,-3"), -RBATL_E_FORM},
     {FRONT_2, -RBATL_E_FORM},
     {FRONT_2 "until,3,4,2,0", -RBATL_E_FORM},
     {FRONT_2 LAST "\n", -RBATL_E_FORM},
@@ -245,6 +258,7 @@ int main(void)
     check_write();
     check_job();
     check_kinds();
+    check_charges();
     check_label();
     check_table();
     check_states();

@@ -16,7 +16,8 @@ struct byte {
 /* The fields of a row of a job with one resource. */
 #define ROW_FIELDS (RBATL_FIELD_BOUND + 1)
 
-/* Catch with one byte changed, and the answer that it must get. */
+/* Catch with one byte changed, and the answer that it must get. With RBATL_E_CHARGE its
+ * resource is of kind max besides. */
 struct damage {
     const char *name;
     struct byte change;
@@ -37,7 +38,7 @@ extern const struct refused_text refused_texts[];
 extern const size_t refused_count;
 
 /* How many damages there are. Some leave a job that passes, with answer 0. */
-#define DAMAGES 22
+#define DAMAGES 27
 
 /* The block of Catch, a row in a block, and Catch with the i-th damage. */
 void fill_catch(uint8_t *block);
@@ -62,6 +63,7 @@ int all(const uint8_t *bytes, size_t length, uint8_t value);
 
 void check_job(void);
 void check_kinds(void);
+void check_charges(void);
 void check_label(void);
 void check_table(void);
 void check_states(void);

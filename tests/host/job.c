@@ -157,14 +157,14 @@ static void check_refusal_texts(void)
 {
     const char *none = rbatl_refusal_text(0);
 
-    for (int32_t number = RBATL_E_LENGTH; number <= RBATL_E_REPLY; number++) {
+    for (int32_t number = RBATL_E_LENGTH; number <= RBATL_E_CHARGE; number++) {
         const char *words = rbatl_refusal_text(number);
         count(strcmp(words, none) != 0, words, "a refusal without words");
         for (int32_t other = RBATL_E_LENGTH; other < number; other++)
             count(strcmp(words, rbatl_refusal_text(other)) != 0, words,
                   "the words of two refusals");
     }
-    count(strcmp(rbatl_refusal_text(RBATL_E_REPLY + 1), none) == 0, none, "words of no refusal");
+    count(strcmp(rbatl_refusal_text(RBATL_E_CHARGE + 1), none) == 0, none, "words of no refusal");
     count(strcmp(rbatl_refusal_text(-RBATL_E_LENGTH), none) == 0, none, "words of an answer");
 }
 

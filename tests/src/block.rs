@@ -3,8 +3,8 @@
 use crate::layout::*;
 use crate::refusal;
 
-/// Numbers 2 to 6 are each tried over the whole block, in this order. A later
-/// one may rely on the earlier ones: sizes and counts are then in range.
+/// Numbers 2, 3, 13, 4, 5 and 6 are each tried over the whole block, in this order. A
+/// later one may rely on the earlier ones: sizes and counts are then in range.
 pub fn check(block: &[u8]) -> u8 {
     if block.len() != BLOCK_BYTES {
         refusal::LENGTH
@@ -12,6 +12,8 @@ pub fn check(block: &[u8]) -> u8 {
         refusal::SIZES
     } else if bad_states(block) {
         refusal::STATE
+    } else if bad_charges(block) {
+        refusal::CHARGE
     } else if bad_next(block) {
         refusal::NEXT
     } else if bad_rows(block) {
@@ -49,8 +51,9 @@ fn bad_actions(block: &[u8], state: usize, agent: usize) -> bool {
     let actions = block[count(state, agent)];
     bad_count(actions)
         || (0..actions.into()).any(|action| {
-            (0..Sizes::of(block).resources)
-                .any(|resource| bad_cost(action, block[cost(state, agent, action, resource)]))
+            (0..Sizes::of(block).resources).any(|resource| {
+                bad_cost(action, cost_of(block[cost(state, agent, action, resource)]))
+            })
         })
 }
 
@@ -59,8 +62,18 @@ pub fn bad_count(actions: u8) -> bool {
 }
 
 /// Action 0 is idle and costs nothing.
-pub fn bad_cost(action: usize, cost: u8) -> bool {
-    cost > if action == 0 { 0 } else { MAX_COST }
+pub fn bad_cost(action: usize, cost: i32) -> bool {
+    let most = if action == 0 { 0 } else { MAX_COST };
+    cost.unsigned_abs() > most.into()
+}
+
+/// A resource of kind max is not charged.
+pub fn bad_charge(kind: u8, cost: i32) -> bool {
+    kind == MAX && cost < 0
+}
+
+fn bad_charges(block: &[u8]) -> bool {
+    cost_places(block).any(|(place, j)| bad_charge(block[resource_kind(j)], cost_of(block[place])))
 }
 
 fn bad_next(block: &[u8]) -> bool {

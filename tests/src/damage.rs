@@ -6,9 +6,11 @@ use crate::layout::*;
 use crate::random::Rng;
 use crate::text::TEXT_BYTES;
 
-/// Values at both sides of every border in document 01.
-pub const BORDERS: [u8; 25] = [
-    0, 1, 2, 3, 4, 5, 6, 7, 8, 9, 14, 15, 16, 17, 23, 24, 25, 31, 32, 33, 127, 128, 253, 254, 255,
+/// Values at both sides of every border in documents 01 and 02.
+#[rustfmt::skip]
+pub const BORDERS: [u8; 28] = [
+    0, 1, 2, 3, 4, 5, 6, 7, 8, 9, 14, 15, 16, 17, 23, 24, 25, 31, 32, 33, 127, 128, 239, 240, 241,
+    253, 254, 255,
 ];
 
 /// Lengths near the only right one, and far from it.
@@ -24,15 +26,20 @@ const LENGTHS: [usize; 9] = [
     TEXT_BYTES,
 ];
 
+/// A number of the block, and the changes that give it.
+type Damage = (u8, &'static [(usize, u8)]);
+
 /// Damage for each number of the block, in Catch.
-const DAMAGES: [(u8, usize, u8); 7] = [
-    (2, STATES, 25),
-    (2, resource_kind(0), 2),
-    (3, count(0, 0), 5),
-    (4, next(0, 0), 3),
-    (5, row(5, KIND), 6),
-    (6, mask(23), 1),
-    (6, resource_kind(1), MAX),
+const DAMAGES: [Damage; 9] = [
+    (2, &[(STATES, 25)]),
+    (2, &[(resource_kind(0), 2)]),
+    (3, &[(count(0, 0), 5)]),
+    (3, &[(cost(0, 0, 1, 0), 240)]),
+    (13, &[(resource_kind(0), MAX), (cost(0, 0, 1, 0), 241)]),
+    (4, &[(next(0, 0), 3)]),
+    (5, &[(row(5, KIND), 6)]),
+    (6, &[(mask(23), 1)]),
+    (6, &[(resource_kind(1), MAX)]),
 ];
 
 /// Chooses a place of one sort in a job.
@@ -54,9 +61,11 @@ const TARGETS: [(&str, Target); 10] = [
 /// Catch, and Catch with each number of the block.
 pub fn whole_and_damaged() -> Vec<(Vec<u8>, u8)> {
     let mut blocks = vec![(jobs::catch(), 0)];
-    for (number, place, value) in DAMAGES {
+    for (number, changes) in DAMAGES {
         let mut block = jobs::catch();
-        block[place] = value;
+        for &(place, value) in changes {
+            block[place] = value;
+        }
         blocks.push((block, number));
     }
     blocks
@@ -64,7 +73,7 @@ pub fn whole_and_damaged() -> Vec<(Vec<u8>, u8)> {
 
 /// Damages a job, or leaves it whole, and says how.
 pub fn damage(rng: &mut Rng, block: &mut Vec<u8>) -> &'static str {
-    match rng.below(16) {
+    match rng.below(17) {
         0 => "whole",
         1 => {
             change_length(rng, block);
@@ -85,6 +94,11 @@ pub fn damage(rng: &mut Rng, block: &mut Vec<u8>) -> &'static str {
             let places: Vec<usize> = places.collect();
             set(rng, block, &places);
             "several targets"
+        }
+        8 => {
+            let place = cost_place(rng, block);
+            block[place] = cost_byte(-(rng.within(1..=MAX_COST.into()) as i32));
+            "charge"
         }
         _ => {
             let (name, target) = rng.pick(&TARGETS);

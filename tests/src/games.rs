@@ -1,13 +1,15 @@
 //! Random jobs with something to play for: states that lead on to one another,
 //! costs that a bound pays for several times, and mostly strategic rows.
 
+mod cradles;
 mod long;
 mod teamwork;
 mod trades;
 
 use crate::layout::*;
-use crate::random::{any_block, fill_kinds, Rng};
-pub use long::{maze, ring};
+use crate::random::{any_block, fill_charges, fill_kinds, some_charges, Rng};
+pub use cradles::{cradle, tiny_cradle};
+pub use long::{charged_maze, charged_stairs, cradle_ring, long_way, maze, ring};
 use std::ops::RangeInclusive;
 use teamwork::side_by_side;
 pub use teamwork::{teamwork, tiny_teamwork};
@@ -96,7 +98,9 @@ fn punish_idling(rng: &mut Rng, block: &mut [u8], driver: u8) {
 pub fn crowd(rng: &mut Rng) -> Vec<u8> {
     let sizes = pair(rng, 2..=5, MAX_ROWS);
     let shape = small_shape(sizes, 2, driver(rng, sizes.agents));
-    block(rng, shape)
+    let mut block = block(rng, shape);
+    some_charges(rng, &mut block);
+    block
 }
 
 /// Two agents and few states.
@@ -146,12 +150,23 @@ fn needed(block: &[u8], i: usize) -> u32 {
     rows.fold(named, |word, j| word | needed(block, j))
 }
 
-/// Few positions, so that all can be tried: a contest, or teamwork.
+/// Few positions, so that all can be tried: a contest, teamwork or a cradle, or one of
+/// the first two with charges.
 pub fn few(rng: &mut Rng) -> Vec<u8> {
-    match rng.one_in(3) {
-        true => teamwork(rng),
-        false => contest(rng),
+    match rng.below(9) {
+        0 => teamwork(rng),
+        1..=2 => contest(rng),
+        3 => charged(rng, teamwork),
+        4..=5 => charged(rng, contest),
+        _ => cradle(rng),
     }
+}
+
+/// A job with charges.
+pub fn charged(rng: &mut Rng, make: impl Fn(&mut Rng) -> Vec<u8>) -> Vec<u8> {
+    let mut block = make(rng);
+    fill_charges(rng, &mut block);
+    block
 }
 
 /// A job with something to play for, or any.
@@ -179,7 +194,9 @@ pub fn small(rng: &mut Rng) -> Vec<u8> {
         fixed: false,
         driver: driver(rng, sizes.agents),
     };
-    block(rng, shape)
+    let mut block = block(rng, shape);
+    some_charges(rng, &mut block);
+    block
 }
 
 /// As many positions as there can be: 24 states and bounds 15 and 15, three
@@ -197,7 +214,9 @@ pub fn full(rng: &mut Rng) -> Vec<u8> {
         fixed: true,
         driver: driver(rng, MAX_AGENTS),
     };
-    block(rng, shape)
+    let mut block = block(rng, shape);
+    some_charges(rng, &mut block);
+    block
 }
 
 /// None in one job of three.

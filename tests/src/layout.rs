@@ -1,4 +1,5 @@
-//! Where each byte of a block stands (document 01, "The job"; document 02, R-3).
+//! Where each byte of a block stands (document 01, "The job"; document 02, R-3 and
+//!
 //! No other file writes an offset, but tests/jobs.rs: those of Catch, read off the
 //! documents.
 
@@ -109,6 +110,33 @@ impl Sizes {
         block[PROPOSITIONS] = self.propositions as u8;
         block[ROWS] = self.rows as u8;
     }
+}
+
+/// The cost that a byte holds: from 128 on a charge, which counts below 0 and is held
+/// as 256 minus it.
+pub fn cost_of(byte: u8) -> i32 {
+    match i32::from(byte) {
+        charge @ 128.. => charge - 256,
+        cost => cost,
+    }
+}
+
+/// The byte that holds a cost or a charge.
+pub fn cost_byte(cost: i32) -> u8 {
+    u8::try_from(cost.rem_euclid(256)).expect("a byte")
+}
+
+/// Whether an action that exists charges a resource.
+pub fn has_charges(block: &[u8]) -> bool {
+    cost_places(block).any(|(place, _)| cost_of(block[place]) < 0)
+}
+
+/// The places in use that hold a cost, each with its resource, but those of idling.
+pub fn cost_places(block: &[u8]) -> impl Iterator<Item = (usize, usize)> + '_ {
+    let sizes = Sizes::of(block);
+    let agents = (0..sizes.states).flat_map(move |s| (0..sizes.agents).map(move |a| (s, a)));
+    let actions = agents.flat_map(|(s, a)| (1..block[count(s, a)].into()).map(move |k| (s, a, k)));
+    actions.flat_map(move |(s, a, k)| (0..sizes.resources).map(move |j| (cost(s, a, k, j), j)))
 }
 
 /// The action of each agent in a joint action: a0 + 4·a1 + 16·a2.

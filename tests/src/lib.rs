@@ -33,4 +33,5 @@ pub mod refusal {
     pub const WRONG_SIDE: u8 = 10;
     pub const MOVE: u8 = 11;
     pub const REPLY: u8 = 12;
+    pub const CHARGE: u8 = 13;
 }

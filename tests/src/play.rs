@@ -10,7 +10,7 @@ use crate::model::At;
 /// A strategic row, and what can be played in each state.
 pub struct Game {
     moves: Vec<Vec<Move>>,
-    limited: [bool; MAX_RESOURCES],
+    bound: Amounts,
     aim: Aim,
 }
 
@@ -40,7 +40,7 @@ impl Game {
         let (ability, aim) = aim(structure.formulas[row], sets);
         Game {
             moves: structure.moves(ability.coalition),
-            limited: ability.bound.map(|bound| bound != INFINITE),
+            bound: ability.bound,
             aim,
         }
     }
@@ -117,12 +117,13 @@ impl Game {
         }
     }
 
-    fn left_over(&self, at: At, cost: Amounts) -> Option<[u8; MAX_RESOURCES]> {
+    /// What a cost leaves; none if the stock does not pay it.
+    fn left_over(&self, at: At, cost: Cost) -> Option<[u8; MAX_RESOURCES]> {
         let mut stock = at.stock;
         for (resource, left) in stock.iter_mut().enumerate() {
-            if self.limited[resource] {
-                let spent = u8::try_from(cost[resource]).ok()?;
-                *left = left.checked_sub(spent)?;
+            if self.bound[resource] != INFINITE {
+                let rest = u32::from(*left).checked_add_signed(-cost[resource])?;
+                *left = rest.min(self.bound[resource]) as u8;
             }
         }
         Some(stock)

@@ -99,6 +99,7 @@ pub fn block(rng: &mut Rng, sizes: Sizes) -> Vec<u8> {
         fill_row(rng, &mut block, i);
     }
     fill_kinds(rng, &mut block);
+    some_charges(rng, &mut block);
     block
 }
 
@@ -109,13 +110,50 @@ pub fn fill_kinds(rng: &mut Rng, block: &mut [u8]) {
     }
 }
 
+/// Charges in one job of three.
+pub fn some_charges(rng: &mut Rng, block: &mut [u8]) {
+    if rng.one_in(3) {
+        fill_charges(rng, block);
+    }
+}
+
+/// Some of the costs become charges, none above a size that is drawn for the job. A
+/// resource of kind max has none; where there is no other, one becomes of kind sum.
+pub fn fill_charges(rng: &mut Rng, block: &mut [u8]) {
+    let charged = rng.below(Sizes::of(block).resources);
+    if !has_sum(block) {
+        block[resource_kind(charged)] = SUM;
+    }
+    let (most, often) = (rng.pick(&[1, 2, 5, MAX_COST]), rng.pick(&[2, 3, 6]));
+    let places: Vec<(usize, usize)> = cost_places(block).collect();
+    for (place, resource) in places {
+        if block[resource_kind(resource)] == SUM && rng.one_in(often) {
+            block[place] = cost_byte(-(rng.within(1..=most.into()) as i32));
+        }
+    }
+}
+
+fn has_sum(block: &[u8]) -> bool {
+    let mut resources = 0..Sizes::of(block).resources;
+    resources.any(|resource| block[resource_kind(resource)] == SUM)
+}
+
+/// Each charge becomes a cost of the same amount.
+pub fn take_charges(block: &mut [u8]) {
+    let places: Vec<(usize, usize)> = cost_places(block).collect();
+    for (place, _) in places {
+        block[place] = cost_byte(cost_of(block[place]).abs());
+    }
+}
+
 /// The text of a job in either edition. In edition 1 every resource is of kind
-/// sum, and the job becomes such a one.
+/// sum and none is charged, and the job becomes such a one.
 pub fn any_text(rng: &mut Rng, block: &mut [u8]) -> Vec<u8> {
     if rng.one_in(2) {
         return text::write(block);
     }
     block[resource_kind(0)..BLOCK_BYTES].fill(SUM);
+    take_charges(block);
     text::write_as(Edition::One, block)
 }
 

@@ -8,11 +8,12 @@ use crate::block::check;
 use crate::layout::BLOCK_BYTES;
 use crate::refusal;
 pub use read::read;
-pub use write::{write, write_as, write_structure};
+pub use write::{has_first_edition, write, write_as, write_structure};
 
 pub const TEXT_BYTES: usize = 32768;
 
-/// The editions differ in the first line and in the next states of a state.
+/// The editions differ in the first line, in the next states of a state, and in that
+/// a cost may be a charge in the second alone.
 #[derive(Clone, Copy, Debug, PartialEq, Eq)]
 pub enum Edition {
     One,
@@ -45,6 +46,8 @@ const ROW_WORDS: [&str; 6] = ["prop", "not", "or", "next", "always", "until"];
 pub const KIND_WORDS: [&str; 2] = ["sum", "max"];
 
 const COMMA: u8 = b',';
+/// What stands before a charge.
+const MINUS: u8 = b'-';
 const LINE_END: u8 = b'\n';
 
 /// The byte after a field that is the last of its line, or not.

@@ -21,6 +21,13 @@ pub const NO_NUMBERS: [&str; 38] = [
     "1\r", "\r", "1\0", "/", ":", "x", "1x", "0x1", "1.0", "1e0", "Inf", "in", "infi",
 ];
 
+/// Charges at both sides of every border, well formed or not.
+#[rustfmt::skip]
+pub const MINUSES: [&str; 26] = [
+    "-1", "-2", "-9", "-10", "-14", "-15", "-16", "-17", "-99", "-100", "-127", "-128", "-240",
+    "-241", "-254", "-255", "-256", "-300", "-0", "-00", "-", "--1", "-01", "- 1", "-1-", "1-1",
+];
+
 const WORDS: [&str; 10] = [
     "inf", "until", "or", "not", "go", "acts", "sum", "max", "job", "job2",
 ];
@@ -35,12 +42,13 @@ pub const NO_KINDS: [&str; 20] = [
 /// A sort of places, by the byte there.
 type Places = (&'static str, fn(u8) -> bool);
 
-const PLACES: [Places; 5] = [
+const PLACES: [Places; 6] = [
     ("byte", |_| true),
     ("digit", |byte| byte.is_ascii_digit()),
     ("comma", |byte| byte == b','),
     ("line end", |byte| byte == b'\n'),
     ("letter", |byte| byte.is_ascii_alphabetic()),
+    ("minus", |byte| byte == b'-'),
 ];
 
 /// Changes the text at a place.
@@ -62,7 +70,7 @@ const EDITS: [Edit; 5] = [
 
 /// Damages the text of a job, or leaves it whole, and says how.
 pub fn damage(rng: &mut Rng, text: &mut Vec<u8>) -> String {
-    match rng.below(21) {
+    match rng.below(24) {
         0 => "whole".to_string(),
         1 => cut(rng, text),
         2..=5 => edit(rng, text),
@@ -76,6 +84,7 @@ pub fn damage(rng: &mut Rng, text: &mut Vec<u8>) -> String {
             let fields: Vec<String> = (0..2).map(|_| respell(rng, text)).collect();
             fields.join(", ")
         }
+        18..=20 => respell_cost(rng, text),
         _ => disorder(rng, text),
     }
 }
@@ -196,9 +205,8 @@ fn any_line(rng: &mut Rng, text: &[u8]) -> (usize, usize) {
     }
 }
 
-/// Spells one field of a line in another way.
-fn respell(rng: &mut Rng, text: &mut Vec<u8>) -> String {
-    let (start, end) = any_line(rng, text);
+/// Where the fields of a line start and end.
+fn fields_between(text: &[u8], start: usize, end: usize) -> Vec<(usize, usize)> {
     let mut fields = Vec::new();
     let mut place = start;
     for field in text[start..end].split(|&byte| byte == b',' || byte == b'\n') {
@@ -209,20 +217,61 @@ fn respell(rng: &mut Rng, text: &mut Vec<u8>) -> String {
     if fields.len() > 1 {
         fields.pop();
     }
+    fields
+}
+
+/// Spells one field of a line in another way.
+fn respell(rng: &mut Rng, text: &mut Vec<u8>) -> String {
+    let (start, end) = any_line(rng, text);
+    let fields = fields_between(text, start, end);
     // The last field is a value in every line.
-    let (start, end) = match rng.one_in(2) {
+    let field = match rng.one_in(2) {
         true => fields[fields.len() - 1],
         false => rng.pick(&fields),
     };
+    put(rng, text, field, spelling)
+}
+
+/// Spells one cost as a charge, or nearly so; it may be that of idling.
+fn respell_cost(rng: &mut Rng, text: &mut Vec<u8>) -> String {
+    let mut start = 0;
+    let mut costs = Vec::new();
+    for line in lines(text) {
+        if line.starts_with(b"acts,") {
+            let fields = fields_between(text, start, start + line.len());
+            costs.extend_from_slice(fields.get(4..).unwrap_or(&[]));
+        }
+        start += line.len();
+    }
+    match costs.is_empty() {
+        true => "no cost".to_string(),
+        false => {
+            let field = rng.pick(&costs);
+            put(rng, text, field, |rng, old| match rng.below(4) {
+                0 => format!("-{old}"),
+                1 => old.trim_start_matches('-').to_string(),
+                2 => format!("-{}", rng.within(1..=15)),
+                _ => rng.pick(&MINUSES).to_string(),
+            })
+        }
+    }
+}
+
+/// Puts another spelling in the place of a field, and says how.
+fn put(
+    rng: &mut Rng,
+    text: &mut Vec<u8>,
+    (start, end): (usize, usize),
+    spelling: impl Fn(&mut Rng, &str) -> String,
+) -> String {
     let old = String::from_utf8_lossy(&text[start..end]).into_owned();
     let new = spelling(rng, &old);
-    let how = format!("{old:?} at {start} spelled {new:?}");
-    text.splice(start..end, new.into_bytes());
-    how
+    text.splice(start..end, new.bytes());
+    format!("{old:?} at {start} spelled {new:?}")
 }
 
 fn spelling(rng: &mut Rng, old: &str) -> String {
-    match (rng.below(12), old.parse::<u16>()) {
+    match (rng.below(13), old.parse::<i32>()) {
         (0..=5, Err(_)) if KIND_WORDS.contains(&old) => match rng.one_in(2) {
             true => rng.pick(&KIND_WORDS).to_string(),
             false => rng.pick(&NO_KINDS).to_string(),
@@ -232,7 +281,8 @@ fn spelling(rng: &mut Rng, old: &str) -> String {
         (2, _) => format!("0{old}"),
         (3, _) => format!("{old},{}", rng.pick(&NUMBERS)),
         (4, Ok(number)) => (number + 1).to_string(),
-        (5, Ok(number)) => number.saturating_sub(1).to_string(),
+        (5, Ok(number)) => (number - 1).to_string(),
+        (6, _) => rng.pick(&MINUSES).to_string(),
         _ => rng.pick(&NUMBERS).to_string(),
     }
 }

@@ -1,6 +1,6 @@
 //! `rbatl_check` against the check made from document 01, on many blocks.
 
-use rbatl_tests::answers::assert_each_came;
+use rbatl_tests::answers::{assert_each_came, assert_none_came, Counts};
 use rbatl_tests::damage::damage;
 use rbatl_tests::random::{any_block, cases, Rng};
 use rbatl_tests::{block, ffi, jobs, layout};
@@ -33,7 +33,7 @@ fn agrees_on_whole_jobs() {
 #[test]
 fn agrees_on_damaged_jobs() {
     let cases = cases(CASES);
-    let mut seen = [0; 7];
+    let mut seen = Counts::default();
     for case in 0..cases {
         let mut rng = Rng::for_case(!SEED, case);
         let mut bytes = any_block(&mut rng);
@@ -41,6 +41,8 @@ fn agrees_on_damaged_jobs() {
         seen[agreed(&bytes, || format!("case {case}, damage: {how}"))] += 1;
     }
     assert_each_came(&seen, &[0, 1, 2, 3, 4, 5, 6], cases / 40);
+    assert_each_came(&seen, &[13], cases / 200);
+    assert_none_came(&seen, &[7, 8, 9, 10, 11, 12]);
 }
 
 /// Every place and every value of every job in jobs/: none of their borders is

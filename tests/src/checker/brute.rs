@@ -1,11 +1,13 @@
 //! Document 003, sections 2.2 and 2.3, taken at their word on tiny jobs: all
 //! strategies over histories, all computations of each, costs summed along the
 //! computation. Only strategies up to a number of moves are tried, after which
-//! they idle and spend nothing.
+//! they idle and spend nothing. With charges (document 02, R-7) no stock is followed
+//! either: that each move is affordable from the stock then left, which is never above
+//! the row's bound, means that a beginning costs at most the first stock, and every
+//! stretch at most the bound.
 
 use super::aim::Aim;
 use super::structure::*;
-use crate::layout::MAX_RESOURCES;
 use std::collections::HashMap;
 
 /// A finite computation from a state.
@@ -58,11 +60,13 @@ impl Strategy {
     }
 }
 
-/// The strategies of a coalition from a state within a bound.
+/// The strategies of a coalition from a state within a stock.
 pub struct Trial<'a> {
     pub moves: &'a [Vec<Move>],
     pub aim: Aim,
     pub start: usize,
+    pub stock: Amounts,
+    /// The row's bound.
     pub bound: Amounts,
     /// No more strategies than these are tried.
     pub limit: usize,
@@ -74,7 +78,7 @@ pub struct Trial<'a> {
 pub type Rule<'a> = &'a dyn Fn(usize, Amounts, u8) -> u8;
 
 impl Trial<'_> {
-    /// Whether some strategy within the bound meets the aim in n moves on every
+    /// Whether some strategy within the stock meets the aim in n moves on every
     /// computation; none if there are too many to try.
     pub fn any(&self, n: usize) -> Option<bool> {
         self.search(Strategy::default(), n)
@@ -88,7 +92,7 @@ impl Trial<'_> {
     fn search(&self, mut strategy: Strategy, n: usize) -> Option<bool> {
         for _ in 0..self.limit {
             let mut history = vec![self.start];
-            if self.every_computation(&mut strategy, &mut history, [0; MAX_RESOURCES], n) {
+            if self.every_computation(&mut strategy, &mut history, &mut Vec::new(), n) {
                 return Some(true);
             }
             if !strategy.advance(&history) {
@@ -98,13 +102,14 @@ impl Trial<'_> {
         None
     }
 
-    /// Whether all computations that go on from the history are within the
-    /// bound and meet the aim. If not, the history is left at the one that fails.
+    /// Whether all computations that go on from the history, whose moves had these
+    /// costs, are within the stock and meet the aim. If not, the history is left at the
+    /// one that fails.
     fn every_computation(
         &self,
         strategy: &mut Strategy,
         history: &mut History,
-        spent: Amounts,
+        costs: &mut Vec<Cost>,
         n: usize,
     ) -> bool {
         if let Some(met) = self.decided(history, n) {
@@ -113,21 +118,37 @@ impl Trial<'_> {
         let state = history[history.len() - 1];
         let moves = &self.moves[state];
         let mv = &moves[strategy.choice(history, moves.len())];
-        let stock = left_over(self.bound, spent);
-        let spent = sum(spent, mv.cost);
-        if !at_most(spent, self.bound) {
+        let stock = self.left_over(costs);
+        costs.push(mv.cost);
+        if !self.is_within(costs) {
             return false;
         }
         let ruled = self.rule.map(|rule| rule(state, stock, mv.number));
         let possible = |reply: &&Reply| ruled.is_none_or(|number| reply.number == number);
-        mv.replies.iter().filter(possible).all(|reply| {
+        let met = mv.replies.iter().filter(possible).all(|reply| {
             history.push(reply.target);
-            let met = self.every_computation(strategy, history, spent, n);
+            let met = self.every_computation(strategy, history, costs, n);
             if met {
                 history.pop();
             }
             met
-        })
+        });
+        costs.pop();
+        met
+    }
+
+    /// Whether the last of these costs is within the stock, if the others are.
+    pub(super) fn is_within(&self, costs: &[Cost]) -> bool {
+        let mut later = 1..costs.len();
+        at_most(sum(costs), self.stock)
+            && later.all(|first| at_most(sum(&costs[first..]), self.bound))
+    }
+
+    /// What costs that are within the stock leave: the least that is left of the first
+    /// stock, or would be of a full one at some later moment.
+    pub(super) fn left_over(&self, costs: &[Cost]) -> Amounts {
+        let later = (1..=costs.len()).map(|first| less(self.bound, sum(&costs[first..])));
+        later.fold(less(self.stock, sum(costs)), least)
     }
 
     /// Whether the aim is met, as soon as the states so far decide it; of always
@@ -146,10 +167,25 @@ impl Trial<'_> {
     }
 }
 
-/// What a cost within the bound leaves of it.
-pub(super) fn left_over(bound: Amounts, cost: Amounts) -> Amounts {
-    std::array::from_fn(|resource| match bound[resource] {
+/// What successive moves cost.
+fn sum(costs: &[Cost]) -> Cost {
+    std::array::from_fn(|resource| costs.iter().map(|cost| cost[resource]).sum())
+}
+
+/// Whether no resource costs more than its limit; an unlimited one may cost anything.
+fn at_most(cost: Cost, limits: Amounts) -> bool {
+    let mut pairs = cost.into_iter().zip(limits);
+    pairs.all(|(cost, limit)| limit == INFINITE || i64::from(cost) <= i64::from(limit))
+}
+
+/// What a cost leaves of an amount, without a ceiling.
+fn less(amounts: Amounts, cost: Cost) -> Amounts {
+    std::array::from_fn(|resource| match amounts[resource] {
         INFINITE => INFINITE,
-        limit => limit - cost[resource],
+        amount => amount.checked_add_signed(-cost[resource]).expect("enough"),
     })
+}
+
+fn least(a: Amounts, b: Amounts) -> Amounts {
+    std::array::from_fn(|resource| a[resource].min(b[resource]))
 }

@@ -224,14 +224,16 @@ impl Arena {
         replies.map(move |reply| reply.target * self.stocks + left_over)
     }
 
-    /// The stock place after a cost; an unlimited resource pays anything.
-    fn left_over(&self, bound: Amounts, position: usize, cost: Amounts) -> Option<usize> {
+    /// The stock place after a cost; a full stock takes no more, and an unlimited
+    /// resource pays anything.
+    fn left_over(&self, bound: Amounts, position: usize, cost: Cost) -> Option<usize> {
         let (mut place, mut rest, mut scale) = (0, position, 1);
         for (resource, &size) in self.sizes.iter().enumerate().rev() {
             let stock = rest % size;
             rest /= size;
             if bound[resource] != INFINITE {
-                place += scale * stock.checked_sub(cost[resource] as usize)?;
+                let left = usize::try_from(stock as i32 - cost[resource]).ok()?;
+                place += scale * left.min(size - 1);
             }
             scale *= size;
         }

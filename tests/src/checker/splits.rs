@@ -1,15 +1,16 @@
 //! Document 003, section 4: labelling over splits of the bound, smaller bounds
-//! first. The two fixed points are those of its lemma 1 (section 3.1), since
-//! section 4's own loops fall short of the truth definition for a bound that is
-//! not of 0 and ∞ alone: always, taken there as the least fixed point, misses
-//! states whose opponents can put off for ever what must be paid, and until
-//! misses those where right holds and left does not.
+//! first, of jobs in which nothing is charged. The two fixed points are those of its
+//! lemma 1 (section 3.1), since section 4's own loops fall short of the truth
+//! definition for a bound that is not of 0 and ∞ alone: always, taken there as the
+//! least fixed point, misses states whose opponents can put off for ever what must be
+//! paid, and until misses those where right holds and left does not.
 
 use super::structure::*;
 use crate::layout::MAX_RESOURCES;
 
 /// [φ] for each row.
 pub fn label(structure: &Structure) -> Vec<Set> {
+    assert!(!structure.charges, "a split takes from a bound alone");
     let mut sets: Vec<Set> = Vec::new();
     for &formula in &structure.formulas {
         let set = match formula {
@@ -57,7 +58,8 @@ struct Game {
 impl Game {
     fn of(structure: &Structure, coalition: u8) -> Game {
         let outcomes = |mv: &Move| mv.replies.iter().fold(0, |set, r| set | 1 << r.target);
-        let state = |moves: &Vec<Move>| moves.iter().map(|mv| (mv.cost, outcomes(mv))).collect();
+        let cost = |mv: &Move| mv.cost.map(|cost| u32::try_from(cost).expect("no charge"));
+        let state = |moves: &Vec<Move>| moves.iter().map(|mv| (cost(mv), outcomes(mv))).collect();
         let moves = structure.moves(coalition);
         Game {
             moves: moves.iter().map(state).collect(),
@@ -150,4 +152,9 @@ fn difference(b: Amounts, smaller: Amounts) -> Option<Amounts> {
         limit => limit - smaller[resource],
     };
     at_most(smaller, b).then(|| std::array::from_fn(part))
+}
+
+fn at_most(amounts: Amounts, bound: Amounts) -> bool {
+    let mut pairs = amounts.iter().zip(bound);
+    pairs.all(|(&amount, limit)| amount <= limit)
 }

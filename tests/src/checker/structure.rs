@@ -1,7 +1,7 @@
 //! Document 003, sections 2.1 and 2.2: a block that passes, decoded into a
 //! structure (definition 1), a coalition's moves (definition 2) and formulas. Of
 //! a resource of kind max a move takes the largest of its agents' costs, and not
-//! their sum (document 02, R-3).
+//! their sum (document 02, R-3); a charge is a cost below 0.
 
 use crate::layout::{self, Sizes, MAX_RESOURCES};
 use std::collections::BTreeMap;
@@ -9,8 +9,11 @@ use std::collections::BTreeMap;
 /// A set of states, bit s for state s.
 pub type Set = u32;
 
-/// A cost, or a bound in which a resource may be unlimited. Costs are compared
-/// with bounds resource by resource; an absent resource costs nothing.
+/// What a move takes of each resource, below 0 where it charges; of an absent one
+/// nothing.
+pub type Cost = [i32; MAX_RESOURCES];
+
+/// A bound or a stock, in which a resource may be unlimited.
 pub type Amounts = [u32; MAX_RESOURCES];
 
 /// ∞ of a bound; no sum of costs comes near it.
@@ -19,6 +22,8 @@ pub const INFINITE: u32 = u32::MAX;
 pub struct Structure {
     pub states: usize,
     pub formulas: Vec<Formula>,
+    /// Whether an action charges a resource.
+    pub charges: bool,
     propositions: Vec<u8>,
     kinds: [u8; MAX_RESOURCES],
     transitions: Vec<Vec<Transition>>,
@@ -28,7 +33,7 @@ pub struct Structure {
 /// they lead.
 struct Transition {
     actions: [usize; layout::MAX_AGENTS],
-    costs: [Amounts; layout::MAX_AGENTS],
+    costs: [Cost; layout::MAX_AGENTS],
     target: usize,
 }
 
@@ -53,7 +58,7 @@ pub struct Ability {
 /// A coalition's move in a state, and the replies to it in rising number.
 pub struct Move {
     pub number: u8,
-    pub cost: Amounts,
+    pub cost: Cost,
     pub replies: Vec<Reply>,
 }
 
@@ -70,6 +75,7 @@ impl Structure {
         Structure {
             states: sizes.states,
             formulas: (0..sizes.rows).map(|row| formula(block, row)).collect(),
+            charges: layout::has_charges(block),
             propositions: states.clone().map(|s| block[layout::mask(s)]).collect(),
             kinds: std::array::from_fn(|j| block[layout::resource_kind(j)]),
             transitions: states.map(|s| transitions(block, s)).collect(),
@@ -107,7 +113,8 @@ fn transitions(block: &[u8], state: usize) -> Vec<Transition> {
         let mut costs = [[0; MAX_RESOURCES]; layout::MAX_AGENTS];
         for (agent, cost) in costs.iter_mut().enumerate().take(sizes.agents) {
             for (resource, amount) in cost.iter_mut().enumerate().take(sizes.resources) {
-                *amount = block[layout::cost(state, agent, actions[agent], resource)].into();
+                let byte = block[layout::cost(state, agent, actions[agent], resource)];
+                *amount = layout::cost_of(byte);
             }
         }
         let target = block[layout::next(state, joint)].into();
@@ -178,18 +185,9 @@ pub fn contains(set: Set, state: usize) -> bool {
 }
 
 /// What two agents' actions cost in one move, by the kinds of the resources.
-fn together(kinds: [u8; MAX_RESOURCES], a: Amounts, b: Amounts) -> Amounts {
+fn together(kinds: [u8; MAX_RESOURCES], a: Cost, b: Cost) -> Cost {
     std::array::from_fn(|resource| match kinds[resource] {
         layout::MAX => a[resource].max(b[resource]),
         _ => a[resource] + b[resource],
     })
-}
-
-/// What successive moves cost.
-pub fn sum(a: Amounts, b: Amounts) -> Amounts {
-    std::array::from_fn(|resource| a[resource] + b[resource])
-}
-
-pub fn at_most(cost: Amounts, bound: Amounts) -> bool {
-    cost.iter().zip(bound).all(|(&cost, bound)| cost <= bound)
 }

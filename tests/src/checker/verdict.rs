@@ -2,7 +2,7 @@
 //! moves and replies, and whether a rule for the replies wins.
 
 use super::aim::{aim, Aim};
-use super::brute::{left_over, Rule, Trial};
+use super::brute::{Rule, Trial};
 use super::structure::*;
 use super::{NEVER, NO_MOVE};
 use crate::layout::MAX_RESOURCES;
@@ -53,7 +53,7 @@ pub fn rule_wins(
         moves: table,
         ..
     } = &verdicts[row];
-    for (position, (start, bound)) in positions(structure, ability).into_iter().enumerate() {
+    for (position, (start, stock)) in positions(structure, ability).into_iter().enumerate() {
         let n = match aim {
             Aim::Always { .. } => ranks[position].into(),
             Aim::Next { .. } | Aim::Until { .. } => ranks.len(),
@@ -62,7 +62,8 @@ pub fn rule_wins(
             moves,
             aim,
             start,
-            bound,
+            stock,
+            bound: ability.bound,
             limit,
             rule: Some(rule),
         };
@@ -92,19 +93,20 @@ fn strategic(
     let moves = &structure.moves(ability.coalition);
     let positions = positions(structure, ability);
     let mut verdict = plain(0);
-    for &(start, bound) in &positions {
+    for &(start, stock) in &positions {
         let trial = Trial {
             moves,
             aim,
             start,
-            bound,
+            stock,
+            bound: ability.bound,
             limit,
             rule: None,
         };
         let (rank, mv) = trial.rank_and_move(positions.len())?;
         verdict.ranks.push(rank);
         verdict.moves.push(mv);
-        if bound == ability.bound && mv != NO_MOVE {
+        if stock == ability.bound && mv != NO_MOVE {
             verdict.set |= 1 << start;
         }
         verdict.replies.push(match mv {
@@ -177,7 +179,7 @@ impl Trial<'_> {
     fn replies(&self, rank: usize, positions: usize) -> Option<Vec<(u8, u8)>> {
         let mut replies = Vec::new();
         for mv in &self.moves[self.start] {
-            if !at_most(mv.cost, self.bound) {
+            if !self.is_within(&[mv.cost]) {
                 continue;
             }
             let spoils = |place: usize| self.spoils(mv, &mv.replies[place], rank, positions);
@@ -198,7 +200,7 @@ impl Trial<'_> {
             start: reply.target,
             ..*self
         };
-        trial.bound = left_over(self.bound, mv.cost);
+        trial.stock = self.left_over(&[mv.cost]);
         match self.aim {
             Aim::Next { left } => Some(!contains(left, reply.target)),
             Aim::Always { .. } => trial.any(rank - 1).map(|kept| !kept),

@@ -77,7 +77,7 @@ fn set_steps(rng: &mut Rng, block: &mut [u8], driver: u8, state: usize) {
 }
 
 /// Most strategic rows ask the driver to go the way.
-fn ask_for_the_way(rng: &mut Rng, block: &mut [u8], driver: u8, i: usize) {
+pub(super) fn ask_for_the_way(rng: &mut Rng, block: &mut [u8], driver: u8, i: usize) {
     let kind = block[row(i, KIND)];
     if !is_strategic(kind) || rng.one_in(4) {
         return;

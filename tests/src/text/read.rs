@@ -1,7 +1,7 @@
 //! The reader of a job's text.
 
-use super::{end_of, Edition, COMMA, EDITIONS, KIND_WORDS, LINE_END, ROW_WORDS, TEXT_BYTES};
-use crate::block::{bad_coalition, bad_cost, bad_count, bad_mask, bad_operand};
+use super::{end_of, Edition, COMMA, EDITIONS, KIND_WORDS, LINE_END, MINUS, ROW_WORDS, TEXT_BYTES};
+use crate::block::{bad_charge, bad_coalition, bad_cost, bad_count, bad_mask, bad_operand};
 use crate::layout::*;
 use crate::refusal;
 
@@ -32,7 +32,7 @@ fn read_job(reader: &mut Reader) -> Outcome<Vec<u8>> {
     }
     let sizes = Sizes::of(&block);
     for state in 0..sizes.states {
-        read_state(reader, &mut block, state)?;
+        read_state(reader, &mut block, state, edition)?;
         match edition {
             Edition::One => read_go_lines(reader, &mut block, state)?,
             Edition::Two => read_go_line(reader, &mut block, state)?,
@@ -98,9 +98,14 @@ impl<'a> Reader<'a> {
         EDITIONS.into_iter().find(opens).ok_or(refusal::FORM)
     }
 
-    /// 0 to 255 without leading zeros, and the byte after it.
+    /// A field that is a number.
     fn number(&mut self, end: u8) -> Outcome<u8> {
         self.begin();
+        self.digits(end)
+    }
+
+    /// 0 to 255 without leading zeros, and the byte after it.
+    fn digits(&mut self, end: u8) -> Outcome<u8> {
         let digits = self.rest.iter().take_while(|b| b.is_ascii_digit()).count();
         let (field, rest) = self.rest.split_at(digits);
         refuse_if(digits > 1 && field[0] == b'0', refusal::FORM)?;
@@ -109,6 +114,16 @@ impl<'a> Reader<'a> {
         self.rest = rest;
         self.literal(&[end])?;
         Ok(number)
+    }
+
+    /// A cost: a number, or in edition 2 a charge, which is one with a minus before it
+    /// and never 0.
+    fn cost(&mut self, edition: Edition, end: u8) -> Outcome<i32> {
+        self.begin();
+        let charge = edition == Edition::Two && self.literal(&[MINUS]).is_ok();
+        let number = i32::from(self.digits(end)?);
+        refuse_if(charge && number == 0, refusal::FORM)?;
+        Ok(if charge { -number } else { number })
     }
 
     /// A number that the form fixes: the state, agent or action of the line.
@@ -160,7 +175,12 @@ fn read_kinds(reader: &mut Reader, block: &mut [u8]) -> Outcome<()> {
 }
 
 /// The line of a state, and those of its agents.
-fn read_state(reader: &mut Reader, block: &mut [u8], state: usize) -> Outcome<()> {
+fn read_state(
+    reader: &mut Reader,
+    block: &mut [u8],
+    state: usize,
+    edition: Edition,
+) -> Outcome<()> {
     let sizes = Sizes::of(block);
     reader.word("state", COMMA)?;
     reader.index(state, COMMA)?;
@@ -168,12 +188,18 @@ fn read_state(reader: &mut Reader, block: &mut [u8], state: usize) -> Outcome<()
     refuse_if(bad_mask(propositions, sizes.propositions), refusal::STATE)?;
     block[mask(state)] = propositions;
     for agent in 0..sizes.agents {
-        read_actions(reader, block, state, agent)?;
+        read_actions(reader, block, state, agent, edition)?;
     }
     Ok(())
 }
 
-fn read_actions(reader: &mut Reader, block: &mut [u8], state: usize, agent: usize) -> Outcome<()> {
+fn read_actions(
+    reader: &mut Reader,
+    block: &mut [u8],
+    state: usize,
+    agent: usize,
+    edition: Edition,
+) -> Outcome<()> {
     let resources = Sizes::of(block).resources;
     reader.word("acts", COMMA)?;
     reader.index(state, COMMA)?;
@@ -184,9 +210,11 @@ fn read_actions(reader: &mut Reader, block: &mut [u8], state: usize, agent: usiz
     let last = usize::from(actions) * resources - 1;
     for field in 0..=last {
         let (action, resource) = (field / resources, field % resources);
-        let spent = reader.number(end_of(field == last))?;
+        let spent = reader.cost(edition, end_of(field == last))?;
+        let kind = block[resource_kind(resource)];
         refuse_if(bad_cost(action, spent), refusal::STATE)?;
-        block[cost(state, agent, action, resource)] = spent;
+        refuse_if(bad_charge(kind, spent), refusal::CHARGE)?;
+        block[cost(state, agent, action, resource)] = cost_byte(spent);
     }
     Ok(())
 }

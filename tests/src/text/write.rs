@@ -8,14 +8,20 @@ pub fn write(block: &[u8]) -> Vec<u8> {
     write_as(Edition::Two, block)
 }
 
-/// The text of an edition. Edition 1 has no word for a kind, and no text of a
-/// block with a resource of kind max.
+/// The text of an edition. Edition 1 has no word for a kind and no minus, and no text
+/// of a block with a resource of kind max or a charge.
 pub fn write_as(edition: Edition, block: &[u8]) -> Vec<u8> {
     let mut text = write_structure(edition, block);
     for i in 0..Sizes::of(block).rows {
         write_row(&mut text, block, i);
     }
     text
+}
+
+/// Whether the block has a text of edition 1.
+pub fn has_first_edition(block: &[u8]) -> bool {
+    let kinds = &block[resource_kind(0)..BLOCK_BYTES];
+    kinds.iter().all(|&kind| kind == SUM) && !has_charges(block)
 }
 
 /// The text before the rows.
@@ -25,7 +31,7 @@ pub fn write_structure(edition: Edition, block: &[u8]) -> Vec<u8> {
     let kinds = &block[resource_kind(0)..resource_kind(sizes.resources)];
     let mut fields = numbers(&block[AGENTS..=ROWS]);
     match edition {
-        Edition::One => assert!(kinds.iter().all(|&kind| kind == SUM), "no such text"),
+        Edition::One => assert!(has_first_edition(block), "no such text"),
         Edition::Two => {
             let words = kinds.iter().map(|&kind| KIND_WORDS[usize::from(kind)]);
             fields.extend(words.map(String::from));
@@ -55,12 +61,13 @@ fn write_state(text: &mut Vec<u8>, block: &[u8], state: usize) {
     line(text, "state", &numbers(&[state as u8, block[mask(state)]]));
     for agent in 0..sizes.agents {
         let actions = block[count(state, agent)];
-        let mut fields = vec![state as u8, agent as u8, actions];
+        let mut fields = numbers(&[state as u8, agent as u8, actions]);
         for action in 0..actions.into() {
             let first = cost(state, agent, action, 0);
-            fields.extend(&block[first..first + sizes.resources]);
+            let costs = block[first..first + sizes.resources].iter();
+            fields.extend(costs.map(|&byte| cost_of(byte).to_string()));
         }
-        line(text, "acts", &numbers(&fields));
+        line(text, "acts", &fields);
     }
 }
 

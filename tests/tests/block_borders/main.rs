@@ -1,6 +1,7 @@
-//! Each clause of numbers 1 to 6 of documents 01 and 02, on both sides of its
+//! Each clause of numbers 1 to 6 and 13 of documents 01 and 02, on both sides of its
 //! border.
 
+mod charges;
 mod kinds;
 mod next;
 mod order;

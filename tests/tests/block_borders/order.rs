@@ -1,31 +1,39 @@
-//! Several conditions at once: the first in the order 1, 2, 3, 4, 5, 6 answers,
+//! Several conditions at once: the first in the order 1, 2, 3, 13, 4, 5, 6 answers,
 //! wherever each of them stands.
 
 use super::*;
 
-/// One change for each of numbers 2 to 6.
-type Damage = [(u8, Change); 5];
+/// One change for each number of the block, in their order.
+type Damage = [(u8, Change); 6];
 
+/// Each agent has an action beside idling in each state; the resource is of kind max.
 fn base() -> Vec<u8> {
-    smallest(2, 1, 3, 1, 2)
+    let mut block = smallest(2, 1, 3, 1, 2);
+    block[resource_kind(0)] = MAX;
+    for (state, agent) in [(0, 0), (0, 1), (1, 0), (1, 1), (2, 0), (2, 1)] {
+        block[count(state, agent)] = 2;
+    }
+    block
 }
 
-/// The lower the number, the earlier its place.
+/// The earlier a number is tried, the earlier its place.
 fn rising() -> Damage {
     [
         (2, (AGENTS, 4)),
         (3, (mask(0), 2)),
+        (13, (cost(0, 0, 1, 0), 255)),
         (4, (next(0, 0), 3)),
         (5, (row(0, KIND), 6)),
         (6, (row(31, PADDING + 1), 1)),
     ]
 }
 
-/// Within the states, the rows and the block, the lower number later.
+/// Within the states, the rows and the block, the earlier number later.
 fn falling() -> Damage {
     [
         (2, (ROWS, 33)),
-        (3, (cost(2, 1, 0, 0), 1)),
+        (3, (cost(2, 1, 1, 0), 16)),
+        (13, (cost(2, 0, 1, 0), 241)),
         (4, (next(1, 0), 255)),
         (5, (row(1, LEFT), 1)),
         (6, (mask(3), 255)),
@@ -36,11 +44,11 @@ fn falling() -> Damage {
 fn with_kinds() -> Damage {
     let mut damage = rising();
     damage[0] = (2, (resource_kind(0), 2));
-    damage[4] = (6, (resource_kind(1), MAX));
+    damage[5] = (6, (resource_kind(1), MAX));
     damage
 }
 
-/// Every choice of the five changes gives the lowest number chosen.
+/// Every choice of the changes gives the first number chosen.
 fn every_choice(name: &str, damage: Damage) {
     let mut cases = Cases::default();
     for choice in 0..1 << damage.len() {
@@ -49,14 +57,14 @@ fn every_choice(name: &str, damage: Damage) {
             .enumerate()
             .filter(|(i, _)| choice >> i & 1 == 1);
         let (numbers, changes): (Vec<u8>, Vec<Change>) = chosen.map(|(_, &pair)| pair).unzip();
-        let lowest = numbers.iter().min().copied().unwrap_or(0);
-        cases.expect(&format!("{name}: {numbers:?}"), &base(), &changes, lowest);
+        let first = numbers.first().copied().unwrap_or(0);
+        cases.expect(&format!("{name}: {numbers:?}"), &base(), &changes, first);
     }
     cases.report();
 }
 
 #[test]
-fn lowest_number_first() {
+fn first_number_first() {
     every_choice("rising", rising());
     every_choice("falling", falling());
     every_choice("with kinds", with_kinds());

@@ -1,4 +1,4 @@
-//! Number 3: mask, count, cost, idle with a cost.
+//! Number 3: mask, count, cost, idle with a cost. Charges stand in charges.rs.
 
 use super::*;
 
@@ -54,7 +54,7 @@ fn count_1_to_4() {
 #[test]
 fn cost_up_to_15() {
     let mut cases = Cases::default();
-    let numbers = [(0, 0), (15, 0), (16, 3), (255, 3)];
+    let numbers = [(0, 0), (15, 0), (16, 3), (127, 3), (128, 3), (240, 3)];
     for (state, agent, action) in [(0, 0, 1), (0, 2, 3), (1, 1, 2), (23, 0, 1), (23, 2, 3)] {
         for resource in 0..MAX_RESOURCES {
             let name = format!("cost in {resource} of {action} by agent {agent} in state {state}");
@@ -68,7 +68,15 @@ fn cost_up_to_15() {
 #[test]
 fn idle_without_cost() {
     let mut cases = Cases::default();
-    let numbers = [(0, 0), (1, 3), (15, 3), (16, 3)];
+    let numbers = [
+        (0, 0),
+        (1, 3),
+        (15, 3),
+        (16, 3),
+        (240, 3),
+        (241, 3),
+        (255, 3),
+    ];
     for (state, agent) in [(0, 0), (0, 2), (1, 1), (23, 0), (23, 2)] {
         for resource in 0..MAX_RESOURCES {
             let name = format!("idle cost in {resource} of agent {agent} in state {state}");

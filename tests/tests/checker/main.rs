@@ -1,5 +1,5 @@
-//! The checker's three ways to judge a row agree among themselves, and with
-//! what document 01 says of Catch.
+//! The checker's ways to judge a row agree among themselves, and with what document
+//! 01 says of Catch.
 
 mod catch;
 mod listing;
@@ -25,5 +25,10 @@ impl Solved {
     /// The table of a row; none if the row is not strategic.
     fn table(&self, row: usize) -> Option<Table> {
         search::table(&self.structure, row, &self.sets)
+    }
+
+    /// The strategic rows and their tables.
+    fn tables(&self) -> impl Iterator<Item = (usize, Table)> + '_ {
+        (0..self.sets.len()).filter_map(|row| Some((row, self.table(row)?)))
     }
 }

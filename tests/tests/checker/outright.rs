@@ -1,11 +1,11 @@
 //! Strategies tried outright, on tiny jobs: sets, ranks, moves and replies.
 
 use super::*;
-use rbatl_tests::checker::splits;
 use rbatl_tests::checker::structure::{Amounts, INFINITE};
 use rbatl_tests::checker::verdict::{self, Verdict};
 use rbatl_tests::checker::NEVER;
-use rbatl_tests::layout::{resource_kind, row, Sizes, MAX, ROWS, SUM};
+use rbatl_tests::checker::{rounds, splits};
+use rbatl_tests::layout::*;
 use rbatl_tests::random::{cases, Rng};
 use rbatl_tests::{block, games, jobs, text};
 
@@ -15,7 +15,7 @@ const CASES: u64 = 2_000;
 const LIMIT: usize = 2_000;
 
 /// What was compared.
-#[derive(Default)]
+#[derive(Default, Debug)]
 struct Seen {
     jobs: u64,
     /// Rows whose replies were played against every strategy.
@@ -24,8 +24,9 @@ struct Seen {
     replies: usize,
     /// The largest finite rank.
     longest: u16,
-    /// Jobs that are others with a resource of the other kind.
+    /// Jobs that are others with a resource of the other kind, or without charges.
     by_kind: u64,
+    by_charge: u64,
 }
 
 fn compare(job: &[u8], limit: usize, seen: &mut Seen, what: &str) {
@@ -35,19 +36,23 @@ fn compare(job: &[u8], limit: usize, seen: &mut Seen, what: &str) {
         return;
     };
     seen.jobs += 1;
-    seen.by_kind += u64::from(depends_on_kinds(job, &solved));
+    match solved.structure.charges {
+        true => seen.by_charge += u64::from(depends_on_charges(job, &solved)),
+        false => seen.by_kind += u64::from(depends_on_kinds(job, &solved)),
+    }
     let sets: Vec<Set> = verdicts.iter().map(|verdict| verdict.set).collect();
     assert_eq!(sets, solved.sets, "{what}: sets");
-    assert_eq!(splits::label(&solved.structure), sets, "{what}: splits");
-    for (row, verdict) in verdicts.iter().enumerate() {
-        if let Some(table) = solved.table(row) {
-            let what = format!("{what}, row {row}");
-            compare_table(&table, verdict, seen, &what);
-            let rule = |state, stock: Amounts, mv| table.reply(position(&table, state, stock), mv);
-            let wins = verdict::rule_wins(&solved.structure, row, &verdicts, &rule, limit);
-            assert_ne!(wins, Some(false), "{what}: the replies lose a play");
-            seen.rules += u64::from(wins == Some(true));
-        }
+    assert_eq!(rounds::label(&solved.structure), sets, "{what}: rounds");
+    if !solved.structure.charges {
+        assert_eq!(splits::label(&solved.structure), sets, "{what}: splits");
+    }
+    for (row, table) in solved.tables() {
+        let what = format!("{what}, row {row}");
+        compare_table(&table, &verdicts[row], seen, &what);
+        let rule = |state, stock: Amounts, mv| table.reply(position(&table, state, stock), mv);
+        let wins = verdict::rule_wins(&solved.structure, row, &verdicts, &rule, limit);
+        assert_ne!(wins, Some(false), "{what}: the replies lose a play");
+        seen.rules += u64::from(wins == Some(true));
     }
 }
 
@@ -56,10 +61,24 @@ fn depends_on_kinds(job: &[u8], solved: &Solved) -> bool {
     let mut other = job.to_vec();
     (0..Sizes::of(job).resources).any(|resource| {
         other[resource_kind(resource)] ^= SUM ^ MAX;
-        let other = Solved::of(&other);
-        let ranks = |solved: &Solved, row| solved.table(row).map(|table| table.ranks);
-        (0..solved.sets.len()).any(|row| ranks(solved, row) != ranks(&other, row))
+        have_other_ranks(&Solved::of(&other), solved)
     })
+}
+
+/// Whether a table differs in the job with 0 for each charge.
+fn depends_on_charges(job: &[u8], solved: &Solved) -> bool {
+    let mut other = job.to_vec();
+    for (place, _) in cost_places(job) {
+        other[place] = cost_byte(cost_of(job[place]).max(0));
+    }
+    have_other_ranks(&Solved::of(&other), solved)
+}
+
+fn have_other_ranks(a: &Solved, b: &Solved) -> bool {
+    let ranks = |solved: &Solved| -> Vec<Vec<u16>> {
+        solved.tables().map(|(_, table)| table.ranks).collect()
+    };
+    ranks(a) != ranks(b)
 }
 
 /// The number of a position; the stock of an unlimited resource is 0.
@@ -92,41 +111,44 @@ fn compare_table(table: &Table, verdict: &Verdict, seen: &mut Seen, what: &str) 
     }
 }
 
-#[test]
-fn all_three_agree_on_tiny_jobs() {
-    let cases = cases(CASES);
+fn compare_jobs(seed: u64, cases: u64, limit: usize, make: fn(&mut Rng) -> Vec<u8>) -> Seen {
     let mut seen = Seen::default();
     for case in 0..cases {
-        let job = games::tiny(&mut Rng::for_case(SEED, case));
-        compare(&job, LIMIT, &mut seen, &format!("case {case}"));
+        let job = make(&mut Rng::for_case(seed, case));
+        compare(&job, limit, &mut seen, &format!("case {case}"));
     }
-    println!(
-        "{} jobs, {} rules, {} positions, {} replies, ranks to {}",
-        seen.jobs, seen.rules, seen.positions, seen.replies, seen.longest
-    );
+    println!("{seen:?}");
     assert!(seen.jobs * 2 > cases, "only {} of {cases} jobs", seen.jobs);
+    seen
+}
+
+#[test]
+fn all_agree_on_tiny_jobs() {
+    let seen = compare_jobs(SEED, cases(CASES), LIMIT, games::tiny);
     assert!(seen.rules > seen.jobs, "only {} rules", seen.rules);
     assert!(seen.longest >= 3);
 }
 
+/// A way round is seldom over before there are more strategies than with costs alone.
+#[test]
+fn all_agree_on_tiny_jobs_with_charges() {
+    let seen = compare_jobs(SEED ^ 2, cases(CASES) / 4, 10 * LIMIT, games::tiny_cradle);
+    assert!(seen.rules > seen.jobs, "only {} rules", seen.rules);
+    assert!(seen.by_charge * 4 > seen.jobs, "only {}", seen.by_charge);
+    assert!(seen.longest >= 5, "only to {}", seen.longest);
+}
+
 /// Where agents have to act together, the kind of a resource often decides.
 #[test]
-fn all_three_agree_on_tiny_teamwork() {
-    let cases = cases(CASES) / 2;
-    let mut seen = Seen::default();
-    for case in 0..cases {
-        let job = games::tiny_teamwork(&mut Rng::for_case(SEED ^ 1, case));
-        compare(&job, LIMIT, &mut seen, &format!("case {case}"));
-    }
-    println!("{} of {} jobs depend on kinds", seen.by_kind, seen.jobs);
-    assert!(seen.jobs * 2 > cases, "only {} of {cases} jobs", seen.jobs);
+fn all_agree_on_tiny_teamwork() {
+    let seen = compare_jobs(SEED ^ 1, cases(CASES) / 2, LIMIT, games::tiny_teamwork);
     assert!(seen.by_kind * 20 > seen.jobs, "only {}", seen.by_kind);
 }
 
 /// The rows of Catch whose coalition has one free move; with more of them there
 /// are too many strategies.
 #[test]
-fn all_three_agree_on_rows_of_catch() {
+fn all_agree_on_rows_of_catch() {
     let mut job = jobs::load("catch.job");
     job[ROWS] = 4;
     job[row(4, 0)..].fill(0);

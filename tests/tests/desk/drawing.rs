@@ -172,17 +172,17 @@ impl Drawn<'_> {
         })
     }
 
-    /// What a move takes of each resource, by its kind, as it is drawn.
+    /// What a move takes of each resource, by its kind, below 0 where it charges, as it
+    /// is drawn.
     fn cost(&self, state: usize, number: u8) -> String {
         let agents = 0..Sizes::of(self.block).agents;
         let costs = (0..Sizes::of(self.block).resources).map(|resource| {
             let action = |agent| actions(number.into())[agent];
-            let costs = agents
-                .clone()
-                .map(|agent| self.block[cost(state, agent, action(agent), resource)]);
+            let byte = |agent| self.block[cost(state, agent, action(agent), resource)];
+            let costs = agents.clone().map(|agent| cost_of(byte(agent)));
             match self.block[resource_kind(resource)] {
                 MAX => costs.max().unwrap_or(0),
-                _ => costs.sum(),
+                _ => costs.sum::<i32>(),
             }
         });
         let costs: Vec<String> = costs.map(|cost| cost.to_string()).collect();

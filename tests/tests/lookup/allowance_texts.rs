@@ -104,7 +104,11 @@ fn put_into_the_job() {
     let mut seen = Seen::default();
     for case in 0..cases(CASES) {
         let rng = &mut Rng::for_case(SEED, case);
-        let mut block = games::trade(rng);
+        let mut block = match case % 4 {
+            0 => games::charged(rng, games::trade),
+            1 => games::cradle(rng),
+            _ => games::trade(rng),
+        };
         let text = String::from_utf8(any_text(rng, &mut block)).expect("plain text");
         let rows = Model::of(&block).rows();
         let job = Job { text, block };

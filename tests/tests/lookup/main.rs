@@ -3,6 +3,7 @@
 //! zeros in the room, and plays that they decide.
 
 mod allowance_borders;
+mod allowance_charges;
 mod allowance_jobs;
 mod allowance_texts;
 mod allowances;
@@ -18,7 +19,7 @@ mod sheet_borders;
 mod sheets;
 
 use rbatl_tests::agree::{self, Outcome};
-use rbatl_tests::answers::{assert_each_came, number};
+use rbatl_tests::answers::{assert_each_came, assert_none_came, number, Counts};
 use rbatl_tests::damage::{damage, BORDERS};
 use rbatl_tests::games;
 use rbatl_tests::jobs;

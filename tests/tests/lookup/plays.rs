@@ -122,11 +122,11 @@ impl Board<'_> {
         let won = |mv: &Move| {
             let outcome = |reply| self.game.outcome(at, mv, reply);
             let outcomes = mv.replies.iter().map(outcome);
-            outcomes.filter(|&at| self.wins(at)).count()
+            outcomes.filter(|&at| self.wins(at)).count() as i32
         };
         let score = |mv: &Move| match style {
             Style::Random => 0,
-            Style::Stubborn => mv.cost.iter().sum::<u32>() as usize,
+            Style::Stubborn => mv.cost.iter().sum::<i32>(),
             Style::Greedy => won(mv),
         };
         let moves = self.game.affordable(at).into_iter();

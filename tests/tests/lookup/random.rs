@@ -13,8 +13,8 @@ const CROWDED_CASES: u64 = 200;
 /// Answers of the two calls, by number.
 #[derive(Default)]
 struct Seen {
-    moves: [u64; 12],
-    replies: [u64; 12],
+    moves: Counts,
+    replies: Counts,
     /// Replies that are not 0: to idle is no answer to the move.
     active: u64,
 }
@@ -71,7 +71,7 @@ fn every_position() {
     println!("{} replies are not 0", seen.active);
     assert_each_came(&seen.moves, &[0, 10], 5 * cases(CASES));
     assert_each_came(&seen.replies, &[0, 10, 11], 5 * cases(CASES));
-    assert!(seen.active > cases(CASES));
+    assert!(seen.active > cases(CASES) / 2);
 }
 
 /// Every number of a byte as the move, at some positions that are not won.
@@ -90,6 +90,7 @@ fn every_number() {
     });
     assert_each_came(&seen.replies, &[0, 11], cases(CASES) / 20);
     assert_eq!(seen.replies[1..11], [0; 10], "only 11 is left to refuse");
+    assert_none_came(&seen.replies, &[12, 13]);
 }
 
 /// Mostly a position of the job, but often beside one.
@@ -162,8 +163,10 @@ fn damaged_jobs() {
     let answers = [0, 1, 2, 3, 4, 5, 6, 8, 9, 10];
     assert_each_came(&seen.moves, &answers, cases(CASES) / 50);
     assert_each_came(&seen.replies, &answers, cases(CASES) / 50);
-    assert_eq!(seen.moves[7], 0, "no call on a block answers 7");
-    assert_eq!(seen.replies[7], 0, "no call on a block answers 7");
+    for seen in [seen.moves, seen.replies] {
+        assert_each_came(&seen, &[13], cases(CASES) / 200);
+        assert_none_came(&seen, &[7, 12]);
+    }
 }
 
 #[test]

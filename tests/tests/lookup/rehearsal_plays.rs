@@ -91,9 +91,10 @@ impl Board<'_> {
         agents.map(move |agent| (agent, actions(joint)[agent]))
     }
 
-    fn spent(&self, state: usize, mv: usize, resource: usize) -> usize {
+    /// What a move takes, below 0 where it charges.
+    fn spent(&self, state: usize, mv: usize, resource: usize) -> i32 {
         let place = |(agent, action)| cost(state, agent, action, resource);
-        let costs = self.team(mv).map(|agent| self.block[place(agent)].into());
+        let costs = self.team(mv).map(|agent| cost_of(self.block[place(agent)]));
         match self.block[resource_kind(resource)] {
             SUM => costs.sum(),
             _ => costs.max().unwrap_or(0),
@@ -157,7 +158,7 @@ impl Board<'_> {
 /// What each play must come to.
 impl Board<'_> {
     /// The table's move and the reply lead from one position to the next, and what the
-    /// move takes is taken.
+    /// move takes is taken, or what it charges is there, up to the bound.
     fn expect_steps(&self, course: &Course) {
         let steps = course.positions.windows(2).zip(&course.script);
         for (pair, &reply) in steps {
@@ -167,9 +168,10 @@ impl Board<'_> {
             let due = self.block[next(state, usize::from(mv) + usize::from(reply))];
             assert_eq!(target, due.into(), "{what}");
             for resource in (0..MAX_RESOURCES).filter(|&j| self.is_limited(j)) {
-                let taken = before[resource].checked_sub(after[resource]);
-                let spent = self.spent(state, mv.into(), resource);
-                assert_eq!(taken, Some(spent), "{what}");
+                let bound = self.block[row(self.row.into(), BOUND + resource)].into();
+                let left = before[resource] as i32 - self.spent(state, mv.into(), resource);
+                assert!(left >= 0, "{what}");
+                assert_eq!(after[resource] as i32, left.min(bound), "{what}");
             }
         }
     }

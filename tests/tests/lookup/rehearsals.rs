@@ -61,7 +61,7 @@ fn any_length(rng: &mut Rng) -> usize {
 /// What came of rehearsals that are finished or not, or refused with 12 or with 10.
 #[derive(Default, Debug)]
 struct Seen {
-    answers: [u64; 13],
+    answers: Counts,
     finished: [u64; 3],
     unfinished: [u64; 3],
     refused: [u64; 3],
@@ -200,7 +200,7 @@ fn whole_jobs() {
     seen.assert_each_came(cases(CASES) / 4);
     assert_eq!(seen.resources.len(), 4 + 16, "{seen:?}");
     let fewest = seen.resources.values().min();
-    assert!(fewest >= Some(&(cases(CASES) / 20)), "{seen:?}");
+    assert!(fewest >= Some(&(cases(CASES) / 100)), "{seen:?}");
 }
 
 /// A script of 255 bytes and the same with one more.
@@ -245,7 +245,8 @@ fn damaged_jobs() {
     });
     let came = [0, 1, 2, 3, 4, 5, 6, 8, 9, 10, 12];
     assert_each_came(&seen.answers, &came, cases(CASES) / 100);
-    assert_eq!([7, 11].map(|number| seen.answers[number]), [0; 2]);
+    assert_each_came(&seen.answers, &[13], 1);
+    assert_none_came(&seen.answers, &[7, 11]);
 }
 
 #[test]

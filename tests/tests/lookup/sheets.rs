@@ -16,8 +16,8 @@ const FULL_CASES: u64 = 12;
 /// their refusal, or 0; and positions that stood in the list before.
 #[derive(Default, Debug)]
 struct Seen {
-    answers: [u64; 12],
-    words: [[u64; 12]; 3],
+    answers: Counts,
+    words: [Counts; 3],
     repeated: u64,
 }
 
@@ -135,8 +135,9 @@ fn damaged_jobs() {
         try_any(rng, asked, &mut seen)
     });
     assert_each_came(&seen.answers, &[0, 1, 2, 3, 4, 5, 6, 8], cases(CASES) / 200);
-    assert_eq!(seen.answers[7], 0, "no call on a block answers 7");
-    assert_eq!(seen.answers[9..], [0; 3], "9 and 10 stand in words");
+    assert_each_came(&seen.answers, &[13], 1);
+    // No call on a block answers 7; 9 and 10 stand in words.
+    assert_none_came(&seen.answers, &[7, 9, 10, 11, 12]);
 }
 
 #[test]

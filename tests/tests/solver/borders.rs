@@ -164,6 +164,7 @@ fn full_sizes() {
         (ROWS, 32, 33, 2),
         (count(23, 2), 4, 5, 3),
         (cost(23, 2, 3, 1), 15, 16, 3),
+        (cost(23, 2, 3, 1), 241, 240, 3),
         (next(23, 63), 23, 24, 4),
         (row(31, BOUND), 15, 16, 5),
         (row(31, BOUND + 1), 255, 254, 5),
@@ -182,7 +183,7 @@ fn full_sizes() {
 
 /// Every place of Catch, with values at the borders; each number of the block comes.
 pub fn each_changed_byte(call: impl Fn(&[u8], &str) -> Outcome) {
-    let mut seen = [0; 9];
+    let mut seen = Counts::default();
     for place in 0..BLOCK_BYTES {
         for value in BORDERS {
             let mut block = catch();

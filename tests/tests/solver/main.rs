@@ -9,7 +9,7 @@ mod random;
 mod states;
 
 use rbatl_tests::agree::{self, Outcome};
-use rbatl_tests::answers::{assert_each_came, number};
+use rbatl_tests::answers::{assert_each_came, assert_none_came, number, Counts};
 use rbatl_tests::model::*;
 
 /// What the lent buffers hold before a call.

@@ -12,14 +12,16 @@ const FULL_CASES: u64 = 50;
 const CROWDED_CASES: u64 = 200;
 
 /// Some jobs with something to play for, some where kinds of resources matter, some
-/// with rows of every shape.
+/// where charges do, some with rows of every shape.
 fn small_job(rng: &mut Rng) -> Vec<u8> {
-    match rng.below(4) {
+    match rng.below(6) {
         0 => {
             let sizes = small_sizes(rng);
             block(rng, sizes)
         }
         1 => games::teamwork(rng),
+        2 => games::charged(rng, games::teamwork),
+        3 => games::cradle(rng),
         _ => games::small(rng),
     }
 }
@@ -31,7 +33,7 @@ fn lents() -> [Lent; 3] {
 
 /// Labels the job, fills the table of each row and lists its states, and asks for
 /// rows that have none. Counts the answers.
-fn all_calls(job: &[u8], lent: &Lent, what: &str, seen: &mut [u64; 9]) {
+fn all_calls(job: &[u8], lent: &Lent, what: &str, seen: &mut Counts) {
     let model = Model::of(job);
     seen[number(lent.label(job, &model, what).answer)] += 1;
     let rows = job.get(ROWS).copied().unwrap_or(0).min(MAX_ROWS as u8);
@@ -43,23 +45,20 @@ fn all_calls(job: &[u8], lent: &Lent, what: &str, seen: &mut [u64; 9]) {
 
 #[test]
 fn whole_jobs() {
-    let (lents, mut seen) = (lents(), [0; 9]);
+    let (lents, mut seen) = (lents(), Counts::default());
     for case in 0..cases(CASES) {
         let job = small_job(&mut Rng::for_case(SEED, case));
         let lent = &lents[(case % 3) as usize];
         all_calls(&job, lent, &format!("case {case}"), &mut seen);
     }
     assert_each_came(&seen, &[0], 3 * cases(CASES));
-    assert_eq!(
-        seen[1..8],
-        [0; 7],
-        "a whole job is refused for its row alone"
-    );
+    // A whole job is refused for its row alone.
+    assert_none_came(&seen, &[1, 2, 3, 4, 5, 6, 7, 9, 10, 11, 12, 13]);
 }
 
 #[test]
 fn damaged_jobs() {
-    let (lents, mut seen) = (lents(), [0; 9]);
+    let (lents, mut seen) = (lents(), Counts::default());
     for case in 0..cases(CASES) {
         let mut rng = Rng::for_case(!SEED, case);
         let mut job = small_job(&mut rng);
@@ -73,13 +72,14 @@ fn damaged_jobs() {
         );
     }
     assert_each_came(&seen, &[0, 1, 2, 3, 4, 5, 6, 8], cases(CASES) / 50);
-    assert_eq!(seen[7], 0, "no call on a block answers 7");
+    assert_each_came(&seen, &[13], cases(CASES) / 200);
+    assert_none_came(&seen, &[7, 9, 10, 11, 12]);
 }
 
 /// 6,144 positions in every strategic row.
 #[test]
 fn full_jobs() {
-    let (lents, mut seen) = (lents(), [0; 9]);
+    let (lents, mut seen) = (lents(), Counts::default());
     for case in 0..FULL_CASES.max(cases(CASES) / 400) {
         let job = games::full(&mut Rng::for_case(SEED ^ 1, case));
         let lent = &lents[(case % 3) as usize];
@@ -91,7 +91,7 @@ fn full_jobs() {
 /// 32 rows: only those that a row needs are labelled for it.
 #[test]
 fn crowded_jobs() {
-    let (lents, mut seen, mut choosy) = (lents(), [0; 9], 0);
+    let (lents, mut seen, mut choosy) = (lents(), Counts::default(), 0);
     for case in 0..CROWDED_CASES.max(cases(CASES) / 100) {
         let job = games::crowd(&mut Rng::for_case(SEED ^ 2, case));
         let lent = &lents[(case % 3) as usize];

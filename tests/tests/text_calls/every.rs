@@ -4,12 +4,39 @@ use super::*;
 use rbatl_tests::text_damage::lines;
 use rbatl_tests::{agree, jobs};
 
+/// A job with charges of one, two and both agents, and a resource that has none.
+const CHARGED: &str = "\
+job2,2,2,3,1,4,sum,max
+state,0,0
+acts,0,0,3,0,0,-3,2,5,0
+acts,0,1,2,0,0,-15,15
+go,0,0,1,2,0,1,2
+state,1,0
+acts,1,0,2,0,0,-1,0
+acts,1,1,1,0,0
+go,1,0,0
+state,2,1
+acts,2,0,1,0,0
+acts,2,1,2,0,0,-10,0
+go,2,2,2
+prop,0
+not,0
+until,1,5,0,1,0
+always,3,inf,2,1
+";
+
 /// The texts that are small enough for every change of a byte.
-const SMALL: [&str; 3] = ["catch.job", "minutes.job", "sensor.job"];
+fn small_texts() -> Vec<(&'static str, Vec<u8>)> {
+    let files = ["catch.job", "minutes.job", "sensor.job"];
+    let mut texts = Vec::from(files.map(|name| (name, jobs::text(name))));
+    texts.push(("a job with charges", CHARGED.into()));
+    texts
+}
 
 /// The texts of jobs/, and of some small random jobs.
 fn many_texts() -> Vec<Vec<u8>> {
     let mut texts: Vec<Vec<u8>> = jobs::names().iter().map(|name| jobs::text(name)).collect();
+    texts.push(CHARGED.into());
     for case in 0..40 {
         let mut rng = Rng::for_case(SEED ^ 2, case);
         let sizes = small_sizes(&mut rng);
@@ -56,9 +83,8 @@ fn cut_before_every_line() {
 #[test]
 fn every_byte_changed() {
     let lent = agree::pattern(BLOCK_BYTES);
-    let mut seen = [0; 8];
-    for name in SMALL {
-        let job = jobs::text(name);
+    let mut seen = Counts::default();
+    for (name, job) in small_texts() {
         for place in 0..job.len() {
             let mut text = job.clone();
             for value in 0..=u8::MAX {
@@ -69,14 +95,14 @@ fn every_byte_changed() {
         }
     }
     assert_each_came(&seen, &[0, 2, 3, 4, 5, 7], 10);
+    assert_each_came(&seen, &[13], 1);
 }
 
 #[test]
 fn every_byte_inserted() {
     let lent = agree::pattern(BLOCK_BYTES);
-    let mut seen = [0; 8];
-    for name in SMALL {
-        let job = jobs::text(name);
+    let mut seen = Counts::default();
+    for (name, job) in small_texts() {
         for place in 0..=job.len() {
             let mut text = job.clone();
             text.insert(place, 0);
@@ -88,13 +114,14 @@ fn every_byte_inserted() {
         }
     }
     assert_each_came(&seen, &[0, 2, 3, 4, 5, 7], 10);
+    assert_each_came(&seen, &[13], 1);
 }
 
 /// Of the long text only every 16th byte.
 #[test]
 fn every_byte_dropped_and_doubled() {
     let lent = agree::pattern(BLOCK_BYTES);
-    let mut seen = [0; 8];
+    let mut seen = Counts::default();
     for (i, job) in many_texts().iter().enumerate() {
         let step = if job.len() < 8192 { 1 } else { 16 };
         for place in (0..job.len()).step_by(step) {
@@ -114,9 +141,8 @@ fn every_byte_dropped_and_doubled() {
 #[test]
 fn every_two_lines_swapped_and_every_line_repeated_anywhere() {
     let lent = agree::pattern(BLOCK_BYTES);
-    let mut seen = [0; 8];
-    for name in SMALL {
-        let job = jobs::text(name);
+    let mut seen = Counts::default();
+    for (name, job) in small_texts() {
         let job = lines(&job);
         for i in 0..job.len() {
             for j in 0..job.len() {

@@ -160,6 +160,7 @@ fn write_blocks_of_other_lengths_and_damaged_ones() {
         (2, STATES, 25),
         (2, resource_kind(0), 2),
         (3, count(0, 0), 5),
+        (3, cost(0, 0, 1, 0), 240),
         (4, next(0, 0), 3),
         (5, row(5, BOUND), 16),
         (6, mask(23), 1),

@@ -5,7 +5,7 @@ use super::*;
 use rbatl_tests::agree::{self, Outcome};
 use rbatl_tests::listing::{self, LISTING_BYTES};
 use rbatl_tests::model::{MOVES_BYTES, RANKS_BYTES};
-use rbatl_tests::text::{write_as, EDITIONS, TEXT_BYTES};
+use rbatl_tests::text::{has_first_edition, write_as, EDITIONS, TEXT_BYTES};
 use rbatl_tests::text_damage::damage;
 use rbatl_tests::{games, jobs};
 
@@ -63,7 +63,7 @@ fn both_editions() {
     let lent = Lent::patterned(LENGTHS);
     for name in jobs::names() {
         let job = jobs::load(&name);
-        if job[resource_kind(0)..BLOCK_BYTES] == [SUM, SUM] {
+        if has_first_edition(&job) {
             let [one, two] = EDITIONS.map(|edition| lent.list(&write_as(edition, &job), &name));
             assert!(one == two, "{name}");
         }
@@ -72,7 +72,7 @@ fn both_editions() {
 
 #[test]
 fn random_jobs() {
-    let (lents, mut seen) = (lents(), [0; 8]);
+    let (lents, mut seen) = (lents(), Counts::default());
     for case in 0..cases(CASES) / 100 {
         let mut rng = Rng::for_case(SEED ^ 6, case);
         let mut job = games::mixed(&mut rng);
@@ -80,12 +80,12 @@ fn random_jobs() {
         let outcome = lent.list(&any_text(&mut rng, &mut job), &format!("case {case}"));
         seen[number(outcome.answer)] += 1;
     }
-    assert_eq!(seen[1..], [0; 7], "a whole text is listed");
+    assert_eq!(seen[1..], [0; 13], "a whole text is listed");
 }
 
 #[test]
 fn damaged_texts() {
-    let (lents, mut seen) = (lents(), [0; 8]);
+    let (lents, mut seen) = (lents(), Counts::default());
     for case in 0..cases(CASES) / 20 {
         let mut rng = Rng::for_case(SEED ^ 7, case);
         let mut job = games::small(&mut rng);
@@ -95,7 +95,7 @@ fn damaged_texts() {
         let outcome = lent.list(&text, &format!("case {case}: {how}"));
         seen[number(outcome.answer)] += 1;
     }
-    assert_each_came(&seen, &[0, 2, 3, 4, 5, 7], 20);
+    assert_each_came(&seen, &[0, 2, 3, 4, 5, 7, 13], 20);
 }
 
 /// Each buffer shorter and longer, also by one byte; no text comes before that.

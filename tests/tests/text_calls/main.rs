@@ -10,9 +10,9 @@ mod random;
 mod round;
 mod stops;
 
-use rbatl_tests::answers::{assert_each_came, number};
+use rbatl_tests::answers::{assert_each_came, assert_none_came, number, Counts};
 use rbatl_tests::layout::*;
-use rbatl_tests::random::{any_sizes, any_text, block, cases, small_sizes, Rng};
+use rbatl_tests::random::{any_sizes, any_text, block, cases, small_sizes, take_charges, Rng};
 
 const SEED: u64 = 0x7465_7874;
 /// Damaged texts; the other tests take a share of this number.

@@ -22,9 +22,11 @@ fn read(text: &[u8], what: &str) -> Vec<u8> {
     block
 }
 
-/// The same job with other kinds, bit j for a resource j of kind max.
+/// The same job without charges and with other kinds, bit j for a resource j of kind
+/// max.
 fn with_kinds(job: &[u8], kinds: u8) -> Vec<u8> {
     let mut job = job.to_vec();
+    take_charges(&mut job);
     for resource in 0..Sizes::of(&job).resources {
         job[resource_kind(resource)] = kinds >> resource & 1;
     }
@@ -42,7 +44,7 @@ fn a_written_job_is_read_as_the_same_job() {
     }
 }
 
-/// A job of kind sum throughout has a text of each edition.
+/// A job of kind sum throughout and without charges has a text of each edition.
 #[test]
 fn both_editions_are_read_as_the_same_job() {
     for case in 0..cases(CASES) / 24 {
@@ -117,6 +119,13 @@ fn the_files_of_jobs_are_written_back() {
     }
 }
 
+fn longest_is_read(edition: Edition, job: &[u8]) {
+    let text = text::write_as(edition, job);
+    println!("the longest text, {edition:?}, has {} bytes", text.len());
+    assert!(text.len() <= TEXT_BYTES, "{edition:?}");
+    assert!(read(&text, "the longest text") == job, "{edition:?}");
+}
+
 /// The longest text that a job can have: full size, and in each place the
 /// value whose spelling is longest.
 #[test]
@@ -136,12 +145,11 @@ fn the_longest_text_fits() {
         let longest = [UNTIL, i as u8 - 1, i as u8 - 1, 7, UNLIMITED, UNLIMITED];
         job[row(i, KIND)..row(i, PADDING)].copy_from_slice(&longest);
     }
-    for edition in EDITIONS {
-        let text = text::write_as(edition, &job);
-        println!("the longest text, {edition:?}, has {} bytes", text.len());
-        assert!(text.len() <= TEXT_BYTES, "{edition:?}");
-        assert!(read(&text, "the longest text") == job, "{edition:?}");
+    longest_is_read(Edition::One, &job);
+    for (place, _) in cost_places(&job.clone()) {
+        job[place] = cost_byte(-i32::from(MAX_COST));
     }
+    longest_is_read(Edition::Two, &job);
     let text = written(&job, "the longest text");
     assert!(text == text::write(&job));
     for case in 0..1000 {

@@ -2,6 +2,7 @@
 //! `rbatl_read` and by the reader made from documents 01 and 02; the answers
 //! expected stand here.
 
+mod charges;
 mod editions;
 mod examples;
 mod form;
