@@ -87,13 +87,13 @@ module _ (G : Arena) (most : Bool) (safe x : ℕ) where
     changed = all .changed;
   }
 
-  -- on the way after a first sweep: whether that did something, and whether another is needed
-  pub record Sweeping (did more : Bool) (l l′ : List ℕ) : Type 0 where
+  -- on the way: whether a rank fell, and whether another sweep is needed
+  pub record Sweeping (fell more : Bool) (l l′ : List ℕ) : Type 0 where
     pub kept : (goal : ℕ) → KeptFor G most safe goal l → KeptFor G most safe goal l′
     pub rests : more ≡ false → RestsBelow G most safe x (G .structure .states) l′
     pub changed : ChangedAt G x l l′
-    pub lower : sum l′ ≤ sum l
-    pub quiet : did ≡ false → (l′ ≡ l) × (more ≡ false)
+    pub falls : fell ≡ true → sum l′ < sum l
+    pub quiet : fell ≡ false → l′ ≡ l
 
   abbrev SweptAll : Bool → List ℕ → List ℕ → Type 0
   SweptAll = Swept G most safe x (RestsBelow G most safe x (G .structure .states))
@@ -101,30 +101,41 @@ module _ (G : Arena) (most : Bool) (safe x : ℕ) where
   rests-after : (did : Bool) (l l′ : List ℕ) → SweptAll did l l′ → did ≡ false → RestsBelow G most safe x (G .structure .states) l′
   rests-after did l l′ one e = let (same, rest) = one .quiet e in subst (RestsBelow G most safe x (G .structure .states)) (sym same) rest
 
-  pub sweeping-first : (did : Bool) (l l′ : List ℕ) → SweptAll did l l′ → Sweeping did did l′ l′
-  sweeping-first did l l′ one = record { kept = λ goal kept. kept; rests = rests-after did l l′ one; changed = unchanged G x l′; lower = omega arith; quiet = λ e. (refl, e) }
+  pub sweeping-none : (l : List ℕ) → Sweeping false true l l
+  sweeping-none l = record {
+    kept = λ goal kept. kept;
+    rests = λ e. let z : _≡_ {A = ℕ} 0 1 = cc in absurd (omega arith);
+    changed = unchanged G x l;
+    falls = λ e. let z : _≡_ {A = ℕ} 0 1 = cc in absurd (omega arith);
+    quiet = λ _. refl;
+  }
 
-  -- the sum does not rise
-  no-more : (did : Bool) (l l′ : List ℕ) → SweptAll did l l′ → sum l′ ≤ sum l
-  no-more true l l′ one = omega (arith, one .falls refl)
-  no-more false l l′ one = omega (arith, ap sum (one .quiet refl .0))
-
-  pub sweeping-next : (first did : Bool) (l l′ l″ : List ℕ) → Sweeping first true l l′ → SweptAll did l′ l″ → Sweeping first did l l″
-  sweeping-next first did l l′ l″ before one = record {
+  pub sweeping-next : (fell more did : Bool) (l l′ l″ : List ℕ) → Sweeping fell more l l′ → SweptAll did l′ l″ → Sweeping (cond did true fell) did l l″
+  sweeping-next fell more did l l′ l″ before one = record {
     kept = λ goal kept. one .kept goal (before .kept goal kept);
     rests = rests-after did l′ l″ one;
     changed = changed-both G x l l′ l″ (before .changed) (one .changed);
-    lower = omega (arith, before .lower, no-more did l′ l″ one);
-    quiet = λ e. let (_, more) = before .quiet e in let z : _≡_ {A = ℕ} 0 1 = cc in absurd (omega arith);
+    falls = falls fell did before one;
+    quiet = quiet did one;
   }
+    where
+      falls : (fell did : Bool) → Sweeping fell more l l′ → SweptAll did l′ l″ → cond did true fell ≡ true → sum l″ < sum l
+      falls true true before one e = omega (arith, before .falls refl, one .falls refl)
+      falls false true before one e = omega (arith, one .falls refl, ap sum (before .quiet refl))
+      falls true false before one e = omega (arith, before .falls refl, ap sum (one .quiet refl .0))
+      falls false false before one e = let z : _≡_ {A = ℕ} 0 1 = cc in absurd (omega arith)
 
-  pub sweeping-done : (did : Bool) (l l′ l″ : List ℕ) → SweptAll did l l′ → Sweeping did false l′ l″ → PlaceSettled G most safe x did l l″
-  sweeping-done did l l′ l″ one done = record {
-    kept = λ goal kept. done .kept goal (one .kept goal kept);
+      quiet : (did : Bool) → SweptAll did l′ l″ → cond did true fell ≡ false → l″ ≡ l
+      quiet true one e = let z : _≡_ {A = ℕ} 0 1 = cc in absurd (omega arith)
+      quiet false one e = one .quiet refl .0 ∙ before .quiet e
+
+  pub sweeping-done : (fell : Bool) (l l′ : List ℕ) → Sweeping fell false l l′ → PlaceSettled G most safe x fell l l′
+  sweeping-done fell l l′ done = record {
+    kept = done .kept;
     rests = done .rests refl;
-    changed = changed-both G x l l′ l″ (one .changed) (done .changed);
-    falls = λ e. omega (arith, one .falls e, done .lower);
-    quiet = λ e. done .quiet e .0 ∙ one .quiet e .0;
+    changed = done .changed;
+    falls = done .falls;
+    quiet = done .quiet;
   }
 
   -- a sweep that did something lowered the sum; one that did nothing is the last

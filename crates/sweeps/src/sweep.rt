@@ -96,14 +96,17 @@ pub fn settle_place(
     requires { ⌜ (row .into ≡ false) × (x < row .places) ⌝ }
     ensures { λ r. ⌜ PlaceSettled (arenaOf (now (block .entry)) (row .index)) (side .most) (side .safe) x r (now (ranks .entry)) (now (ranks .exit)) ⌝ }
 {
-    let did = sweep(block, row, side, ways, x, false, ranks);
-    let mut back = true;
-    let mut more = did;
+    let mut fell = false;
+    let mut back = false;
+    let mut more = true;
     while more {
         more = sweep(block, row, side, ways, x, back, ranks);
+        if more {
+            fell = true;
+        }
         back = !back;
     }
-    did
+    fell
 }
 
 // Settles one stock place after another, from those with the least stock on: enough where no move gives.
