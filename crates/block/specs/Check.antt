@@ -33,12 +33,19 @@ BadActions b s a = Outside 1 maxActions (count b s a) ⊎ Some (count b s a) (λ
 abbrev pub BadState : Block → ℕ → Type 0
 BadState b s = BitFrom (propositions b) (mask b s) ⊎ Some (agents b) (BadActions b s)
 
--- 13: in some state, a charge on a max resource by an action that an agent has
+-- in some state, a charge on a resource of this kind by an action that an agent has
+abbrev pub ChargeOn : ℕ → Block → ℕ → ℕ → ℕ → ℕ → Type 0
+ChargeOn kind b s a k j = (resourceKind b j ≡ kind) × (chargeByte ≤ cost b s a k j)
+
+abbrev pub ChargesOn : ℕ → Block → ℕ → Type 0
+ChargesOn kind b s = Some (agents b) (λ a. Some (count b s a) (λ k. Some (resources b) (λ j. ChargeOn kind b s a k j)))
+
+-- 13: on a max resource
 abbrev pub BadCharge : Block → ℕ → ℕ → ℕ → ℕ → Type 0
-BadCharge b s a k j = (resourceKind b j ≡ maxKind) × (chargeByte ≤ cost b s a k j)
+BadCharge = ChargeOn maxKind
 
 abbrev pub BadCharges : Block → ℕ → Type 0
-BadCharges b s = Some (agents b) (λ a. Some (count b s a) (λ k. Some (resources b) (λ j. BadCharge b s a k j)))
+BadCharges = ChargesOn maxKind
 
 -- 4: in some state, an available joint action whose next state is at or above M
 abbrev pub BadNext : Block → ℕ → ℕ → Type 0

@@ -7,4 +7,5 @@ pub mod Tables
 pub mod More
 pub mod Labels
 pub mod Tests
+pub mod Uncharged
 pub mod Rowwise

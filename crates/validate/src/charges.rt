@@ -1,72 +1,72 @@
-// Number 13: charges on max resources.
+// Charges on resources of a kind: on max resources they are number 13.
 use block::layout;
 ghost use Prim.Native.Nat.{_<_};
 ghost use Rattle.block.specs.Decide.{Some};
 ghost use Rattle.block.specs.Inner.Tests.{Decides};
 ghost use Rattle.block.specs.Layout.{maxStates, maxAgents, maxActions, maxResources, resources, agents, states, count};
-ghost use Rattle.block.specs.Check.{BadCharge, BadCharges};
+ghost use Rattle.block.specs.Check.{ChargeOn, ChargesOn};
 ghost use Rattle.block.specs.Inner.Valid.{Sized, Counted};
 
-fn charge_bad(block: &[u8], s: usize, a: usize, k: usize, j: usize) -> bool
+fn charge_on(block: &[u8], kind: usize, s: usize, a: usize, k: usize, j: usize) -> bool
     requires { ⌜ Sized (now block) ⌝ }
     requires { ⌜ (s < maxStates) × (a < maxAgents) × (k < maxActions) × (j < maxResources) ⌝ }
-    ensures { λ r. ⌜ Decides (BadCharge (now (block .entry)) s a k j) r ⌝ }
+    ensures { λ r. ⌜ Decides (ChargeOn kind (now (block .entry)) s a k j) r ⌝ }
 {
-    if layout::resource_kind(block, j) != layout::MAX_KIND {
+    if layout::resource_kind(block, j) != kind {
         return false;
     }
     layout::CHARGE_BYTE <= layout::cost_byte(block, s, a, k, j)
 }
 
-fn action_bad(block: &[u8], s: usize, a: usize, k: usize) -> bool
+fn action_on(block: &[u8], kind: usize, s: usize, a: usize, k: usize) -> bool
     requires { ⌜ Sized (now block) ⌝ }
     requires { ⌜ (s < maxStates) × (a < maxAgents) × (k < maxActions) ⌝ }
-    ensures { λ r. ⌜ Decides (Some (resources (now (block .entry))) (BadCharge (now (block .entry)) s a k)) r ⌝ }
+    ensures { λ r. ⌜ Decides (Some (resources (now (block .entry))) (ChargeOn kind (now (block .entry)) s a k)) r ⌝ }
 {
     let n = layout::resources(block);
     for j in 0..n {
-        if charge_bad(block, s, a, k, j) {
+        if charge_on(block, kind, s, a, k, j) {
             return true;
         }
     }
     false
 }
 
-fn actions_bad(block: &[u8], s: usize, a: usize) -> bool
+fn actions_on(block: &[u8], kind: usize, s: usize, a: usize) -> bool
     requires { ⌜ Sized (now block) × Counted (now block) ⌝ }
     requires { ⌜ (s < states (now block)) × (a < agents (now block)) ⌝ }
-    ensures { λ r. ⌜ Decides (Some (count (now (block .entry)) s a) (λ k. Some (resources (now (block .entry))) (BadCharge (now (block .entry)) s a k))) r ⌝ }
+    ensures { λ r. ⌜ Decides (Some (count (now (block .entry)) s a) (λ k. Some (resources (now (block .entry))) (ChargeOn kind (now (block .entry)) s a k))) r ⌝ }
 {
     let n = layout::count(block, s, a);
     for k in 0..n {
-        if action_bad(block, s, a, k) {
+        if action_on(block, kind, s, a, k) {
             return true;
         }
     }
     false
 }
 
-fn state_bad(block: &[u8], s: usize) -> bool
+fn state_on(block: &[u8], kind: usize, s: usize) -> bool
     requires { ⌜ Sized (now block) × Counted (now block) ⌝ }
     requires { ⌜ s < states (now block) ⌝ }
-    ensures { λ r. ⌜ Decides (BadCharges (now (block .entry)) s) r ⌝ }
+    ensures { λ r. ⌜ Decides (ChargesOn kind (now (block .entry)) s) r ⌝ }
 {
     let n = layout::agents(block);
     for a in 0..n {
-        if actions_bad(block, s, a) {
+        if actions_on(block, kind, s, a) {
             return true;
         }
     }
     false
 }
 
-pub fn bad(block: &[u8]) -> bool
+pub fn any(block: &[u8], kind: usize) -> bool
     requires { ⌜ Sized (now block) × Counted (now block) ⌝ }
-    ensures { λ r. ⌜ Decides (Some (states (now (block .entry))) (BadCharges (now (block .entry)))) r ⌝ }
+    ensures { λ r. ⌜ Decides (Some (states (now (block .entry))) (ChargesOn kind (now (block .entry)))) r ⌝ }
 {
     let n = layout::states(block);
     for s in 0..n {
-        if state_bad(block, s) {
+        if state_on(block, kind, s) {
             return true;
         }
     }

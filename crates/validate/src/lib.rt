@@ -1,6 +1,6 @@
 // The check of a block: document 01's numbers 1 to 6, and 13.
 mod bits;
-mod charges;
+pub mod charges;
 mod nexts;
 mod rows;
 mod sizes;
@@ -25,7 +25,7 @@ pub fn check(block: &[u8]) -> Answer
     if states::bad(block) {
         return Answer::Refused(Refusal::State);
     }
-    if charges::bad(block) {
+    if charges::any(block, layout::MAX_KIND) {
         return Answer::Refused(Refusal::Charge);
     }
     if nexts::bad(block) {

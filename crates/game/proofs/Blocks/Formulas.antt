@@ -1,5 +1,5 @@
 -- The rows of a block: what each kind of row says in terms of lower rows, and for a strategic row that it is true exactly
--- where the coalition wins: with its own bounds at full stock, with others at the position that has them for stocks. Assumes nothing.
+-- where the coalition wins: with its own bounds at full stock, with others at a position for whose stock they serve. Assumes nothing.
 use mathlib.Core.Bool.{Bool, cond}
 use mathlib.Core.Logic.{_↔_, inl, inr}
 use mathlib.Core.Path.{_≡_, sym, _∙_, ap, ap₂, subst₂}
@@ -13,11 +13,11 @@ use Rattle.block.specs.Layout.{Block, Strategic}
 use Rattle.block.specs.Inner.Valid.{RowFits}
 use Rattle.game.specs.Rbatl as R
 use Rattle.game.specs.Rbatl.{Bounds, Formula, Sat, Can}
-use Rattle.game.specs.Position.{full}
+use Rattle.game.specs.Position.{Position, IsPosition, full}
 use Rattle.game.specs.Play as P
 use Rattle.game.specs.Play.{Objective, True, CoalitionWins}
 use Rattle.game.specs.Model.{structureOf, coalitionOf, boundsOf, byKind, formulaWith, formulasBelow, formulaOf, RowTrue, RowTrueWith, arenaOf, objectiveOf}
-use Rattle.game.proofs.Bridge.Truth.{can-enforces}
+use Rattle.game.proofs.Bridge.Truth.{ServesFor, full-fits, full-serves, can-enforces}
 use Rattle.game.proofs.Bridge.Proper.{Proper}
 
 -- the formulas below row i are those of their own rows
@@ -82,22 +82,26 @@ module _ (b : Block) (proper : Proper (structureOf b)) (i : ℕ) (row : RowFits 
   pub until-objective : L.kind b i ≡ L.untilKind → objectiveOf b i ≡ P.until (RowTrue b (L.left b i)) (RowTrue b (L.right b i))
   until-objective e = ap asksFor e
 
-  -- a strategic row is true exactly where the coalition wins at full stock
+  -- a strategic row with bounds that serve for a position's stock is true exactly where the coalition wins there
   module _ (strategic : Strategic (L.kind b i)) where
-    pub row-wins : (q : ℕ) → q < L.states b → RowTrue b i q ↔ CoalitionWins (arenaOf b i) (objectiveOf b i) (full (arenaOf b i) q)
-    row-wins q l = go (ℕ-discrete (L.kind b i) L.nextKind) (ℕ-discrete (L.kind b i) L.alwaysKind)
+    pub with-wins : (p : Position) → IsPosition (arenaOf b i) p → (bounds : Bounds) → ServesFor (arenaOf b i) p bounds → RowTrueWith b i bounds (p .state) ↔ CoalitionWins (arenaOf b i) (objectiveOf b i) p
+    with-wins p fits bounds serves = go (ℕ-discrete (L.kind b i) L.nextKind) (ℕ-discrete (L.kind b i) L.alwaysKind)
       where
-        wins : (φ : Formula) (t : Objective) → formulaOf b i ≡ φ → objectiveOf b i ≡ t
-            → (Sat (structureOf b) φ q ↔ CoalitionWins (arenaOf b i) t (full (arenaOf b i) q))
-            → RowTrue b i q ↔ CoalitionWins (arenaOf b i) (objectiveOf b i) (full (arenaOf b i) q)
-        wins φ t formula objective = subst₂ (λ (φ : Formula) (t : Objective). Sat (structureOf b) φ q ↔ CoalitionWins (arenaOf b i) t (full (arenaOf b i) q)) (sym formula) (sym objective)
+        wins : (φ : Formula) (t : Objective) → formulaWith b i bounds (formulasBelow b i) ≡ φ → objectiveOf b i ≡ t
+            → (Sat (structureOf b) φ (p .state) ↔ CoalitionWins (arenaOf b i) t p)
+            → RowTrueWith b i bounds (p .state) ↔ CoalitionWins (arenaOf b i) (objectiveOf b i) p
+        wins φ t formula objective = subst₂ (λ (φ : Formula) (t : Objective). Sat (structureOf b) φ (p .state) ↔ CoalitionWins (arenaOf b i) t p) (sym formula) (sym objective)
 
-        at : (t : Objective) → Can (structureOf b) (coalitionOf b i) (boundsOf b i) (True t) q ↔ CoalitionWins (arenaOf b i) t (full (arenaOf b i) q)
-        at t = can-enforces (arenaOf b i) proper (True t) q l
+        at : (t : Objective) → Can (structureOf b) (coalitionOf b i) bounds (True t) (p .state) ↔ CoalitionWins (arenaOf b i) t p
+        at t = can-enforces (arenaOf b i) proper (True t) p fits bounds serves
 
-        go : Dec (L.kind b i ≡ L.nextKind) → Dec (L.kind b i ≡ L.alwaysKind) → RowTrue b i q ↔ CoalitionWins (arenaOf b i) (objectiveOf b i) (full (arenaOf b i) q)
-        go (yes e) _ = wins _ _ (next-formula (boundsOf b i) e) (next-objective e) (at (P.next (RowTrue b (L.left b i))))
-        go (no _) (yes e) = wins _ _ (always-formula (boundsOf b i) e) (always-objective e) (at (P.always (RowTrue b (L.left b i))))
+        go : Dec (L.kind b i ≡ L.nextKind) → Dec (L.kind b i ≡ L.alwaysKind) → RowTrueWith b i bounds (p .state) ↔ CoalitionWins (arenaOf b i) (objectiveOf b i) p
+        go (yes e) _ = wins _ _ (next-formula bounds e) (next-objective e) (at (P.next (RowTrue b (L.left b i))))
+        go (no _) (yes e) = wins _ _ (always-formula bounds e) (always-objective e) (at (P.always (RowTrue b (L.left b i))))
         go (no ne) (no na) =
             let e : L.kind b i ≡ L.untilKind = omega arith in
-            wins _ _ (until-formula (boundsOf b i) e) (until-objective e) (at (P.until (RowTrue b (L.left b i)) (RowTrue b (L.right b i))))
+            wins _ _ (until-formula bounds e) (until-objective e) (at (P.until (RowTrue b (L.left b i)) (RowTrue b (L.right b i))))
+
+    -- and with its own bounds at full stock
+    pub row-wins : (q : ℕ) → q < L.states b → RowTrue b i q ↔ CoalitionWins (arenaOf b i) (objectiveOf b i) (full (arenaOf b i) q)
+    row-wins q l = with-wins (full (arenaOf b i) q) (full-fits (arenaOf b i) q l) (boundsOf b i) (full-serves (arenaOf b i) q)

@@ -45,7 +45,6 @@ module _ (b : Block) (valid : Valid b) where
     few-agents = valid .sized .agents-fit .1;
     acts = λ q a l h. (valid .counted q a l h .0, valid .counted q a l h .1);
     idle-free = λ q a r l h lr. ap L.taken (valid .idle-free q a r l h lr);
-    idle-gives-nothing = λ q a r l h lr. ap L.given (valid .idle-free q a r l h lr);
     nothing-combined = λ r. combine-none (L.resourceKind b r);
     next-fits = λ q m l available. valid .next-fits q (joint (L.agents b) m) l (joint-available q m l available);
     next-agrees = λ q m m′ same. ap (L.next b q) (joint-cong (L.agents b) m m′ same);

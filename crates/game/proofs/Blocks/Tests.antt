@@ -41,7 +41,6 @@ module _ (b : Block) where
         few-agents = tests .0;
         acts = λ q a l h. tests .1 q l .0 a h;
         idle-free = λ q a r l h lr. ap L.taken (tests .1 q l .1 .0 a h r lr);
-        idle-gives-nothing = λ q a r l h lr. ap L.given (tests .1 q l .1 .0 a h r lr);
         nothing-combined = λ r. combine-none (L.resourceKind b r);
         next-fits = λ q m l available. tests .1 q l .1 .1 (joint (L.agents b) m) (joint-below (L.agents b) m (λ a h. omega (arith, available a h, tests .1 q l .0 a h)));
         next-agrees = λ q m m′ same. ap (L.next b q) (joint-cong (L.agents b) m m′ same);

@@ -83,9 +83,6 @@ module _ (S : Structure) (proper : Proper S) where
       go true h before = omega (arith, h tt)
       go false h before = omega arith
 
-  pub idle-charges-nothing : (A : Coalition) (q r : ℕ) → q < S .states → r < S .resources → moveCharge S A q (digit 0) r ≡ 0
-  idle-charges-nothing A q r l lr = sum-nothing A _ (S .agents) (λ a la _. rw (digit-idle a) (proper .idle-gives-nothing q a r l la lr))
-
   module _ (A : Coalition) (q : ℕ) where
     -- a move and a reply are the number of one joint action
     module _ (m r : ℕ) (move : MoveOf S A q m) (reply : MoveOf S (opponents A) q r) where

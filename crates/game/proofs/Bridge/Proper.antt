@@ -8,7 +8,6 @@ pub record Proper (S : Structure) : Type 0 where
   pub few-agents : S .agents ≤ 3
   pub acts : (q a : ℕ) → q < S .states → a < S .agents → (1 ≤ S .actions q a) × (S .actions q a ≤ 4)
   pub idle-free : (q a r : ℕ) → q < S .states → a < S .agents → r < S .resources → S .cost q a 0 r ≡ 0
-  pub idle-gives-nothing : (q a r : ℕ) → q < S .states → a < S .agents → r < S .resources → S .charge q a 0 r ≡ 0
   pub nothing-combined : (r : ℕ) → S .combine r 0 0 ≡ 0
   pub next-fits : (q : ℕ) (m : Joint) → q < S .states → Available S q m → S .next q m < S .states
   pub next-agrees : (q : ℕ) (m m′ : Joint) → ((a : ℕ) → a < S .agents → m a ≡ m′ a) → S .next q m ≡ S .next q m′
