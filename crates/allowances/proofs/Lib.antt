@@ -2,5 +2,6 @@
 pub mod Stairs
 pub mod Pairing
 pub mod Putting
+pub mod Tabling
 pub mod Filling
 pub mod Calls

@@ -122,7 +122,7 @@ module _ {b : Block} {a : Asked} (ask : Asking b a) where
         same : L.states b′ ≡ L.states b
         same = same-states (ask .valid) (ask .inside) (put .only)
 
-    put-lower : LowerTold b′ i (a .left) (a .right)
+    pub put-lower : LowerTold b′ i (a .left) (a .right)
     put-lower =
         let fits = ask .valid .row-fits i (ask .inside) in
         record {

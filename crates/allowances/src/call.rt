@@ -1,6 +1,5 @@
 // The smallest allowances for a state, in a lent list of 32 bytes.
 use crate::pairs;
-use crate::pairs::Asked;
 use block::fill;
 use block::layout;
 use block::refusal::Answer;
@@ -34,7 +33,7 @@ fn turned_down(block: &[u8], i: usize, s: usize, list: usize, room: usize) -> An
     admit::state(block, i, s)
 }
 
-// Lists them. The rows below are labelled once; the row itself is solved with other bounds in a copy of the job.
+// Lists them. The rows below are labelled once; the row itself is solved with other bounds in a copy of the job, once where nothing charges.
 fn find(block: &[u8], i: usize, s: usize, list: &mut [u8], room: &mut [u8]) -> usize
     requires { ⌜ Valid (now block) ⌝ }
     requires { ⌜ (i < L.rows (now block)) × L.Strategic (L.kind (now block) i) × (s < L.states (now block)) ⌝ }
@@ -43,13 +42,8 @@ fn find(block: &[u8], i: usize, s: usize, list: &mut [u8], room: &mut [u8]) -> u
 {
     let mut ways = [0u8; lines::WAYS_BYTES];
     let lower = ready::lower_sets(block, i, &mut ways, room);
-    let ask = Asked {
-        row: i,
-        state: s,
-        left: lower.left,
-        right: lower.right,
-    };
     let mut copy = [0u8; layout::BLOCK_BYTES];
+    let ask = pairs::made_ready(block, i, s, lower, &mut copy, &mut ways, room);
     fill::zeros(list, 0);
     pairs::list_pairs(block, ask, list, &mut copy, &mut ways, room)
 }

@@ -2,9 +2,11 @@
 use crate::bounds;
 use block::layout;
 use choice::kinds;
+use solver::ready::Lower;
 use solver::rows;
 use turns::buffers;
 use turns::positions;
+use validate::charges;
 ghost use mathlib.Core.Path.{_≡_};
 ghost use Prim.Native.Nat.{ℕ, _+_, _*_, _≤_, _<_};
 ghost use lib.ListN.{length, set, replicate};
@@ -14,15 +16,17 @@ ghost use Rattle.block.specs.Layout as L;
 ghost use Rattle.allowances.specs.Allowances.{Shows, allowancesBytes, AllowancesIn};
 ghost use Rattle.turns.specs.Sizes.{roomBytes};
 ghost use Rattle.ways.specs.Lines.{waysBytes};
-ghost use Rattle.allowances.specs.Inner.Asked.{Asking};
-ghost use Rattle.allowances.specs.Inner.Pairs.{Enough, Spans, FirstEnough};
+ghost use Rattle.solver.specs.Inner.Labels.{LowerTold};
+ghost use Rattle.allowances.specs.Inner.Asked.{Asking, Tabled, Lent};
+ghost use Rattle.allowances.specs.Inner.Pairs.{Enough, Spans, stockOf, FirstEnough};
 
-// A state of a row, and the sets of the rows that it names.
+// A state of a row, and the sets of the rows that it names; and whether one table tells of all pairs.
 pub struct Asked {
     pub row: usize,
     pub state: usize,
     pub left: usize,
     pub right: usize,
+    pub once: bool,
 }
 
 // The numbers that are tried for a resource, from the first below the end.
@@ -52,9 +56,30 @@ fn tried(block: &[u8], i: usize, j: usize) -> Range
     }
 }
 
-// Whether the row is true in the state with x and y for its bounds: those of a copy, which is solved. A stock left under other bounds tells
-// nothing, since a bound is also what a charge fills up to.
-fn enough(
+// The stock that stands for an allowance: where it is unlimited, 0.
+fn stock(n: usize) -> u8
+    requires { ⌜ n < 256 ⌝ }
+    ensures { λ r. ⌜ r ≡ stockOf n ⌝ }
+{
+    if n == layout::UNLIMITED {
+        return 0;
+    }
+    n as u8
+}
+
+// Whether the row is true in the state with x and y for its bounds, by the rank of the position with these stocks.
+fn told(block: &[u8], ask: Asked, x: usize, y: usize, copy: &[u8], ranks: &[u8]) -> bool
+    requires { ⌜ Asking (now block) ask × Tabled (now block) ask (now copy) (now ranks) × (length (now ranks) ≡ roomBytes) ⌝ }
+    requires { ⌜ Shows (now block) (ask .row) 0 x × Shows (now block) (ask .row) 1 y ⌝ }
+    ensures { λ r. ⌜ Decides (Enough (now (block .entry)) (ask .row) (ask .state) x y) r ⌝ }
+{
+    let stocks = [stock(x), stock(y)];
+    let p = positions::number(copy, ask.row, ask.state, &stocks);
+    kinds::claims(layout::kind(copy, ask.row), buffers::rank_at(ranks, p))
+}
+
+// Whether the row is true in the state with x and y for its bounds: those of a copy, which is solved.
+fn solved(
     block: &[u8],
     ask: Asked,
     x: usize,
@@ -75,6 +100,29 @@ fn enough(
     kinds::claims(layout::kind(copy, ask.row), buffers::rank_at(ranks, p))
 }
 
+// Whether the row is true in the state with x and y for its bounds. Where an action charges, a stock left under other bounds tells nothing,
+// since a bound is also what a charge fills up to.
+fn enough(
+    block: &[u8],
+    ask: Asked,
+    x: usize,
+    y: usize,
+    copy: &mut [u8],
+    ways: &mut [u8],
+    ranks: &mut [u8],
+) -> bool
+    requires { ⌜ Asking (now block) ask ⌝ }
+    requires { ⌜ Shows (now block) (ask .row) 0 x × Shows (now block) (ask .row) 1 y ⌝ }
+    requires { ⌜ Lent (now block) ask (now copy) (now ways) (now ranks) ⌝ }
+    ensures { λ r. ⌜ Decides (Enough (now (block .entry)) (ask .row) (ask .state) x y) r ⌝ }
+    ensures { λ _. ⌜ Lent (now (block .entry)) ask (now (copy .exit)) (now (ways .exit)) (now (ranks .exit)) ⌝ }
+{
+    if ask.once {
+        return told(block, ask, x, y, copy, ranks);
+    }
+    solved(block, ask, x, y, copy, ways, ranks)
+}
+
 // The smallest number of the range for resource 1 that is enough beside x for resource 0; the end where there is none. From the end downwards,
 // as far as numbers are enough: more is never worse.
 fn first_enough(
@@ -88,9 +136,9 @@ fn first_enough(
 ) -> usize
     requires { ⌜ Asking (now block) ask ⌝ }
     requires { ⌜ Shows (now block) (ask .row) 0 x × (range .first ≤ range .end) × ((y : ℕ) → range .first ≤ y → y < range .end → Shows (now block) (ask .row) 1 y) ⌝ }
-    requires { ⌜ (length (now copy) ≡ L.blockBytes) × (length (now ways) ≡ waysBytes) × (length (now ranks) ≡ roomBytes) ⌝ }
+    requires { ⌜ Lent (now block) ask (now copy) (now ways) (now ranks) ⌝ }
     ensures { λ r. ⌜ FirstEnough (now (block .entry)) (ask .row) (ask .state) x (range .first) (range .end) r ⌝ }
-    ensures { λ _. ⌜ (length (now (copy .exit)) ≡ L.blockBytes) × (length (now (ways .exit)) ≡ waysBytes) × (length (now (ranks .exit)) ≡ roomBytes) ⌝ }
+    ensures { λ _. ⌜ Lent (now (block .entry)) ask (now (copy .exit)) (now (ways .exit)) (now (ranks .exit)) ⌝ }
 {
     let first = range.first;
     let mut y = range.end;
@@ -101,6 +149,37 @@ fn first_enough(
         y -= 1;
     }
     y
+}
+
+// What is asked for, made ready: where nothing charges, the row is solved once, with the largest bounds.
+pub fn made_ready(
+    block: &[u8],
+    i: usize,
+    s: usize,
+    lower: Lower,
+    copy: &mut [u8],
+    ways: &mut [u8],
+    ranks: &mut [u8],
+) -> Asked
+    requires { ⌜ Valid (now block) ⌝ }
+    requires { ⌜ (i < L.rows (now block)) × L.Strategic (L.kind (now block) i) × (s < L.states (now block)) × LowerTold (now block) i (lower .left) (lower .right) ⌝ }
+    requires { ⌜ (length (now copy) ≡ L.blockBytes) × (length (now ways) ≡ waysBytes) × (length (now ranks) ≡ roomBytes) ⌝ }
+    ensures { λ r. ⌜ Asking (now (block .entry)) r × (r .row ≡ i) × (r .state ≡ s) × Lent (now (block .entry)) r (now (copy .exit)) (now (ways .exit)) (now (ranks .exit)) ⌝ }
+{
+    let xs = tried(block, i, 0);
+    let ys = tried(block, i, 1);
+    bounds::put_copy(block, i, xs.end - 1, ys.end - 1, copy);
+    let once = !charges::any(copy, layout::SUM_KIND);
+    if once {
+        rows::rank_row(copy, i, lower.left, lower.right, ways, ranks);
+    }
+    Asked {
+        row: i,
+        state: s,
+        left: lower.left,
+        right: lower.right,
+        once: once,
+    }
 }
 
 // Stores the allowance x, y as the k-th of the list.
@@ -124,9 +203,9 @@ pub fn list_pairs(
 ) -> usize
     requires { ⌜ Asking (now block) ask ⌝ }
     requires { ⌜ now list ≡ replicate allowancesBytes 0 ⌝ }
-    requires { ⌜ (length (now copy) ≡ L.blockBytes) × (length (now ways) ≡ waysBytes) × (length (now ranks) ≡ roomBytes) ⌝ }
+    requires { ⌜ Lent (now block) ask (now copy) (now ways) (now ranks) ⌝ }
     ensures { λ r. ⌜ AllowancesIn (now (block .entry)) (ask .row) (ask .state) (now (list .exit)) r ⌝ }
-    ensures { λ _. ⌜ (length (now (copy .exit)) ≡ L.blockBytes) × (length (now (ways .exit)) ≡ waysBytes) × (length (now (ranks .exit)) ≡ roomBytes) ⌝ }
+    ensures { λ _. ⌜ Lent (now (block .entry)) ask (now (copy .exit)) (now (ways .exit)) (now (ranks .exit)) ⌝ }
 {
     let xs = tried(block, ask.row, 0);
     let ys = tried(block, ask.row, 1);

@@ -1,7 +1,9 @@
 -- Allowances as pairs of numbers, and which of them are tried.
+use mathlib.Core.Bool.{cond}
 use mathlib.Core.List.{[], _∷_}
 use mathlib.Core.Logic.{_↔_}
 use Prim.Native.Nat.{ℕ, _+_, _≤_, _<_}
+use lib.Dec.{eqb}
 use lib.ListN.{getD}
 use Rattle.block.specs.Layout as L
 use Rattle.block.specs.Layout.{Block}
@@ -21,6 +23,10 @@ pub record Spans (b : Block) (i j first end : ℕ) : Type 0 where
   pub some : first < end
   pub few : end ≤ first + maxAllowances
   pub bytes : end ≤ 256
+
+-- the stock that stands for an allowance
+abbrev pub stockOf : ℕ → ℕ
+stockOf n = cond (eqb n L.unlimited) 0 n
 
 -- r is the first number from `first` below `end` that is enough beside x, and `end` where there is none
 pub record FirstEnough (b : Block) (i q x first end r : ℕ) : Type 0 where

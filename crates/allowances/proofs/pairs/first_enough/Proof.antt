@@ -6,16 +6,15 @@ use lib.ListN.{length}
 use borrow.Author.Tests.{not-true, not-false}
 use Rattle.block.specs.Layout as L
 use Rattle.block.proofs.Decide as D
-use Rattle.turns.specs.Sizes.{roomBytes}
-use Rattle.ways.specs.Lines.{waysBytes}
 use Rattle.allowances.specs.Inner.Pairs.{Enough}
 use Rattle.allowances.proofs.Putting.{enough-more}
+use Rattle.allowances.specs.Inner.Asked.{Lent}
 use Rattle.allowances.proofs.pairs.first_enough.Statement.{statement}
 use Rattle.allowances.proofs.pairs.first_enough.Tie as tie
 
 abbrev Inv-loop : tie.InvT-loop
 Inv-loop block ask x copy₀ ways₀ ranks₀ first y₀ copy ways ranks y =
-    ((first ≤ y) × (y ≤ y₀)) × (y < y₀ → Enough block (ask .row) (ask .state) x y) × ((length copy ≡ L.blockBytes) × (length ways ≡ waysBytes) × (length ranks ≡ roomBytes))
+    ((first ≤ y) × (y ≤ y₀)) × (y < y₀ → Enough block (ask .row) (ask .state) x y) × Lent block ask copy ways ranks
 
 abbrev μ-loop : tie.MeasureT-loop
 μ-loop block ask x copy₀ ways₀ ranks₀ first y₀ copy ways ranks y = y

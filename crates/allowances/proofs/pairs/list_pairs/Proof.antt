@@ -5,17 +5,16 @@ use Prim.Native.Nat.{ℕ, _-_, _≤_}
 use native.Mathlib.Omega.{arith}
 use lib.ListN.{length, length-replicate}
 use Rattle.block.specs.Layout as L
-use Rattle.turns.specs.Sizes.{roomBytes}
-use Rattle.ways.specs.Lines.{waysBytes}
 use Rattle.allowances.specs.Allowances.{allowancesBytes}
 use Rattle.allowances.proofs.Filling.{FilledTo, filled-none, filled-skip, filled-more, filled-as, filled-all}
+use Rattle.allowances.specs.Inner.Asked.{Lent}
 use Rattle.allowances.proofs.pairs.list_pairs.Statement.{statement}
 use Rattle.allowances.proofs.pairs.list_pairs.Tie as tie
 
 abbrev Inv-loop : tie.InvT-loop
 Inv-loop block ask list₀ copy₀ ways₀ ranks₀ ys n₀ end₀ x₀ x-end list copy ways ranks n end x =
     (x₀ ≤ x) × ((x ≤ x-end) × FilledTo block (ask .row) (ask .state) x₀ (ys .first) (ys .end) list n x end)
-    × ((length copy ≡ L.blockBytes) × (length ways ≡ waysBytes) × (length ranks ≡ roomBytes))
+    × Lent block ask copy ways ranks
 
 abbrev μ-loop : tie.MeasureT-loop
 μ-loop block ask list₀ copy₀ ways₀ ranks₀ ys n₀ end₀ x₀ x-end list copy ways ranks n end x = x-end - x
