@@ -77,7 +77,7 @@ fn is_final(most: bool, rank: usize, v: usize) -> bool
 }
 
 // The value of a position, whose rank is given, as far as it matters to that rank.
-fn value_by(
+pub fn value_at(
     block: &[u8],
     row: Row,
     ways: &[u8],
@@ -95,43 +95,17 @@ fn value_by(
     let n = lines::count(ways, spot.state, true);
     let mut v = first_value(most, rank);
     for k in 0..n {
-        v = offered(
-            block,
-            row,
-            ways,
-            ranks,
-            spot,
-            k,
-            Limit {
-                most: most,
-                rank: v,
-            },
-        );
-        if is_final(most, rank, v) {
-            return v;
+        let limit = Limit {
+            most: most,
+            rank: v,
+        };
+        let w = offered(block, row, ways, ranks, spot, k, limit);
+        if w != v {
+            if is_final(most, rank, w) {
+                return w;
+            }
+            v = w;
         }
     }
     v
-}
-
-// That value. Asks who attacks before the moves are gone through, since to ask at each of them takes a third of the time.
-pub fn value_at(
-    block: &[u8],
-    row: Row,
-    ways: &[u8],
-    ranks: &[u8],
-    spot: Spot,
-    most: bool,
-    rank: usize,
-) -> usize
-    requires { ⌜ Valid (now block) ⌝ }
-    requires { ⌜ Playable (now block) row × Listed (now block) row (now ways) × (roomBytes ≤ length (now ranks)) ⌝ }
-    requires { ⌜ (row .into ≡ false) × (spot .state < L.states (now block)) × (spot .place < row .places) ⌝ }
-    requires { ⌜ (rank ≡ rankIn (now ranks) (spot .state * row .places + spot .place)) × (0 < rank) × (rank < rankEnd) ⌝ }
-    ensures { λ v. ⌜ ((p : Position) → PlacedAt (arenaOf (now (block .entry)) (row .index)) (spot .state) (spot .place) p → Valued (arenaOf (now (block .entry)) (row .index)) most (rankIn (now (ranks .entry))) p v) × (v < rankEnd) ⌝ }
-{
-    if most {
-        return value_by(block, row, ways, ranks, spot, true, rank);
-    }
-    value_by(block, row, ways, ranks, spot, false, rank)
 }

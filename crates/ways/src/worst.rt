@@ -53,10 +53,13 @@ pub fn further(most: bool, a: usize, b: usize) -> usize
 pub fn beyond(most: bool, x: usize, v: usize) -> bool
     ensures { λ r. ⌜ Decides (Beyond most x v) r ⌝ }
 {
-    if most {
-        return x <= v;
+    if x == v {
+        return true;
     }
-    v <= x
+    if x < v {
+        return most;
+    }
+    !most
 }
 
 // The rank where the k-th reply to a move leads.
