@@ -39,8 +39,9 @@
  * Cost: rbatl_move and rbatl_reply solve the row anew at each call. For the moves
  * of up to 64 positions ask rbatl_worksheet, which solves it once, as
  * rbatl_rehearse does; for those of all positions fetch the row's table.
- * rbatl_allowances solves the row anew with each pair of bounds that it tries, some
- * thirty at most, since the stock left under one bound says nothing of another.
+ * rbatl_allowances solves the row once; where an action charges, anew with each pair
+ * of bounds that it tries, some thirty at most, since then the stock left under one
+ * bound says nothing of another.
  * rbatl_job.h reads all of these by name, as it does sets and blocks.
  *
  * Machine: x86-64 with the calling convention of System V, and no other.
