@@ -32,9 +32,9 @@
  * buffers. A buffer that all of them only read may be the same.
  *
  * Stack: any call takes at most RBATL_STACK_BYTES, and none allocates. As
- * bench/run measures it, in bytes: check 191, states_refusal 239, write 383, read
- * and read_at 3111, label 6417, table 6449, reply 6513, move and states 6529,
- * worksheet and rehearse 6593, allowances 8945, list 9137.
+ * bench/run measures it, in bytes: check 223, states_refusal 271, write 415, read
+ * and read_at 3143, label 7952, table 7968, reply 8032, move 8048, states 8064,
+ * rehearse 8112, worksheet 8128, allowances 10432, list 10672.
  *
  * Cost: rbatl_move and rbatl_reply solve the row anew at each call. For the moves
  * of up to 64 positions ask rbatl_worksheet, which solves it once, as
