@@ -1,10 +1,10 @@
-// Charges on resources of a kind: on max resources they are number 13.
+// Number 13: charges on max resources; and charges on resources of either kind.
 use block::layout;
 ghost use Prim.Native.Nat.{_<_};
 ghost use Rattle.block.specs.Decide.{Some};
 ghost use Rattle.block.specs.Inner.Tests.{Decides};
 ghost use Rattle.block.specs.Layout.{maxStates, maxAgents, maxActions, maxResources, resources, agents, states, count};
-ghost use Rattle.block.specs.Check.{ChargeOn, ChargesOn};
+ghost use Rattle.block.specs.Check.{ChargeOn, ChargesOn, BadCharges};
 ghost use Rattle.block.specs.Inner.Valid.{Sized, Counted};
 
 fn charge_on(block: &[u8], kind: usize, s: usize, a: usize, k: usize, j: usize) -> bool
@@ -71,4 +71,11 @@ pub fn any(block: &[u8], kind: usize) -> bool
         }
     }
     false
+}
+
+pub fn bad(block: &[u8]) -> bool
+    requires { ⌜ Sized (now block) × Counted (now block) ⌝ }
+    ensures { λ r. ⌜ Decides (Some (states (now (block .entry))) (BadCharges (now (block .entry)))) r ⌝ }
+{
+    any(block, layout::MAX_KIND)
 }

@@ -25,7 +25,7 @@ pub fn check(block: &[u8]) -> Answer
     if states::bad(block) {
         return Answer::Refused(Refusal::State);
     }
-    if charges::any(block, layout::MAX_KIND) {
+    if charges::bad(block) {
         return Answer::Refused(Refusal::Charge);
     }
     if nexts::bad(block) {

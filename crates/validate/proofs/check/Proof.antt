@@ -28,13 +28,13 @@ past-states : (c : tie.Else3) {a : Answer} → Answers (drop 3 (blockRules (byte
 past-states c f = past-sizes (c .before .before) (past (D.falsity (c .before .bad2 .ensures) (c .if3 .left)) f)
 
 past-charges : (c : tie.Else4) {a : Answer} → Answers (drop 4 (blockRules (bytes (c .before .before .before .before .before .before)))) NoValue a → Verdict (bytes (c .before .before .before .before .before .before)) a
-past-charges c f = past-states (c .before .before) (past (D.falsity (c .before .any .ensures) (c .if4 .left)) f)
+past-charges c f = past-states (c .before .before) (past (D.falsity (c .before .bad3 .ensures) (c .if4 .left)) f)
 
 past-nexts : (c : tie.Else5) {a : Answer} → Answers (drop 5 (blockRules (bytes (c .before .before .before .before .before .before .before .before)))) NoValue a → Verdict (bytes (c .before .before .before .before .before .before .before .before)) a
-past-nexts c f = past-charges (c .before .before) (past (D.falsity (c .before .bad3 .ensures) (c .if5 .left)) f)
+past-nexts c f = past-charges (c .before .before) (past (D.falsity (c .before .bad4 .ensures) (c .if5 .left)) f)
 
 past-rows : (c : tie.Else6) {a : Answer} → Answers (drop 6 (blockRules (bytes (c .before .before .before .before .before .before .before .before .before .before)))) NoValue a → Verdict (bytes (c .before .before .before .before .before .before .before .before .before .before)) a
-past-rows c f = past-nexts (c .before .before) (past (D.falsity (c .before .bad4 .ensures) (c .if6 .left)) f)
+past-rows c f = past-nexts (c .before .before) (past (D.falsity (c .before .bad5 .ensures) (c .if6 .left)) f)
 
 is-sized : (c : tie.Else2) → Sized (bytes (c .before .before))
 is-sized c = sized (c .before .before .if1 .left) (D.falsity (c .before .bad .ensures) (c .if2 .left))
@@ -57,32 +57,32 @@ bad-requires-2 c κs = is-sized c
 returns-3 : tie.Need-returns-3
 returns-3 c = past-sizes (c .before .before) (turned-down (D.truth (c .before .bad2 .ensures) (c .if3 .taken)))
 
-any-requires : tie.Need-any-requires
-any-requires c κs = let known = is-counted c in search needs
+bad-requires-3 : tie.Need-bad-requires-3
+bad-requires-3 c κs = let known = is-counted c in search needs
 
 returns-4 : tie.Need-returns-4
-returns-4 c = past-states (c .before .before) (turned-down (D.truth (c .before .any .ensures) (c .if4 .taken)))
-
-bad-requires-3 : tie.Need-bad-requires-3
-bad-requires-3 c κs = let known = is-counted (c .before .before) in search needs
-
-returns-5 : tie.Need-returns-5
-returns-5 c = past-charges (c .before .before) (turned-down (D.truth (c .before .bad3 .ensures) (c .if5 .taken)))
+returns-4 c = past-states (c .before .before) (turned-down (D.truth (c .before .bad3 .ensures) (c .if4 .taken)))
 
 bad-requires-4 : tie.Need-bad-requires-4
-bad-requires-4 c κs = let known = is-counted (c .before .before .before .before) in search needs
+bad-requires-4 c κs = let known = is-counted (c .before .before) in search needs
 
-returns-6 : tie.Need-returns-6
-returns-6 c = past-nexts (c .before .before) (turned-down (D.truth (c .before .bad4 .ensures) (c .if6 .taken)))
+returns-5 : tie.Need-returns-5
+returns-5 c = past-charges (c .before .before) (turned-down (D.truth (c .before .bad4 .ensures) (c .if5 .taken)))
 
 bad-requires-5 : tie.Need-bad-requires-5
-bad-requires-5 c κs = let known = is-counted (c .before .before .before .before .before .before) in search needs
+bad-requires-5 c κs = let known = is-counted (c .before .before .before .before) in search needs
+
+returns-6 : tie.Need-returns-6
+returns-6 c = past-nexts (c .before .before) (turned-down (D.truth (c .before .bad5 .ensures) (c .if6 .taken)))
+
+bad-requires-6 : tie.Need-bad-requires-6
+bad-requires-6 c κs = let known = is-counted (c .before .before .before .before .before .before) in search needs
 
 returns-7 : tie.Need-returns-7
-returns-7 c = past-rows (c .before .before) (turned-down (D.truth (c .before .bad5 .ensures) (c .if7 .taken)))
+returns-7 c = past-rows (c .before .before) (turned-down (D.truth (c .before .bad6 .ensures) (c .if7 .taken)))
 
 returns-8 : tie.Need-returns-8
-returns-8 c = past-rows (c .before .before) (past (D.falsity (c .before .bad5 .ensures) (c .if7 .left)) (answered refl))
+returns-8 c = past-rows (c .before .before) (past (D.falsity (c .before .bad6 .ensures) (c .if7 .left)) (answered refl))
 
 pub check-spec : {M : Type 1} → statement M
 check-spec =
@@ -93,12 +93,12 @@ check-spec =
     returns-2
     bad-requires-2
     returns-3
-    any-requires
-    returns-4
     bad-requires-3
-    returns-5
+    returns-4
     bad-requires-4
-    returns-6
+    returns-5
     bad-requires-5
+    returns-6
+    bad-requires-6
     returns-7
     returns-8)
