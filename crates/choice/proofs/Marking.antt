@@ -8,7 +8,7 @@ use Rattle.block.specs.Decide.{Bit}
 use Rattle.block.specs.Layout as L
 use Rattle.block.specs.Layout.{Block}
 use Rattle.block.specs.Inner.Valid.{Valid}
-use Rattle.game.specs.Position.{Arena, Position, Affordable, Allowed}
+use Rattle.game.specs.Position.{Arena, Position, Affordable, Allowed, Reply, outcome}
 use Rattle.game.specs.Inner.Facts.{CanForce, CanAnswer}
 use Rattle.game.specs.Model.{arenaOf}
 use Rattle.game.proofs.Numbers.Decide.{eq?}
@@ -19,7 +19,7 @@ use Rattle.ways.specs.Places.{PlacedAt}
 use Rattle.ways.specs.Rows.{Playable}
 use Rattle.ways.specs.declared.rows.Row.{Row}
 use Rattle.ways.proofs.Leading.{ever-allowed, move-here, free-allowed}
-use Rattle.choice.specs.Choices.{LastFree}
+use Rattle.choice.specs.Choices.{LastFree, GoodBy}
 use Rattle.choice.proofs.Moving.{into-aimed, aimed-into}
 use Rattle.choice.proofs.Searching.{line-none}
 
@@ -27,13 +27,20 @@ module _ (b : Block) (valid : Valid b) (row : Row) (playable : Playable b row) (
   abbrev G : Arena
   G = arenaOf b (row .index)
 
-  -- a listed move that the place pays forces the set
-  pub way-forces : (m : ℕ) → Useful b row s m → Affordable G p m → CanForce G p (λ y. Bit (row .set) (y .state))
-  way-forces m useful paid =
+  -- a listed move that the place pays leads into the set
+  paid-into : (m : ℕ) → Useful b row s m → Affordable G p m → Allowed G p m × ((r : ℕ) → Reply G p r → Bit (row .set) (outcome G p m r .state))
+  paid-into m useful paid =
       let allowed = move-here b valid row playable s x m p placed (useful .0 .0) paid in
-      (m, allowed, into-aimed b valid row s m p (placed .state) (allowed .0) (useful .1 soon))
+      (allowed, into-aimed b valid row s m p (placed .state) (allowed .0) (useful .1 soon))
 
-  -- so does the last one where it takes nothing, whatever the place
+  -- so it forces the set, and is good
+  pub way-forces : (m : ℕ) → Useful b row s m → Affordable G p m → CanForce G p (λ y. Bit (row .set) (y .state))
+  way-forces m useful paid = let (allowed, into) = paid-into m useful paid in (m, allowed, into)
+
+  pub paid-good : (ranks : List ℕ) (own m : ℕ) → Useful b row s m → Affordable G p m → GoodBy b row ranks 3 own p m
+  paid-good ranks own m useful paid = paid-into m useful paid
+
+  -- the last one forces it too where it takes nothing, whatever the place
   pub free-forces : (ways : List ℕ) → Listed b row ways → s < L.states b → LastFree ways s → CanForce G p (λ y. Bit (row .set) (y .state))
   free-forces ways listed state (some, nothing) =
       let k = countIn ways s true - 1 in

@@ -31,7 +31,8 @@ use Rattle.turns.specs.Buffers.{rankIn}
 use Rattle.choice.specs.Tables.{tableWith, RanksOf, MoveFor}
 use Rattle.turns.specs.Inner.Rules.{ReplyTo}
 use Rattle.ways.specs.Extremes.{Further, Worst}
-use Rattle.ways.specs.Listing.{LeadsInto, Useful}
+use Rattle.ways.specs.Lines.{countIn, numberIn}
+use Rattle.ways.specs.Listing.{LeadsInto, Useful, StateListed}
 use Rattle.ways.specs.Places.{PlacedAt}
 use Rattle.ways.specs.declared.rows.Row.{Row}
 use Rattle.ways.specs.Rows.{Playable}
@@ -39,6 +40,7 @@ use Rattle.ways.proofs.Leading.{ever-allowed, free-allowed, allowed-useful}
 use Rattle.ways.proofs.Placing.{number-placed}
 use Rattle.choice.specs.Choices.{Sought, GoodBy}
 use Rattle.choice.specs.Kinds.{ClaimsBy, MetBy, AimBy}
+use Rattle.choice.proofs.Searching.{line-first, line-none}
 use Rattle.choice.proofs.ByKind.{claims-by, met-by, aim-by, zero-met, met-zero}
 
 -- the worst of a move's outcomes, cut off at a limit, tells of all of them
@@ -86,7 +88,7 @@ module _ (b : Block) (valid : Valid b) (row : Row) where
     next-aim : row .into ≡ true → (m r : ℕ) → AimBy kind (row .set) own (outcome G p m r .state) (rankIn ranks (number G (outcome G p m r))) ≡ Bit (row .set) (outcome G p m r .state)
     next-aim into m r = ap (λ (k : ℕ). AimBy k (row .set) own (outcome G p m r .state) (rankIn ranks (number G (outcome G p m r)))) (eqb-true kind 3 (sym (sought .into-is) ∙ into))
 
-    pub good-useful : (m : ℕ) → GoodBy b row ranks kind own p m → ((k : ℕ) → k < m → GoodBy b row ranks kind own p k → ⊥) → Useful b row s m
+    good-useful : (m : ℕ) → GoodBy b row ranks kind own p m → ((k : ℕ) → k < m → GoodBy b row ranks kind own p k → ⊥) → Useful b row s m
     good-useful m (allowed, all) none = (
       ever-allowed b valid row (sought .playable) s x m p placed allowed,
       λ into. aimed-into s m p (placed .state) (allowed .0) (λ r reply. transport (next-aim into m r) (all r reply)),
@@ -142,18 +144,27 @@ module _ (b : Block) (valid : Valid b) (row : Row) where
 
       -- and elsewhere: the smallest good move, which there is where the ranks are the row's
       module _ (claim : ClaimsBy kind own) (later : own ≡ 0 → ⊥) where
-        pub move-found : (m : ℕ) → Smallest (GoodBy b row ranks kind own p) m → MoveFor b (row .index) (row .set) right ranks p m
+        move-found : (m : ℕ) → Smallest (GoodBy b row ranks kind own p) m → MoveFor b (row .index) (row .set) right ranks p m
         move-found m (here, none) move = record {
           lost = λ loses. absurd (loses (transport (claimed move) claim));
           met = λ _ met. absurd (later (met-is move met));
           best = λ _ _. (good move m here, λ k less h. none k less (by-good move k h));
         }
 
-        pub move-exists : RanksOf b (row .index) (row .set) right ranks → ((m : ℕ) → GoodBy b row ranks kind own p m → ⊥) → ⊥
+        move-exists : RanksOf b (row .index) (row .set) right ranks → ((m : ℕ) → GoodBy b row ranks kind own p m → ⊥) → ⊥
         move-exists ranked none =
             let move : ℕ → ℕ = λ n. 0 in
             let (m, h) = good-exists G (X move) told (ranked .facts) p (placed .fits) (transport (claimed move) claim) (λ met. later (met-is move met)) in
             none m (by-good move m h)
+
+        -- so the first good one that is listed goes with the ranks, and there is one
+        module _ (ways : List ℕ) (listed : StateListed b row s ways) where
+          pub first-found : (k : ℕ) → k < countIn ways s true → ((j : ℕ) → j < k → GoodBy b row ranks kind own p (numberIn ways s true j) → ⊥) → GoodBy b row ranks kind own p (numberIn ways s true k)
+              → MoveFor b (row .index) (row .set) right ranks p (numberIn ways s true k)
+          first-found k small none here = move-found (numberIn ways s true k) (line-first (Useful b row s) (GoodBy b row ranks kind own p) (listed .lines true) good-useful k small none here)
+
+          pub some-listed : RanksOf b (row .index) (row .set) right ranks → ((j : ℕ) → j < countIn ways s true → GoodBy b row ranks kind own p (numberIn ways s true j) → ⊥) → ⊥
+          some-listed ranked none = move-exists ranked (line-none (Useful b row s) (GoodBy b row ranks kind own p) (listed .lines true) good-useful none)
 
       -- the move that goes with the ranks is listed and paid, where the coalition wins
       pub move-listed : ClaimsBy kind own → (m : ℕ) → MoveFor b (row .index) (row .set) right ranks p m → Useful b row s m × Allowed G p m

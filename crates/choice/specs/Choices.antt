@@ -2,17 +2,17 @@
 use mathlib.Core.Bool.{Bool, true}
 use mathlib.Core.List.{List}
 use mathlib.Core.Path.{_≡_}
-use Prim.Native.Nat.{ℕ, _-_, _<_}
+use Prim.Native.Nat.{ℕ, _-_, _≤_, _<_}
 use lib.Dec.{eqb}
 use Rattle.block.specs.Inner.Tests.{Decides}
 use Rattle.block.specs.Layout as L
 use Rattle.block.specs.Layout.{Block}
-use Rattle.game.specs.Position.{Position, IsPosition, MoveOf, number, Reply, Allowed, outcome}
+use Rattle.game.specs.Position.{Position, IsPosition, MoveOf, number, Reply, Affordable, Allowed, outcome}
 use Rattle.game.specs.Table.{Smallest}
 use Rattle.game.specs.Model.{structureOf, coalitionOf, arenaOf}
 use Rattle.turns.specs.Buffers.{rankIn}
 use Rattle.ways.specs.Landing.{Leaves, Lands}
-use Rattle.ways.specs.Lines.{countIn, takenIn}
+use Rattle.ways.specs.Lines.{countIn, numberIn, takenIn}
 use Rattle.ways.specs.Listing.{Useful}
 use Rattle.ways.specs.Places.{PlacedAt}
 use Rattle.ways.specs.Rows.{Playable}
@@ -58,6 +58,12 @@ module _ (b : Block) (row : Row) (ranks : List ℕ) (kind own : ℕ) where
 -- the last listed move of state s takes nothing
 abbrev pub LastFree : List ℕ → ℕ → Type 0
 LastFree ways s = (0 < countIn ways s true) × (takenIn ways s (countIn ways s true - 1) ≡ 0)
+
+-- k is the first listed move of state s that place x pays; where it pays none, their count
+pub record FirstPaid (b : Block) (row : Row) (ways : List ℕ) (s x k : ℕ) : Type 0 where
+  pub within : k ≤ countIn ways s true
+  pub paid : k < countIn ways s true → (p : Position) → PlacedAt (arenaOf b (row .index)) s x p → Affordable (arenaOf b (row .index)) p (numberIn ways s true k)
+  pub before : (j : ℕ) → j < k → (p : Position) → PlacedAt (arenaOf b (row .index)) s x p → Affordable (arenaOf b (row .index)) p (numberIn ways s true j) → ⊥
 
 -- whether the number m is a move that matters to the row and that place x of state s pays, and the place that it leads to
 abbrev pub Makes : Block → Row → ℕ → ℕ → ℕ → Landing → Type 0

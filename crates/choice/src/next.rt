@@ -20,8 +20,8 @@ ghost use Rattle.turns.specs.Sizes.{rankEnd, roomBytes};
 ghost use Rattle.ways.specs.Lines.{waysBytes, countIn};
 ghost use Rattle.ways.specs.Listing.{Listed};
 ghost use Rattle.ways.specs.Rows.{Playable};
-ghost use Rattle.choice.specs.Choices.{LastFree};
-ghost use Rattle.choice.specs.Filling.{FilledTo, NextRight};
+ghost use Rattle.choice.specs.Choices.{LastFree, FirstPaid, Sought};
+ghost use Rattle.choice.specs.Filling.{FilledTo, NextRight, MoveRight};
 ghost use Rattle.choice.specs.Tables.{NextRanks};
 
 // Whether the last listed move of state s takes nothing.
@@ -36,6 +36,22 @@ fn last_free(ways: &[u8], s: usize) -> bool
     lines::taken(ways, s, n - 1) == 0
 }
 
+// The first listed move that the position pays; where it pays none, their count.
+fn first_paid(block: &[u8], row: Row, ways: &[u8], spot: Spot) -> usize
+    requires { ⌜ Valid (now block) ⌝ }
+    requires { ⌜ Playable (now block) row × Listed (now block) row (now ways) ⌝ }
+    requires { ⌜ (spot .state < L.states (now block)) × (spot .place < row .places) ⌝ }
+    ensures { λ k. ⌜ FirstPaid (now (block .entry)) row (now (ways .entry)) (spot .state) (spot .place) k ⌝ }
+{
+    let n = lines::count(ways, spot.state, true);
+    for k in 0..n {
+        if let Landing::At(_) = landing::spends(block, row, ways, spot, k) {
+            return k;
+        }
+    }
+    n
+}
+
 // The rank of a position, where only moves into the set are listed: 1 where one of them can be paid. Every stock pays one that is free.
 fn next_rank(block: &[u8], row: Row, ways: &[u8], spot: Spot, free: bool) -> usize
     requires { ⌜ Valid (now block) ⌝ }
@@ -46,13 +62,27 @@ fn next_rank(block: &[u8], row: Row, ways: &[u8], spot: Spot, free: bool) -> usi
     if free {
         return 1;
     }
-    let n = lines::count(ways, spot.state, true);
-    for k in 0..n {
-        if let Landing::At(_) = landing::lands(block, row, ways, spot, k) {
-            return 1;
-        }
+    if first_paid(block, row, ways, spot) < lines::count(ways, spot.state, true) {
+        return 1;
     }
     sizes::NEVER
+}
+
+// The move at a position whose rank is there: the first that can be paid, and none where the coalition cannot.
+pub fn next_move(block: &[u8], row: Row, ways: &[u8], ranks: &[u8], spot: Spot) -> u8
+    requires { ⌜ Valid (now block) ⌝ }
+    requires { ⌜ Sought (now block) row L.nextKind × Listed (now block) row (now ways) × (roomBytes ≤ length (now ranks)) ⌝ }
+    requires { ⌜ (spot .state < L.states (now block)) × (spot .place < row .places) ⌝ }
+    ensures { λ m. ⌜ MoveRight (now (block .entry)) (row .index) (row .set) (now (ranks .entry)) (spot .state * row .places + spot .place) m ⌝ }
+{
+    if buffers::rank_at(ranks, spot.state * row.places + spot.place) != 1 {
+        return sizes::NO_MOVE;
+    }
+    let k = first_paid(block, row, ways, spot);
+    if k < lines::count(ways, spot.state, true) {
+        return lines::number(ways, spot.state, true, k) as u8;
+    }
+    sizes::NO_MOVE
 }
 
 // Stores the ranks of state s, where those of the states before it are there.

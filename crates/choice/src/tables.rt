@@ -1,5 +1,6 @@
 // The moves of a row's table, position by position.
 use crate::moves;
+use crate::next;
 use block::fill;
 use block::layout;
 use ways::rows::Row;
@@ -14,6 +15,19 @@ ghost use Rattle.ways.specs.Listing.{Listed};
 ghost use Rattle.choice.specs.Choices.{Sought};
 ghost use Rattle.choice.specs.Filling.{byteIn, FilledTo, MoveRight};
 ghost use Rattle.choice.specs.Tables.{RanksOf, MovesOf};
+
+// The table's move at a position. A next row has a search of its own, since the other takes twice as long for it.
+fn move_of(block: &[u8], row: Row, ways: &[u8], ranks: &[u8], spot: Spot, kind: usize) -> u8
+    requires { ⌜ Valid (now block) ⌝ }
+    requires { ⌜ Sought (now block) row kind × Listed (now block) row (now ways) × (roomBytes ≤ length (now ranks)) ⌝ }
+    requires { ⌜ (spot .state < L.states (now block)) × (spot .place < row .places) ⌝ }
+    ensures { λ m. ⌜ MoveRight (now (block .entry)) (row .index) (row .set) (now (ranks .entry)) (spot .state * row .places + spot .place) m ⌝ }
+{
+    if kind == layout::NEXT_KIND {
+        return next::next_move(block, row, ways, ranks, spot);
+    }
+    moves::move_at(block, row, ways, ranks, spot, kind)
+}
 
 // Stores the moves of state s, where those of the states before it are there.
 fn fill_places(
@@ -34,7 +48,7 @@ fn fill_places(
     let c = row.places;
     for x in 0..c {
         let spot = Spot { state: s, place: x };
-        moves[s * c + x] = moves::move_at(block, row, ways, ranks, spot, kind);
+        moves[s * c + x] = move_of(block, row, ways, ranks, spot, kind);
     }
 }
 

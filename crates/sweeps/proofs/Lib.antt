@@ -2,6 +2,7 @@
 pub mod Gathering
 pub mod Valuing
 pub mod Offering
+pub mod Trying
 pub mod Lowering
 pub mod Sweeping
 pub mod Working

@@ -4,7 +4,6 @@ use crate::sweep;
 use crate::sweep::Side;
 use turns::sizes;
 use ways::back;
-use ways::listing;
 use ways::rows::Row;
 ghost use mathlib.Core.Bool.{true, false};
 ghost use mathlib.Core.Path.{_≡_};
@@ -87,7 +86,7 @@ pub fn settle_places(block: &[u8], row: Row, side: Side, ways: &[u8], ranks: &mu
     requires { ⌜ row .into ≡ false ⌝ }
     ensures { λ _. ⌜ Settled (arenaOf (now (block .entry)) (row .index)) (side .most) (side .safe) (now (ranks .entry)) (now (ranks .exit)) ⌝ }
 {
-    if listing::any_gives(block, row, ways) {
+    if row.gives {
         settle_flagged(block, row, side, ways, ranks);
         return;
     }

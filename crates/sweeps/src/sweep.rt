@@ -13,7 +13,7 @@ ghost use Rattle.block.specs.Layout as L;
 ghost use Rattle.block.specs.Inner.Valid.{Valid};
 ghost use Rattle.game.specs.Model.{arenaOf};
 ghost use Rattle.turns.specs.Sizes.{roomBytes};
-ghost use Rattle.ways.specs.Listing.{AnyGives, Listed};
+ghost use Rattle.ways.specs.Listing.{Listed};
 ghost use Rattle.ways.specs.Rows.{Playable};
 ghost use Rattle.sweeps.specs.Sweeps.{RestsAt, RestsBelow, visit, Swept, PlaceSettled, Settled};
 
@@ -113,7 +113,7 @@ pub fn settle_place(
 pub fn settle_rising(block: &[u8], row: Row, side: Side, ways: &[u8], ranks: &mut [u8])
     requires { ⌜ Valid (now block) ⌝ }
     requires { ⌜ Playable (now block) row × Listed (now block) row (now ways) × (roomBytes ≤ length (now ranks)) ⌝ }
-    requires { ⌜ (row .into ≡ false) × (AnyGives (now block) (now ways) → ⊥) ⌝ }
+    requires { ⌜ (row .into ≡ false) × (row .gives ≡ false) ⌝ }
     ensures { λ _. ⌜ Settled (arenaOf (now (block .entry)) (row .index)) (side .most) (side .safe) (now (ranks .entry)) (now (ranks .exit)) ⌝ }
 {
     let c = row.places;

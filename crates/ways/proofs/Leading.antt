@@ -25,13 +25,14 @@ use Rattle.turns.specs.Buffers.{rankIn}
 use Rattle.turns.specs.Inner.Rules.{ReplyTo, SideMove}
 use Rattle.turns.proofs.Opponents.{joint-small, next-state}
 use Rattle.ways.specs.Extremes.{Beyond, Extreme, BestOf, Worst}
-use Rattle.ways.specs.Landing.{Leaves, Lands, Made, rankAfter, WorstWithin}
+use Rattle.ways.specs.Landing.{Remains, Leaves, Lands, Made, rankAfter, WorstWithin}
 use Rattle.ways.specs.Lines.{fieldPlace, packedIn, countIn, numberIn, takenIn, givenIn}
 use Rattle.ways.specs.Listing.{Listed, StateListed, Eligible, Free, Ends, Useful, Listable, SameOutside}
 use Rattle.ways.specs.Places.{PlacedAt}
 use Rattle.ways.specs.Rows.{Playable}
 use Rattle.ways.specs.Packed.{packedFrom, Packs, Narrow, Covers, filledPlace}
 use Rattle.ways.specs.declared.rows.Row.{Row}
+use Rattle.ways.specs.declared.landing.Landing.{Landing}
 use Rattle.ways.specs.declared.landing.Landing.the-variants.{At, Unpaid}
 use Rattle.ways.proofs.Filling.{apart, state-same}
 use Rattle.ways.proofs.Offsets.{full-pays, number-zero, state-and-stocks, last-place, spent, gives-fit, spent-number, left-stock, remains-number}
@@ -41,6 +42,18 @@ use Rattle.ways.proofs.Packing.{position-narrow, pays-covers, covers-pa
 -- a row has at most 256 stock places
 pub few : (b : Block) → Valid b → (row : Row) → Playable b row → row .places ≤ 256
 few b valid row playable = omega (arith, playable .places-are, few-stocks b valid (row .index) (playable .inside) (playable .strategic) (L.resources b) (omega arith))
+
+-- a state and a move of its line stand within the listing
+pub listed-small : (b : Block) → Valid b → (row : Row) (ways : List ℕ) → Listed b row ways → (s k : ℕ) → s < L.states b → k < countIn ways s true → (s < 24) × (k < 64)
+listed-small b valid row ways listed s k state small = (omega (arith, valid .sized .states-fit), omega (arith, listed .states s state .lines true .few))
+
+-- a listed move gives nothing where none does
+pub gives-none : {b : Block} {row : Row} {ways : List ℕ} {s k : ℕ} → Listed b row ways → row .gives ≡ false → s < L.states b → k < countIn ways s true → givenIn ways s k ≡ 0
+gives-none {b} {row} {ways} {s} {k} listed none state small = go (eq? (givenIn ways s k) 0)
+  where
+    go : Dec (givenIn ways s k ≡ 0) → givenIn ways s k ≡ 0
+    go (yes e) = e
+    go (no ne) = absurd (listed .told none (s, state, (k, small, omega arith)))
 
 -- the number of a position stands within the buffers
 pub number-inside : (b : Block) → Valid b → (row : Row) → Playable b row → (s y : ℕ) → s < L.states b → y < row .places → s * row .places + y < 6144
@@ -118,7 +131,7 @@ module _ (b : Block) (valid : Valid b) (row : Row) (playable : Playable b row) w
 
     -- a place that has what is taken has the larger number
     module _ (covers : Covers ways x o) where
-      paid-at : (p : Position) → PlacedAt G s x p → Affordable G p m
+      pub paid-at : (p : Position) → PlacedAt G s x p → Affordable G p m
       paid-at p placed = covers-pays b valid (row .index) (playable .inside) (playable .strategic) ways (listed .packed) s x m (way .0 .1) p placed (subst (Covers ways x) offset-o covers)
 
       spent-at : (p : Position) → PlacedAt G s x p → number G (spent G p m) + o ≡ x
@@ -179,6 +192,11 @@ module _ (b : Block) (valid : Valid b) (row : Row) (playable : Playable b row) w
     pub lands-nowhere : (Covers ways x o → ⊥) → Lands G s x m Unpaid
     lands-nowhere unpaid p placed paid = unpaid (subst (Covers ways x) (sym offset-o) (pays-covers b valid (row .index) (playable .inside) (playable .strategic) ways (listed .packed) s x m (way .0 .1) p placed paid))
 
+    -- a move that gives nothing lands where it leaves the place
+    pub spends-lands : givenIn ways s k ≡ 0 → (r : Landing) → Remains ways x o r → Lands G s x m r
+    spends-lands none (At y) (covers, left) = subst (λ (z : ℕ). Lands G s x m (At z)) {x = x - o} {y = y} (omega arith) (lands-at covers none)
+    spends-lands none Unpaid unpaid = lands-nowhere unpaid
+
   -- a move that is made, and the replies to it
   module _ (s m y : ℕ) (made : Made b row s m y) where
     pub reply-joint : (r : ℕ) → ReplyTo b (row .index) s r → m + r < 64
@@ -223,6 +241,9 @@ module _ (b : Block) (valid : Valid b) (row : Row) (playable : Playable b row) w
   place-narrow ways packs s x state place =
       let (p, placed) = place-position G s x state place in
       subst Narrow (sym (packs p (placed .fits)) ∙ ap (packedIn ways) (placed .place)) (position-narrow b valid (row .index) (playable .inside) (playable .strategic) p (placed .fits))
+
+  pub narrow-here : (ways : List ℕ) → Listed b row ways → (s : ℕ) → s < L.states b → (x : ℕ) → x < row .places → Narrow (packedIn ways x)
+  narrow-here ways listed s state x small = place-narrow ways (listed .packed) s x state (omega (arith, playable .places-are))
 
   -- a number is listed if it is eligible and no smaller one ends the line
   module _ (s : ℕ) where

@@ -11,10 +11,16 @@ use Rattle.game.specs.Model.{structureOf, coalitionOf, arenaOf}
 use Rattle.turns.specs.Buffers.{rankIn}
 use Rattle.ways.specs.Lines.{numberIn}
 use Rattle.ways.specs.Extremes.{Further, Worst}
+use Rattle.ways.specs.Packed.{Covers}
 use Rattle.ways.specs.Places.{PlacedAt}
 use Rattle.ways.specs.declared.rows.Row.{Row}
 use Rattle.ways.specs.declared.landing.Landing.{Landing}
 use Rattle.ways.specs.declared.landing.Landing.the-variants.{At, Unpaid}
+
+-- what is left of stock place x when o is taken of it, or that it has not so much
+abbrev pub Remains : List ℕ → ℕ → ℕ → Landing → Type 0
+Remains ways x o (At y) = Covers ways x o × (y + o ≡ x)
+Remains ways x o Unpaid = Covers ways x o → ⊥
 
 -- the stocks that the move m leaves of p have number y
 abbrev pub Leaves : Arena → Position → ℕ → ℕ → Type 0

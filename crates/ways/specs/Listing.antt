@@ -73,6 +73,7 @@ pub record StateListed (b : Block) (row : Row) (s : ℕ) (ways : List ℕ) : Typ
 
 pub record Listed (b : Block) (row : Row) (ways : List ℕ) : Type 0 where
   pub states : (s : ℕ) → s < L.states b → StateListed b row s ways
+  pub told : row .gives ≡ false → AnyGives b ways → ⊥
   pub packed : Packs (arenaOf b (row .index)) ways
   pub long : length ways ≡ waysBytes
 

@@ -21,7 +21,7 @@ ghost use Rattle.game.specs.Model.{structureOf, coalitionOf, arenaOf};
 ghost use Rattle.turns.specs.Inner.Rules.{PartsTable, ReplyTo};
 ghost use Rattle.ways.specs.Lines.{waysBytes, fieldPlace, countIn, numberIn, countAt, lineAt, takesAt};
 ghost use Rattle.ways.specs.Listing.{LeadsInto, Eligible, Listable, LineOf, EffectsOf, StateGives, AnyGives, StateListed, Listed, SameOutside};
-ghost use Rattle.ways.specs.Rows.{Playable};
+ghost use Rattle.ways.specs.Rows.{Playable, SameRow};
 
 // Whether full stock pays the move m of row i's team in state s.
 fn payable_at_all(block: &[u8], i: usize, s: usize, m: usize) -> bool
@@ -189,7 +189,7 @@ fn state_gives(ways: &[u8], s: usize) -> bool
 }
 
 // Whether any listed move gives something.
-pub fn any_gives(block: &[u8], row: Row, ways: &[u8]) -> bool
+fn any_gives(block: &[u8], row: Row, ways: &[u8]) -> bool
     requires { ⌜ Valid (now block) ⌝ }
     requires { ⌜ Playable (now block) row × Listed (now block) row (now ways) ⌝ }
     ensures { λ r. ⌜ Decides (AnyGives (now (block .entry)) (now (ways .entry))) r ⌝ }
@@ -206,7 +206,7 @@ pub fn any_gives(block: &[u8], row: Row, ways: &[u8]) -> bool
 // Lists all of a row.
 pub fn list_row(block: &[u8], row: Row, ways: &mut [u8])
     requires { ⌜ Valid (now block) ⌝ }
-    requires { ⌜ Playable (now block) row × (length (now ways) ≡ waysBytes) ⌝ }
+    requires { ⌜ Playable (now block) row × (length (now ways) ≡ waysBytes) × (row .gives ≡ true) ⌝ }
     ensures { λ _. ⌜ Listed (now (block .entry)) row (now (ways .exit)) ⌝ }
 {
     packs::fill_packs(block, row, ways);
@@ -214,5 +214,20 @@ pub fn list_row(block: &[u8], row: Row, ways: &mut [u8])
     let n = layout::states(block);
     for s in 0..n {
         list_state(block, &parts, row, s, ways);
+    }
+}
+
+// A row that is listed, with whether any of its listed moves gives something.
+pub fn known(block: &[u8], row: Row, ways: &[u8]) -> Row
+    requires { ⌜ Valid (now block) ⌝ }
+    requires { ⌜ Playable (now block) row × Listed (now block) row (now ways) ⌝ }
+    ensures { λ r. ⌜ Playable (now (block .entry)) r × Listed (now (block .entry)) r (now (ways .entry)) × SameRow row r ⌝ }
+{
+    Row {
+        index: row.index,
+        places: row.places,
+        into: row.into,
+        set: row.set,
+        gives: any_gives(block, row, ways),
     }
 }

@@ -9,13 +9,12 @@ use Rattle.game.specs.Position.{Position, IsPosition, number}
 use Rattle.game.specs.Model.{arenaOf}
 use Rattle.turns.specs.Buffers.{rankIn}
 use Rattle.ways.specs.Lines.{countIn, numberIn}
-use Rattle.ways.specs.Listing.{Useful}
 use Rattle.ways.specs.Places.{PlacedAt}
 use Rattle.ways.proofs.Leading.{number-inside}
 use Rattle.choice.specs.Choices.{GoodBy}
 use Rattle.choice.specs.Tables.{MoveFor}
-use Rattle.choice.proofs.Moving.{spot-placed, good-useful, move-lost, move-met, move-found, move-exists}
-use Rattle.choice.proofs.Searching.{joint-number, none-more, line-first, line-none}
+use Rattle.choice.proofs.Moving.{spot-placed, move-lost, move-met, first-found, some-listed}
+use Rattle.choice.proofs.Searching.{joint-number, none-more}
 use Rattle.choice.proofs.moves.move_at.Statement.{statement}
 use Rattle.choice.proofs.moves.move_at.Tie as tie
 
@@ -103,10 +102,9 @@ returns-3 c right ranked p fits is =
     let sought = pre .1 .0 .0 in
     let here = placed at p fits is in
     subst (MoveFor (args .block .now) (args .row .index) (args .row .set) right (args .ranks .now) p) (sym (c .number .ensures))
-    (move-found (args .block .now) (pre .0) (args .row) (args .kind) sought (args .ranks .now) (args .spot .state) (args .spot .place) (c .before .before .before .before .before .before .before .before .before .rank-at .result) p here (own at p fits is) right
-    (D.truth (c .before .before .before .before .before .before .before .before .claims .ensures) (not-false _ (c .before .before .before .before .before .before .before .if1 .left))) (c .before .before .before .before .before .before .if2 .left) (numberIn (args .ways .now) (args .spot .state) true (c .before .before .before .before .loop .k))
-    (line-first (Useful (args .block .now) (args .row) (args .spot .state)) (GoodBy (args .block .now) (args .row) (args .ranks .now) (args .kind) (c .before .before .before .before .before .before .before .before .before .rank-at .result) p) (pre .1 .0 .1 .states (args .spot .state) (pre .1 .1 .0) .lines true)
-    (good-useful (args .block .now) (pre .0) (args .row) (args .kind) sought (args .ranks .now) (args .spot .state) (args .spot .place) (c .before .before .before .before .before .before .before .before .before .rank-at .result) p here) (c .before .before .before .before .loop .k) (within (c .before .before .before)) (c .before .before .before .before .loop .inv .1 p here) (D.truth (c .before .before .is-good .ensures p here) (c .before .if3 .taken))))
+    (first-found (args .block .now) (pre .0) (args .row) (args .kind) sought (args .ranks .now) (args .spot .state) (args .spot .place) (at .rank-at .result) p here (own at p fits is) right
+    (D.truth (c .before .before .before .before .before .before .before .before .claims .ensures) (not-false _ (c .before .before .before .before .before .before .before .if1 .left))) (c .before .before .before .before .before .before .if2 .left) (args .ways .now) (pre .1 .0 .1 .states (args .spot .state) (pre .1 .1 .0))
+    (c .before .before .before .before .loop .k) (within (c .before .before .before)) (c .before .before .before .before .loop .inv .1 p here) (D.truth (c .before .before .is-good .ensures p here) (c .before .if3 .taken)))
 
 add-k : tie.Need-add-k Inv-loop μ-loop
 add-k c = omega arith
@@ -128,12 +126,9 @@ returns-4 c right ranked p fits is =
     let at = c .before .before .before .before .before .before in
     let sought = pre .1 .0 .0 in
     let here = placed at p fits is in
-    let own-rank = c .before .before .before .before .before .before .rank-at .result in
-    absurd (move-exists (args .block .now) (pre .0) (args .row) (args .kind) sought (args .ranks .now) (args .spot .state) (args .spot .place) own-rank p here (own at p fits is) right
-    (D.truth (c .before .before .before .before .before .claims .ensures) (not-false _ (c .before .before .before .before .if1 .left))) (c .before .before .before .if2 .left) ranked
-    (line-none (Useful (args .block .now) (args .row) (args .spot .state)) (GoodBy (args .block .now) (args .row) (args .ranks .now) (args .kind) own-rank p) (pre .1 .0 .1 .states (args .spot .state) (pre .1 .1 .0) .lines true)
-    (good-useful (args .block .now) (pre .0) (args .row) (args .kind) sought (args .ranks .now) (args .spot .state) (args .spot .place) own-rank p here)
-    (λ j small. c .before .loop .inv .1 p here j (omega (arith, c .loop-test .left, c .before .before .count .ensures)))))
+    absurd (some-listed (args .block .now) (pre .0) (args .row) (args .kind) sought (args .ranks .now) (args .spot .state) (args .spot .place) (at .rank-at .result) p here (own at p fits is) right
+    (D.truth (c .before .before .before .before .before .claims .ensures) (not-false _ (c .before .before .before .before .if1 .left))) (c .before .before .before .if2 .left) (args .ways .now) (pre .1 .0 .1 .states (args .spot .state) (pre .1 .1 .0)) ranked
+    (λ j small. c .before .loop .inv .1 p here j (omega (arith, c .loop-test .left, c .before .before .count .ensures))))
 
 pub move-at-spec : {M : Type 1} → statement M
 move-at-spec =

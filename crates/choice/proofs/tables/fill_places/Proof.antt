@@ -20,8 +20,8 @@ loop-holds c =
     let args = c .before .before .before .before .args in
     (omega arith, places-first (args .s) (args .row .places) (c .before .before .before .before .pre .1 .1 .1), refl)
 
-move-at-requires : tie.Need-move-at-requires Inv-loop μ-loop
-move-at-requires c κs = let pre = c .before .before .before .before .before .before .pre in (pre .0, ((pre .1 .0 .0, pre .1 .0 .1, pre .1 .0 .2), (pre .1 .1 .0, c .loop-test .taken)))
+move-of-requires : tie.Need-move-of-requires Inv-loop μ-loop
+move-of-requires c κs = let pre = c .before .before .before .before .before .before .pre in (pre .0, ((pre .1 .0 .0, pre .1 .0 .1, pre .1 .0 .2), (pre .1 .1 .0, c .loop-test .taken)))
 
 -- the position is within the buffer
 inside : (c : tie.In-loop Inv-loop μ-loop) → c .before .before .before .before .before .before .args .s * c .before .before .before .before .before .before .args .row .places + c .before .loop .x < 6144
@@ -48,8 +48,8 @@ loop-less c = omega (arith, c .before .loop-test .taken)
 loop-again : tie.Need-loop-again Inv-loop μ-loop
 loop-again c =
     let args = c .before .before .before .before .before .before .before .args in
-    let put = byte-stored (c .before .before .loop .moves) (args .s * args .row .places + c .before .before .loop .x) (c .move-at .result) (omega (arith, inside (c .before), c .before .before .loop .inv .2, c .before .before .before .before .before .before .before .pre .1 .0 .3)) in
-    (omega (arith, c .before .loop-test .taken), places-next (args .s) (args .row .places) (c .before .before .loop .x) (c .move-at .result) (c .before .before .loop .inv .1) put (c .move-at .ensures), put .kept ∙ c .before .before .loop .inv .2)
+    let put = byte-stored (c .before .before .loop .moves) (args .s * args .row .places + c .before .before .loop .x) (c .move-of .result) (omega (arith, inside (c .before), c .before .before .loop .inv .2, c .before .before .before .before .before .before .before .pre .1 .0 .3)) in
+    (omega (arith, c .before .loop-test .taken), places-next (args .s) (args .row .places) (c .before .before .loop .x) (c .move-of .result) (c .before .before .loop .inv .1) put (c .move-of .ensures), put .kept ∙ c .before .before .loop .inv .2)
 
 same-length : tie.Need-same-length Inv-loop μ-loop
 same-length c = c .before .loop .inv .2
@@ -66,7 +66,7 @@ fill-places-spec =
     Inv-loop
     μ-loop
     loop-holds
-    move-at-requires
+    move-of-requires
     mul-moves
     add-moves
     slice-write-moves

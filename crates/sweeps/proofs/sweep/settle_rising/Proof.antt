@@ -36,7 +36,7 @@ loop-again c =
     let args = c .before .before .before .before .before .before .before .before .before .args in
     let at = c .before .before .before .before .before .loop in
     let step = c .before .before .settle-place in
-    (omega (arith, c .before .before .before .before .loop-test .taken), λ proper. settled-next (arenaOf (args .block .now) (args .row .index)) proper (args .side .most) (args .side .safe) (spends-none (args .block .now) (c .before .before .before .before .before .before .before .before .before .pre .0) (args .row) (c .before .before .before .before .before .before .before .before .before .pre .1 .0 .0) (args .ways .now) (c .before .before .before .before .before .before .before .before .before .pre .1 .0 .1) (c .before .before .before .before .before .before .before .before .before .pre .1 .1 .0) (c .before .before .before .before .before .before .before .before .before .pre .1 .1 .1)) (at .x) (step .result) (args .ranks .now) (at .ranks) (step .last .1 .1 .1 .1 .1 .0) (at .inv .1 proper) (step .ensures))
+    (omega (arith, c .before .before .before .before .loop-test .taken), λ proper. settled-next (arenaOf (args .block .now) (args .row .index)) proper (args .side .most) (args .side .safe) (spends-none (args .block .now) (c .before .before .before .before .before .before .before .before .before .pre .0) (args .row) (c .before .before .before .before .before .before .before .before .before .pre .1 .0 .0) (args .ways .now) (c .before .before .before .before .before .before .before .before .before .pre .1 .0 .1) (c .before .before .before .before .before .before .before .before .before .pre .1 .1 .0) (c .before .before .before .before .before .before .before .before .before .pre .1 .0 .1 .told (c .before .before .before .before .before .before .before .before .before .pre .1 .1 .1))) (at .x) (step .result) (args .ranks .now) (at .ranks) (step .last .1 .1 .1 .1 .1 .0) (at .inv .1 proper) (step .ensures))
 
 same-length : tie.Need-same-length Inv-loop μ-loop
 same-length c = c .before .loop .inv .1 (valid-proper (c .before .before .before .before .before .args .block .now) (c .before .before .before .before .before .pre .0)) .long

@@ -1,118 +1,83 @@
--- `lands` asks whether the place has what the move takes, and fills up what is left. Assumes nothing.
-use mathlib.Core.Bool.{true, false}
-use mathlib.Core.Path.{_≡_, _∙_, sym, ap, ap₂, subst}
-use Prim.Native.Nat.{ℕ, _-_, _≤_, _<_}
+-- `lands` fills up what is left of the place when the move is paid. Assumes nothing.
+use mathlib.Core.Path.{_≡_, _∙_, sym, ap, ap₂, refl}
+use Prim.Native.Nat.{ℕ, _+_, _-_, _≤_, _<_}
 use native.Mathlib.Omega.{arith}
 use borrow.Author.Needs.{needs}
-use borrow.Author.Tests.{not-true, not-false}
-use Rattle.block.proofs.Decide as D
-use Rattle.ways.specs.Lines.{packedIn}
+use Rattle.ways.specs.Landing.{Remains, Lands}
+use Rattle.ways.specs.Lines.{packedIn, takenIn, givenIn, numberIn}
 use Rattle.ways.specs.Packed.{Narrow, Covers, filledPlace}
-use Rattle.ways.proofs.Leading.{few, taken-small, given-small, taken-below, place-narrow, lands-at, lands-filled, lands-nowhere}
+use Rattle.ways.specs.declared.landing.Landing.{Landing}
+use Rattle.ways.specs.declared.landing.Landing.the-variants.{At, Unpaid}
+use Rattle.ways.proofs.Leading.{few, listed-small, given-small, narrow-here, lands-filled, lands-nowhere, spends-lands}
 use Rattle.ways.proofs.landing.lands.Statement.{statement}
 use Rattle.ways.proofs.landing.lands.Tie as tie
 
--- what is known at the start
-module _ (start : tie.Start) where
-  state-small : start .args .spot .state < 24
-  state-small = omega (arith, start .pre .1 .1 .0, start .pre .0 .sized .states-fit)
+spends-requires : tie.Need-spends-requires
+spends-requires c κs = search needs
 
-  move-small : start .args .k < 64
-  move-small = omega (arith, start .pre .1 .1 .2, start .pre .1 .0 .1 .states (start .args .spot .state) (start .pre .1 .1 .0) .lines true .few)
+enum-known-y : tie.Need-enum-known-y
+enum-known-y c = search needs
 
-  few-places : start .args .row .places ≤ 256
-  few-places = few (start .args .block .now) (start .pre .0) (start .args .row) (start .pre .1 .0 .0)
+-- what is left where the place pays
+left : (c : tie.After-y) → Remains (c .before .before .before .before .before .args .ways .now) (c .before .before .before .before .before .args .spot .place) (takenIn (c .before .before .before .before .before .args .ways .now) (c .before .before .before .before .before .args .spot .state) (c .before .before .before .before .before .args .k)) (At (c .y .given .0 .0))
+left c = rw (c .y .given .1) at (c .before .before .spends .ensures)
 
-  narrow : (x : ℕ) → x < start .args .row .places → Narrow (packedIn (start .args .ways .now) x)
-  narrow x small = place-narrow (start .args .block .now) (start .pre .0) (start .args .row) (start .pre .1 .0 .0) (start .args .ways .now) (start .pre .1 .0 .1 .packed) (start .args .spot .state) x (start .pre .1 .1 .0) (omega (arith, start .pre .1 .0 .0 .places-are))
-
-taken-requires : tie.Need-taken-requires
-taken-requires c κs = (c .before .before .pre .1 .0 .1 .long, state-small (c .before .before), move-small (c .before .before))
-
--- what the move takes
-module _ (c : tie.After-taken) where
-  takes-small : c .taken .result < c .before .before .before .args .row .places
-  takes-small =
-      omega (
-        arith,
-        taken-small (c .before .before .before .args .block .now) (c .before .before .before .pre .0) (c .before .before .before .args .row) (c .before .before .before .pre .1 .0 .0) (c .before .before .before .args .ways .now) (c .before .before .before .pre .1 .0 .1) (c .before .before .before .args .spot .state) (c .before .before .before .args .spot .place) (c .before .before .before .args .k) (c .taken .result) (c .before .before .before .pre .1 .1 .0) (c .before .before .before .pre .1 .1 .1) (c .before .before .before .pre .1 .1 .2) (c .taken .ensures .0),
-        c .before .before .before .pre .1 .0 .0 .places-are,
-      )
-
-covers-requires : tie.Need-covers-requires
-covers-requires c κs = (
-  (c .before .before .before .pre .1 .0 .1 .long, omega (arith, c .before .before .before .pre .1 .1 .1, few-places (c .before .before .before)), c .taken .ensures .1),
-  (narrow (c .before .before .before) (c .before .before .before .args .spot .place) (c .before .before .before .pre .1 .1 .1), narrow (c .before .before .before) (c .taken .result) (takes-small c)),
-)
+given-requires : tie.Need-given-requires
+given-requires c κs =
+    let start = c .before .before .before .before .before .before in
+    let small = listed-small (start .args .block .now) (start .pre .0) (start .args .row) (start .args .ways .now) (start .pre .1 .0 .1) (start .args .spot .state) (start .args .k) (start .pre .1 .1 .0) (start .pre .1 .1 .2) in
+    (start .pre .1 .0 .1 .long, small .0, small .1)
 
 returns : tie.Need-returns
 returns c =
-    lands-nowhere (c .before .before .before .before .before .args .block .now) (c .before .before .before .before .before .pre .0) (c .before .before .before .before .before .args .row) (c .before .before .before .before .before .pre .1 .0 .0) (c .before .before .before .before .before .args .ways .now) (c .before .before .before .before .before .pre .1 .0 .1) (c .before .before .before .before .before .args .spot .state) (c .before .before .before .before .before .args .spot .place) (c .before .before .before .before .before .args .k) (c .before .before .taken .result) (c .before .before .before .before .before .pre .1 .1 .0) (c .before .before .before .before .before .pre .1 .1 .1) (c .before .before .before .before .before .pre .1 .1 .2) (c .before .before .taken .ensures .0)
-    (D.falsity (c .before .covers .ensures) (not-true _ (c .if1 .taken)))
-
-given-requires : tie.Need-given-requires
-given-requires c κs = (c .before .before .before .before .before .pre .1 .0 .1 .long, state-small (c .before .before .before .before .before), move-small (c .before .before .before .before .before))
-
--- where the place pays
-module _ (c : tie.After-given) where
-  pays : Covers (c .before .before .before .before .before .before .args .ways .now) (c .before .before .before .before .before .before .args .spot .place) (c .before .before .before .taken .result)
-  pays = D.truth (c .before .before .covers .ensures) (not-false _ (c .before .if1 .left))
-
-  enough : c .before .before .before .taken .result ≤ c .before .before .before .before .before .before .args .spot .place
-  enough =
-      taken-below (c .before .before .before .before .before .before .args .block .now) (c .before .before .before .before .before .before .pre .0) (c .before .before .before .before .before .before .args .row) (c .before .before .before .before .before .before .pre .1 .0 .0) (c .before .before .before .before .before .before .args .ways .now) (c .before .before .before .before .before .before .pre .1 .0 .1) (c .before .before .before .before .before .before .args .spot .state) (c .before .before .before .before .before .before .args .spot .place) (c .before .before .before .before .before .before .args .k) (c .before .before .before .taken .result) (c .before .before .before .before .before .before .pre .1 .1 .0) (c .before .before .before .before .before .before .pre .1 .1 .1) (c .before .before .before .before .before .before .pre .1 .1 .2) (c .before .before .before .taken .ensures .0)
-      pays
-
-  gives-small : c .given .result < c .before .before .before .before .before .before .args .row .places
-  gives-small =
-      omega (
-        arith,
-        given-small (c .before .before .before .before .before .before .args .block .now) (c .before .before .before .before .before .before .pre .0) (c .before .before .before .before .before .before .args .row) (c .before .before .before .before .before .before .pre .1 .0 .0) (c .before .before .before .before .before .before .args .ways .now) (c .before .before .before .before .before .before .pre .1 .0 .1) (c .before .before .before .before .before .before .args .spot .state) (c .before .before .before .before .before .before .args .spot .place) (c .before .before .before .before .before .before .args .k) (c .before .before .before .taken .result) (c .before .before .before .before .before .before .pre .1 .1 .0) (c .before .before .before .before .before .before .pre .1 .1 .1) (c .before .before .before .before .before .before .pre .1 .1 .2) (c .before .before .before .taken .ensures .0),
-        c .given .ensures .0,
-        c .before .before .before .before .before .before .pre .1 .0 .0 .places-are,
-      )
-
-sub-t11 : tie.Need-sub-t11
-sub-t11 c = omega (arith, enough (c .before))
-
-returns-2 : tie.Need-returns-2
-returns-2 c =
-    lands-at (c .before .before .before .before .before .before .before .args .block .now) (c .before .before .before .before .before .before .before .pre .0) (c .before .before .before .before .before .before .before .args .row) (c .before .before .before .before .before .before .before .pre .1 .0 .0) (c .before .before .before .before .before .before .before .args .ways .now) (c .before .before .before .before .before .before .before .pre .1 .0 .1) (c .before .before .before .before .before .before .before .args .spot .state) (c .before .before .before .before .before .before .before .args .spot .place) (c .before .before .before .before .before .before .before .args .k) (c .before .before .before .before .taken .result) (c .before .before .before .before .before .before .before .pre .1 .1 .0) (c .before .before .before .before .before .before .before .pre .1 .1 .1) (c .before .before .before .before .before .before .before .pre .1 .1 .2) (c .before .before .before .before .taken .ensures .0)
-    (pays (c .before)) (sym (c .before .given .ensures .0) ∙ c .if2 .taken)
+    let start = c .before .before .before .before .before .before .before .before in
+    spends-lands (start .args .block .now) (start .pre .0) (start .args .row) (start .pre .1 .0 .0) (start .args .ways .now) (start .pre .1 .0 .1) (start .args .spot .state) (start .args .spot .place) (start .args .k) _ (start .pre .1 .1 .0) (start .pre .1 .1 .1) (start .pre .1 .1 .2) refl (sym (c .before .given .ensures .0) ∙ c .if1 .taken) (At (c .before .before .before .y .given .0 .0)) (left (c .before .before .before))
 
 sub-filled : tie.Need-sub-filled
-sub-filled c = omega (arith, c .before .before .before .before .before .before .before .before .pre .1 .1 .1)
-
-sub-filled-2 : tie.Need-sub-filled-2
-sub-filled-2 c = omega (arith, enough (c .before .before))
+sub-filled c = search needs
 
 filled-requires : tie.Need-filled-requires
 filled-requires c κs =
-    let some = c .before .before .before .before .before .before .before .before .pre .1 .1 .1 in
-    let gives = gives-small (c .before .before) in
-    let last : c .before .before .before .before .before .before .before .before .args .row .places - 1 < c .before .before .before .before .before .before .before .before .args .row .places = omega arith in
-    let left : c .before .before .before .before .before .before .before .before .args .spot .place - c .before .before .before .before .before .taken .result < c .before .before .before .before .before .before .before .before .args .row .places = omega arith in (
-      (c .before .before .before .before .before .before .before .before .pre .1 .0 .1 .long, omega (arith, few-places (c .before .before .before .before .before .before .before .before)), omega (arith, few-places (c .before .before .before .before .before .before .before .before)), c .before .before .given .ensures .1),
-      (narrow (c .before .before .before .before .before .before .before .before) (c .before .before .before .before .before .before .before .before .args .row .places - 1) last, narrow (c .before .before .before .before .before .before .before .before) (c .before .before .before .before .before .before .before .before .args .spot .place - c .before .before .before .before .before .taken .result) left, narrow (c .before .before .before .before .before .before .before .before) (c .before .before .given .result) gives),
+    let start = c .before .before .before .before .before .before .before .before .before in
+    let args = start .args in
+    let pre = start .pre in
+    let narrow = narrow-here (args .block .now) (pre .0) (args .row) (pre .1 .0 .0) (args .ways .now) (pre .1 .0 .1) (args .spot .state) (pre .1 .1 .0) in
+    let some = few (args .block .now) (pre .0) (args .row) (pre .1 .0 .0) in
+    let place = pre .1 .1 .1 in
+    let rest = left (c .before .before .before .before) .1 in
+    let given : givenIn (args .ways .now) (args .spot .state) (args .k) < args .row .places = omega (arith, given-small (args .block .now) (pre .0) (args .row) (pre .1 .0 .0) (args .ways .now) (pre .1 .0 .1) (args .spot .state) (args .spot .place) (args .k) _ (pre .1 .1 .0) (pre .1 .1 .1) (pre .1 .1 .2) refl, pre .1 .0 .0 .places-are) in (
+      (pre .1 .0 .1 .long, omega arith, omega arith, c .before .before .given .ensures .1),
+      (narrow (args .row .places - 1) (omega arith), narrow (c .before .before .before .before .y .given .0 .0) (omega arith), narrow (c .before .before .given .result) (omega (arith, c .before .before .given .ensures .0))),
     )
+
+enum-told : tie.Need-enum-told
+enum-told c = search needs
+
+returns-2 : tie.Need-returns-2
+returns-2 c =
+    let start = c .before .before .before .before .before .before .before .before .before .before in
+    let ways = start .args .ways .now in
+    let (covers, rest) = left (c .before .before .before .before .before) in
+    lands-filled (start .args .block .now) (start .pre .0) (start .args .row) (start .pre .1 .0 .0) ways (start .pre .1 .0 .1) (start .args .spot .state) (start .args .spot .place) (start .args .k) _ (start .pre .1 .1 .0) (start .pre .1 .1 .1) (start .pre .1 .1 .2) refl covers (c .filled .result)
+    (c .filled .ensures
+    ∙ ap₂ (λ (y g : ℕ). filledPlace (packedIn ways (start .args .row .places - 1)) (packedIn ways y) (packedIn ways g)) (omega arith) (c .before .before .before .given .ensures .0))
 
 returns-3 : tie.Need-returns-3
 returns-3 c =
-    lands-filled (c .before .before .before .before .before .before .before .before .before .args .block .now) (c .before .before .before .before .before .before .before .before .before .pre .0) (c .before .before .before .before .before .before .before .before .before .args .row) (c .before .before .before .before .before .before .before .before .before .pre .1 .0 .0) (c .before .before .before .before .before .before .before .before .before .args .ways .now) (c .before .before .before .before .before .before .before .before .before .pre .1 .0 .1) (c .before .before .before .before .before .before .before .before .before .args .spot .state) (c .before .before .before .before .before .before .before .before .before .args .spot .place) (c .before .before .before .before .before .before .before .before .before .args .k) (c .before .before .before .before .before .before .taken .result) (c .before .before .before .before .before .before .before .before .before .pre .1 .1 .0) (c .before .before .before .before .before .before .before .before .before .pre .1 .1 .1) (c .before .before .before .before .before .before .before .before .before .pre .1 .1 .2) (c .before .before .before .before .before .before .taken .ensures .0)
-    (pays (c .before .before .before)) (c .filled .result)
-    (c .filled .ensures ∙ ap (λ (g : ℕ). filledPlace (packedIn (c .before .before .before .before .before .before .before .before .before .args .ways .now) (c .before .before .before .before .before .before .before .before .before .args .row .places - 1)) (packedIn (c .before .before .before .before .before .before .before .before .before .args .ways .now) (c .before .before .before .before .before .before .before .before .before .args .spot .place - c .before .before .before .before .before .before .taken .result)) (packedIn (c .before .before .before .before .before .before .before .before .before .args .ways .now) g)) (c .before .before .before .given .ensures .0))
+    let start = c .before .before .before .before .before in
+    lands-nowhere (start .args .block .now) (start .pre .0) (start .args .row) (start .pre .1 .0 .0) (start .args .ways .now) (start .pre .1 .0 .1) (start .args .spot .state) (start .args .spot .place) (start .args .k) _ (start .pre .1 .1 .0) (start .pre .1 .1 .1) (start .pre .1 .1 .2) refl
+    (rw (c .enum-told .given .1) at (c .before .before .spends .ensures))
 
 pub lands-spec : {M : Type 1} → statement M
 lands-spec =
     tie.close
     (tie.spec
-    taken-requires
-    covers-requires
-    returns
+    spends-requires
+    enum-known-y
     given-requires
-    sub-t11
-    returns-2
+    returns
     sub-filled
-    sub-filled-2
     filled-requires
+    enum-told
+    returns-2
     returns-3)
