@@ -1,9 +1,10 @@
 // Number 13: charges on max resources; and charges on resources of either kind.
 use block::layout;
-ghost use Prim.Native.Nat.{_<_};
+ghost use mathlib.Core.Path.{_≡_};
+ghost use Prim.Native.Nat.{ℕ, _<_};
 ghost use Rattle.block.specs.Decide.{Some};
 ghost use Rattle.block.specs.Inner.Tests.{Decides};
-ghost use Rattle.block.specs.Layout.{maxStates, maxAgents, maxActions, maxResources, resources, agents, states, count};
+ghost use Rattle.block.specs.Layout.{maxStates, maxAgents, maxActions, maxResources, resources, agents, states, count, resourceKind};
 ghost use Rattle.block.specs.Check.{ChargeOn, ChargesOn, BadCharges};
 ghost use Rattle.block.specs.Inner.Valid.{Sized, Counted};
 
@@ -73,9 +74,27 @@ pub fn any(block: &[u8], kind: usize) -> bool
     false
 }
 
+// Whether a resource is of this kind.
+fn has_kind(block: &[u8], kind: usize) -> bool
+    requires { ⌜ Sized (now block) ⌝ }
+    ensures { λ r. ⌜ Decides (Some (resources (now (block .entry))) (λ (j : ℕ). resourceKind (now (block .entry)) j ≡ kind)) r ⌝ }
+{
+    let n = layout::resources(block);
+    for j in 0..n {
+        if layout::resource_kind(block, j) == kind {
+            return true;
+        }
+    }
+    false
+}
+
+// Few jobs have a max resource, and only in those is there anything to look for.
 pub fn bad(block: &[u8]) -> bool
     requires { ⌜ Sized (now block) × Counted (now block) ⌝ }
     ensures { λ r. ⌜ Decides (Some (states (now (block .entry))) (BadCharges (now (block .entry)))) r ⌝ }
 {
+    if !has_kind(block, layout::MAX_KIND) {
+        return false;
+    }
     any(block, layout::MAX_KIND)
 }
