@@ -1,13 +1,13 @@
 // The ranks of an until or an always row: first 0 at a goal and 65535 elsewhere, then sweeps.
 use crate::flagged;
 use crate::sweep::Side;
+use block::layout;
 use turns::buffers;
-use turns::positions;
 use turns::sizes;
 use ways::rows::Row;
 ghost use mathlib.Core.Bool.{false};
 ghost use mathlib.Core.Path.{_≡_};
-ghost use Prim.Native.Nat.{ℕ, _/_, _<_};
+ghost use Prim.Native.Nat.{ℕ, _*_, _≤_, _<_};
 ghost use lib.ListN.{length};
 ghost use Rattle.block.specs.Inner.Valid.{Valid};
 ghost use Rattle.game.specs.Position as P;
@@ -15,24 +15,31 @@ ghost use Rattle.turns.specs.Buffers.{rankIn};
 ghost use Rattle.game.specs.Model.{arenaOf};
 ghost use Rattle.ways.specs.Listing.{Listed};
 ghost use Rattle.ways.specs.Rows.{Playable};
-ghost use Rattle.sweeps.specs.Solving.{FirstRank, Solved};
+ghost use Rattle.sweeps.specs.Solving.{FirstRank, FirstIn, SpanStored, Solved};
 ghost use Rattle.turns.specs.Sizes.{setBits, rankEnd, roomBytes, maxPositions};
 
-// The first rank of position n, which is in state s, of so many positions, c in each state: 0 at a goal, and past the last position.
-fn first_rank(goal: usize, c: usize, positions: usize, n: usize, s: usize) -> usize
-    requires { ⌜ (n < positions → (n / c ≡ s) × (s < setBits)) ⌝ }
-    ensures { λ r. ⌜ FirstRank goal c positions n r × (r < rankEnd) ⌝ }
+// The first rank at the positions of state s: 0 at a goal.
+fn first_rank(goal: usize, s: usize) -> usize
+    requires { ⌜ s < setBits ⌝ }
+    ensures { λ r. ⌜ FirstIn goal s r × (r < rankEnd) ⌝ }
 {
-    if positions <= n {
-        return 0;
-    }
     if buffers::has_bit(goal, s) {
         return 0;
     }
     sizes::NEVER
 }
 
-// Stores the first ranks of a row. Counts the places of each state, since a division for each would be slow.
+// Stores a rank at the positions from `first` to before `end`.
+fn store_ranks(ranks: &mut [u8], first: usize, end: usize, rank: usize)
+    requires { ⌜ (first ≤ end) × (2 * end ≤ length (now ranks)) × (rank < rankEnd) ⌝ }
+    ensures { λ _. ⌜ SpanStored first end rank (now (ranks .entry)) (now (ranks .exit)) ⌝ }
+{
+    for p in first..end {
+        buffers::set_rank(ranks, p, rank);
+    }
+}
+
+// Stores the first ranks of a row, state by state; past the last position they are 0.
 fn first_ranks(block: &[u8], row: Row, goal: usize, ranks: &mut [u8])
     requires { ⌜ Valid (now block) ⌝ }
     requires { ⌜ Playable (now block) row × (length (now ranks) ≡ roomBytes) ⌝ }
@@ -40,19 +47,11 @@ fn first_ranks(block: &[u8], row: Row, goal: usize, ranks: &mut [u8])
     ensures { λ _. ⌜ length (now (ranks .exit)) ≡ length (now (ranks .entry)) ⌝ }
 {
     let c = row.places;
-    let positions = positions::count(block, row.index);
-    let mut n = 0;
-    let mut s = 0;
-    let mut x = 0;
-    while n < sizes::MAX_POSITIONS {
-        buffers::set_rank(ranks, n, first_rank(goal, c, positions, n, s));
-        n += 1;
-        x += 1;
-        if x == c {
-            s += 1;
-            x = 0;
-        }
+    let n = layout::states(block);
+    for s in 0..n {
+        store_ranks(ranks, s * c, (s + 1) * c, first_rank(goal, s));
     }
+    store_ranks(ranks, n * c, sizes::MAX_POSITIONS, 0);
 }
 
 // The ranks of a row, whose moves are listed, for an attack on the goal. Past the last position they are 0.

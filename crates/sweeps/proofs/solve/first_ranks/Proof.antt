@@ -1,110 +1,95 @@
--- `first_ranks` stores one rank after another, and counts states and their places on the way. Assumes nothing.
-use mathlib.Core.List.{List}
+-- `first_ranks` stores the ranks of one state after another, and zeros behind them. Assumes nothing.
 use mathlib.Core.Path.{_≡_, refl, sym, _∙_, ap, subst}
-use Prim.Native.Nat.{ℕ, _+_, _*_, _-_, _/_, _≤_, _<_}
-use native.Mathlib.Nat.{mul-le-mul-right, suc-mul, mul-add-div-right, div-eq-of-lt, div-lt-iff-lt-mul}
-use native.Mathlib.Numerals.{add-one}
+use Prim.Native.Nat.{ℕ, _+_, _*_, _-_, _≤_, _<_}
+use native.Mathlib.Nat.{mul-le-mul, mul-le-mul-right}
 use native.Mathlib.Omega.{arith}
 use lib.ListN.{length}
 use Rattle.block.specs.Layout as L
-use Rattle.game.specs.Position.{positions, full}
-use Rattle.game.specs.Inner.Stocks.{stockPlaces}
-use Rattle.turns.specs.Buffers.{rankIn}
-use Rattle.turns.proofs.Bytes.{stored-more}
+use Rattle.game.specs.Position.{positions}
 use Rattle.game.specs.Model.{arenaOf}
-use Rattle.game.proofs.Bridge.Truth.{full-fits}
 use Rattle.game.proofs.Blocks.Passing.{states-times}
-use Rattle.sweeps.specs.Solving.{FirstRank}
-use Rattle.ways.proofs.Placing.{stocks-below}
+use Rattle.ways.proofs.Leading.{few}
+use Rattle.sweeps.proofs.Starting.{FirstTo, state-first, past-first}
 use Rattle.sweeps.proofs.solve.first_ranks.Statement.{statement}
 use Rattle.sweeps.proofs.solve.first_ranks.Tie as tie
 
--- n is the x-th position of state s
-abbrev Placed : ℕ → ℕ → ℕ → ℕ → Type 0
-Placed c n s x = (s ≤ n) × (n ≡ s * c + x) × (x < c)
-
 abbrev Inv-loop : tie.InvT-loop
-Inv-loop block goal ranks₀ c positions n₀ s₀ x₀ ranks n s x =
-    (n ≤ 6144) × (length ranks ≡ length ranks₀) × Placed c n s x × ((k : ℕ) → k < n → FirstRank goal c positions k (rankIn ranks k))
+Inv-loop block goal ranks₀ c n s₀ ranks s = (s ≤ n) × (length ranks ≡ length ranks₀) × FirstTo goal c (n * c) (s * c) ranks
 
 abbrev μ-loop : tie.MeasureT-loop
-μ-loop block goal ranks₀ c positions n₀ s₀ x₀ ranks n s x = 6144 - n
+μ-loop block goal ranks₀ c n s₀ ranks s = n - s
 
-count-requires : tie.Need-count-requires Inv-loop μ-loop
-count-requires c κs = (c .before .before .pre .0, (c .before .before .pre .1 .0 .inside, c .before .before .pre .1 .0 .strategic))
-
-module _ (start : tie.Start Inv-loop μ-loop) where
-  some : 0 < start .args .row .places
-  some =
-      let G = arenaOf (start .args .block .now) (start .args .row .index) in
-      omega (arith, stocks-below G (full G 0) (full-fits G 0 (omega (arith, start .pre .0 .sized .states-fit))), start .pre .1 .0 .places-are)
-
-  all : positions (arenaOf (start .args .block .now) (start .args .row .index)) ≤ 24 * start .args .row .places
-  all =
-      let b = start .args .block .now in
-      let G = arenaOf b (start .args .row .index) in
-      let most : L.states b * stockPlaces G ≤ 24 * stockPlaces G = mul-le-mul-right (stockPlaces G) (start .pre .0 .sized .states-fit .1) in
-      omega (arith, most, states-times b (start .pre .0) (start .args .row .index) (L.resources b), start .pre .1 .0 .places-are)
+states-requires : tie.Need-states-requires Inv-loop μ-loop
+states-requires c κs = c .before .before .pre .0 .sized .bytes
 
 loop-holds : tie.Need-loop-holds Inv-loop μ-loop
-loop-holds c = (omega arith, refl, (omega arith, omega arith, some (c .before .before .before)), λ k l. absurd (omega arith))
+loop-holds c = (omega arith, refl, λ k small. absurd (omega arith))
 
--- the state of a position is its number's quotient
-quotient : (c n s x : ℕ) → 0 < c → Placed c n s x → n / c ≡ s
-quotient c n s x positive (_, is, small) = ap (λ (k : ℕ). k / c) is ∙ mul-add-div-right positive s x ∙ ap (s +_) (div-eq-of-lt small) ∙ omega arith
+-- all positions are within the buffer
+module _ (c : tie.After-states Inv-loop μ-loop) where
+  all : c .states .result * c .before .before .before .args .row .places ≤ 6144
+  all =
+      let most : c .states .result ≤ 24 = omega (arith, c .states .ensures, c .before .before .before .pre .0 .sized .states-fit) in
+      let whole : c .states .result * c .before .before .before .args .row .places ≤ 24 * 256 = mul-le-mul most (few (c .before .before .before .args .block .now) (c .before .before .before .pre .0) (c .before .before .before .args .row) (c .before .before .before .pre .1 .0)) in
+      omega (arith, whole)
+
+-- and so are those of the next state
+module _ (c : tie.In-loop Inv-loop μ-loop) where
+  next : (c .before .loop .s + 1) * c .before .before .before .before .before .args .row .places ≤ c .before .before .states .result * c .before .before .before .before .before .args .row .places
+  next = let less : c .before .loop .s + 1 ≤ c .before .before .states .result = omega (arith, c .loop-test .taken) in mul-le-mul-right (c .before .before .before .before .before .args .row .places) less
+
+  here : c .before .loop .s * c .before .before .before .before .before .args .row .places ≤ (c .before .loop .s + 1) * c .before .before .before .before .before .args .row .places
+  here = let less : c .before .loop .s ≤ c .before .loop .s + 1 = omega arith in mul-le-mul-right (c .before .before .before .before .before .args .row .places) less
+
+mul-store-ranks : tie.Need-mul-store-ranks Inv-loop μ-loop
+mul-store-ranks c = record { fits = omega (arith, here (c .before), next (c .before), all (c .before .before .before)) }
+
+add-store-ranks : tie.Need-add-store-ranks Inv-loop μ-loop
+add-store-ranks c = record { fits = omega (arith, c .before .loop-test .taken, c .before .before .before .states .ensures, c .before .before .before .before .before .before .pre .0 .sized .states-fit) }
+
+mul-store-ranks-2 : tie.Need-mul-store-ranks-2 Inv-loop μ-loop
+mul-store-ranks-2 c = record { fits = omega (arith, next (c .before), all (c .before .before .before)) }
 
 first-rank-requires : tie.Need-first-rank-requires Inv-loop μ-loop
-first-rank-requires c κs = λ inside.
-    let start = c .before .before .before .before .before .before in
-    let at = c .before .before .loop in
-    let same = quotient (start .args .row .places) (at .n) (at .s) (at .x) (some start) (at .inv .2) in
-    let below : at .n / start .args .row .places < 24 = div-lt-iff-lt-mul (some start) .1 (omega (arith, inside, all start, c .before .before .before .count .ensures .0)) in
-    (same, omega (arith, same, below))
+first-rank-requires c κs = omega (arith, c .before .loop-test .taken, c .before .before .before .states .ensures, c .before .before .before .before .before .before .pre .0 .sized .states-fit)
 
-set-rank-requires : tie.Need-set-rank-requires Inv-loop μ-loop
-set-rank-requires c κs = (omega (arith, c .before .before .before .before .before .before .before .pre .1 .1, c .before .before .before .loop .inv .1, c .before .before .loop-test .taken), c .first-rank .ensures .1)
-
-add-n : tie.Need-add-n Inv-loop μ-loop
-add-n c = record { fits = omega (arith, c .before .before .before .before .before .loop-test .taken) }
-
-add-x : tie.Need-add-x Inv-loop μ-loop
-add-x c = record { fits = omega (arith, c .before .before .before .before .before .before .loop .inv .2, c .before .before .before .before .before .loop-test .taken) }
+store-ranks-requires : tie.Need-store-ranks-requires Inv-loop μ-loop
+store-ranks-requires c κs = (here (c .before .before), omega (arith, next (c .before .before), all (c .before .before .before .before), c .before .before .before .loop .inv .1, c .before .before .before .before .before .before .before .pre .1 .1), c .first-rank .ensures .1)
 
 add-s : tie.Need-add-s Inv-loop μ-loop
-add-s c = record { fits = omega (arith, c .before .before .before .before .before .before .before .loop .inv .2 .0, c .before .before .before .before .before .before .loop-test .taken) }
+add-s c = omega (arith, c .before .before .before .before .before .loop-test .taken)
 
 loop-less : tie.Need-loop-less Inv-loop μ-loop
-loop-less c = omega (arith, c .before .before .before .before .before .before .loop-test .taken)
-
--- the next position, in the next state or in the same
-over : (c n s x : ℕ) → Placed c n s x → x + 1 ≡ c → Placed c (n + 1) (s + 1) 0
-over c n s x (low, is, small) e = (omega arith, omega (arith, suc-mul s c, ap (λ (k : ℕ). k * c) (add-one s)), omega arith)
-
-along : (c n s x : ℕ) → Placed c n s x → (x + 1 ≡ c → ⊥) → Placed c (n + 1) s (x + 1)
-along c n s x (low, is, small) ne = (omega arith, omega arith, omega arith)
-
--- one more rank is stored, whichever position comes next
-again : (c : tie.After-slice-known2 Inv-loop μ-loop) (s x : ℕ) → Placed (c .before .before .before .before .before .before .before .before .before .before .args .row .places) (c .before .before .before .before .before .before .loop .n + 1) s x → (c .before .before .before .before .before .before .loop .n + 1 ≤ 6144) × (length (c .before .before .set-rank .last .0) ≡ length (c .before .before .before .before .before .before .before .before .before .before .args .ranks .now)) × Placed (c .before .before .before .before .before .before .before .before .before .before .args .row .places) (c .before .before .before .before .before .before .loop .n + 1) s x × ((k : ℕ) → k < c .before .before .before .before .before .before .loop .n + 1 → FirstRank (c .before .before .before .before .before .before .before .before .before .before .args .goal) (c .before .before .before .before .before .before .before .before .before .before .args .row .places) (c .before .before .before .before .before .before .before .count .result) k (rankIn (c .before .before .set-rank .last .0) k))
-again c s x next =
-    let put = c .before .before .set-rank .ensures in
-    (omega (arith, c .before .before .before .before .before .loop-test .taken), put .kept ∙ c .before .before .before .before .before .before .loop .inv .1, next, stored-more (FirstRank (c .before .before .before .before .before .before .before .before .before .before .args .goal) (c .before .before .before .before .before .before .before .before .before .before .args .row .places) (c .before .before .before .before .before .before .before .count .result)) put (c .before .before .before .first-rank .ensures .0) (c .before .before .before .before .before .before .loop .inv .3))
+loop-less c = omega (arith, c .before .before .before .before .before .loop-test .taken)
 
 loop-again : tie.Need-loop-again Inv-loop μ-loop
-loop-again c = let at = c .before .before .before .before .before .before .before .loop in again (c .before) (at .s + 1) 0 (over (c .before .before .before .before .before .before .before .before .before .before .before .args .row .places) (at .n) (at .s) (at .x) (at .inv .2) (c .if1 .taken))
+loop-again c =
+    let at = c .before .before .before .before .before .before .loop in
+    let put = c .before .before .store-ranks .ensures in
+    (omega (arith, c .before .before .before .before .before .loop-test .taken), put .long ∙ at .inv .1, state-first (c .before .before .before .before .before .before .before .before .before .before .args .goal) (c .before .before .before .before .before .before .before .before .before .before .args .row .places) (c .before .before .before .before .before .before .before .states .result * c .before .before .before .before .before .before .before .before .before .before .args .row .places) (at .s) (c .before .before .before .first-rank .result) (next (c .before .before .before .before .before)) (c .before .before .before .first-rank .ensures .0) put (at .inv .2))
 
-loop-less-2 : tie.Need-loop-less-2 Inv-loop μ-loop
-loop-less-2 c = omega (arith, c .before .before .before .before .before .before .loop-test .taken)
+mul-store-ranks-3 : tie.Need-mul-store-ranks-3 Inv-loop μ-loop
+mul-store-ranks-3 c = record { fits = omega (arith, all (c .before .before .before)) }
 
-loop-again-2 : tie.Need-loop-again-2 Inv-loop μ-loop
-loop-again-2 c = let at = c .before .before .before .before .before .before .before .loop in again (c .before) (at .s) (at .x + 1) (along (c .before .before .before .before .before .before .before .before .before .before .before .args .row .places) (at .n) (at .s) (at .x) (at .inv .2) (c .if1 .left))
+store-ranks-requires-2 : tie.Need-store-ranks-requires-2 Inv-loop μ-loop
+store-ranks-requires-2 c κs = (all (c .before .before .before), omega (arith, c .before .before .loop .inv .1, c .before .before .before .before .before .before .pre .1 .1), omega arith)
 
 same-length : tie.Need-same-length Inv-loop μ-loop
-same-length c = c .before .loop .inv .1
+same-length c = c .before .before .store-ranks2 .ensures .long ∙ c .before .before .before .before .before .loop .inv .1
 
 returns : tie.Need-returns Inv-loop μ-loop
 returns c =
-    let at = c .before .loop in
-    (λ n l. subst (λ (positions : ℕ). FirstRank (c .before .before .before .before .before .args .goal) (c .before .before .before .before .before .args .row .places) positions n (rankIn (at .ranks) n)) (c .before .before .count .ensures .0) (at .inv .3 n (omega (arith, c .loop-test .left))), at .inv .1)
+    let args = c .before .before .before .before .before .before .before .before .before .args in
+    let pre = c .before .before .before .before .before .before .before .before .before .pre in
+    let b = args .block .now in
+    let at = c .before .before .before .before .before .loop in
+    let put = c .before .before .store-ranks2 in
+    let last : at .s ≡ c .before .before .before .before .before .before .states .result = omega (arith, at .inv .0, c .before .before .before .before .loop-test .left) in
+    let are : c .before .before .before .before .before .before .states .result * args .row .places ≡ positions (arenaOf b (args .row .index)) =
+    ap (λ (n : ℕ). n * args .row .places) (c .before .before .before .before .before .before .states .ensures) ∙ ap (λ (n : ℕ). L.states b * n) (pre .1 .0 .places-are) ∙ sym (states-times b (pre .0) (args .row .index) (L.resources b)) in
+    let full = subst (λ (s : ℕ). FirstTo (args .goal) (args .row .places) (c .before .before .before .before .before .before .states .result * args .row .places) (s * args .row .places) (at .ranks)) last (at .inv .2) in
+    let ranks = past-first (args .goal) (args .row .places) (c .before .before .before .before .before .before .states .result * args .row .places) 6144 (put .ensures) full in
+    (subst (λ (n : ℕ). FirstTo (args .goal) (args .row .places) n 6144 (put .last .0)) are ranks, put .ensures .long ∙ at .inv .1)
 
 pub first-ranks-spec : {M : Type 1} → statement M
 first-ranks-spec =
@@ -112,16 +97,17 @@ first-ranks-spec =
     (tie.spec
     Inv-loop
     μ-loop
-    count-requires
+    states-requires
     loop-holds
+    mul-store-ranks
+    add-store-ranks
+    mul-store-ranks-2
     first-rank-requires
-    set-rank-requires
-    add-n
-    add-x
+    store-ranks-requires
     add-s
     loop-less
     loop-again
-    loop-less-2
-    loop-again-2
+    mul-store-ranks-3
+    store-ranks-requires-2
     same-length
     returns)
