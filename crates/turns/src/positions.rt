@@ -1,4 +1,4 @@
-// Positions of a strategic row: how many stock places each resource has, how many positions there are, and their numbers.
+// Positions of a strategic row: how many stock places each resource has, and the numbers of positions.
 use crate::moves;
 use block::layout;
 use block::widths::wide;
@@ -12,7 +12,7 @@ ghost use Rattle.game.specs.Inner.Stocks as S;
 ghost use Rattle.game.specs.Model.{structureOf, coalitionOf, boundsOf, arenaOf};
 ghost use Rattle.turns.specs.Inner.Costs as C;
 ghost use Rattle.turns.specs.Inner.Costs.{NetOf};
-ghost use Rattle.turns.specs.Sizes.{maxStockPlaces, maxPositions};
+ghost use Rattle.turns.specs.Sizes.{maxStockPlaces};
 
 // The stock places of resource j in row i.
 pub fn places(block: &[u8], i: usize, j: usize) -> usize
@@ -39,15 +39,6 @@ pub fn stock_places(block: &[u8], i: usize) -> usize
         c = c * places(block, i, j);
     }
     c
-}
-
-// How many positions row i has.
-pub fn count(block: &[u8], i: usize) -> usize
-    requires { ⌜ Valid (now block) ⌝ }
-    requires { ⌜ (i < L.rows (now block)) × L.Strategic (L.kind (now block) i) ⌝ }
-    ensures { λ r. ⌜ (r ≡ P.positions (arenaOf (now (block .entry)) i)) × (r ≤ maxPositions) ⌝ }
-{
-    layout::states(block) * stock_places(block, i)
 }
 
 // The number of the position with state s and the stocks of the list, resource 0 first.
