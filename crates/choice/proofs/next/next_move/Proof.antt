@@ -1,9 +1,8 @@
 -- `next_move` takes the first listed move that the place pays. Assumes nothing.
 use mathlib.Core.Bool.{true}
 use mathlib.Core.Path.{_≡_, sym, _∙_, ap, subst}
-use Prim.Native.Nat.{ℕ, _+_, _*_, _<_}
+use Prim.Native.Nat.{_+_, _*_, _<_}
 use native.Mathlib.Omega.{arith}
-use borrow.Author.Needs.{needs}
 use Rattle.game.specs.Position.{Position, IsPosition, number}
 use Rattle.game.specs.Model.{arenaOf}
 use Rattle.turns.specs.Buffers.{rankIn}

@@ -1,6 +1,5 @@
 -- `move_of` goes by the kind. Assumes nothing.
 use mathlib.Core.Path.{subst}
-use Prim.Native.Nat.{ℕ}
 use borrow.Author.Needs.{needs}
 use Rattle.choice.specs.Choices.{Sought}
 use Rattle.choice.proofs.tables.move_of.Statement.{statement}

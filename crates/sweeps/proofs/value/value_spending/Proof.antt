@@ -1,9 +1,9 @@
 -- `value_spending` tries one listed move after another, until no other changes anything. Assumes nothing.
-use mathlib.Core.Logic.{_⊎_, inl, inr, ⊎-elim}
-use mathlib.Core.Path.{_≡_, refl, sym, _∙_, subst}
-use Prim.Native.Nat.{ℕ, _+_, _-_, _<_}
-use native.Mathlib.Omega.{arith}
 use mathlib.Core.Bool.{true}
+use mathlib.Core.Logic.{inl, inr, ⊎-elim}
+use mathlib.Core.Path.{_≡_, refl, sym, _∙_, subst}
+use Prim.Native.Nat.{_+_, _-_, _<_}
+use native.Mathlib.Omega.{arith}
 use Rattle.block.proofs.Decide as D
 use Rattle.ways.specs.Lines.{countIn}
 use Rattle.ways.proofs.Leading.{gives-none, spends-lands}

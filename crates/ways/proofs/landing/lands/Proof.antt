@@ -1,13 +1,13 @@
 -- `lands` fills up what is left of the place when the move is paid. Assumes nothing.
-use mathlib.Core.Path.{_≡_, _∙_, sym, ap, ap₂, refl}
-use Prim.Native.Nat.{ℕ, _+_, _-_, _≤_, _<_}
+use mathlib.Core.Path.{_∙_, sym, ap₂, refl}
+use Prim.Native.Nat.{ℕ, _-_, _<_}
 use native.Mathlib.Omega.{arith}
 use borrow.Author.Needs.{needs}
-use Rattle.ways.specs.Landing.{Remains, Lands}
-use Rattle.ways.specs.Lines.{packedIn, takenIn, givenIn, numberIn}
-use Rattle.ways.specs.Packed.{Narrow, Covers, filledPlace}
+use Rattle.ways.specs.Landing.{Remains}
+use Rattle.ways.specs.Lines.{packedIn, takenIn, givenIn}
+use Rattle.ways.specs.Packed.{filledPlace}
 use Rattle.ways.specs.declared.landing.Landing.{Landing}
-use Rattle.ways.specs.declared.landing.Landing.the-variants.{At, Unpaid}
+use Rattle.ways.specs.declared.landing.Landing.the-variants.{At}
 use Rattle.ways.proofs.Leading.{few, listed-small, given-small, narrow-here, lands-filled, lands-nowhere, spends-lands}
 use Rattle.ways.proofs.landing.lands.Statement.{statement}
 use Rattle.ways.proofs.landing.lands.Tie as tie

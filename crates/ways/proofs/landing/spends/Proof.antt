@@ -1,8 +1,7 @@
 -- `spends` asks whether the place has what the move takes. Assumes nothing.
-use mathlib.Core.Path.{_≡_, _∙_, sym, subst}
-use Prim.Native.Nat.{ℕ, _-_, _≤_, _<_}
+use mathlib.Core.Path.{sym, subst}
+use Prim.Native.Nat.{_≤_, _<_}
 use native.Mathlib.Omega.{arith}
-use borrow.Author.Tests.{not-true, not-false}
 use Rattle.block.proofs.Decide as D
 use Rattle.ways.specs.Packed.{Covers}
 use Rattle.ways.proofs.Leading.{few, listed-small, taken-small, taken-below, narrow-here}

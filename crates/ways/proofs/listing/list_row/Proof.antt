@@ -1,14 +1,12 @@
 -- `list_row` lists one state after another, behind the packed stocks. Assumes nothing.
-use mathlib.Core.Logic.{inl}
-use mathlib.Core.Path.{_≡_, refl, sym, _∙_, subst}
-use Prim.Native.Nat.{ℕ, _+_, _-_, _≤_, _<_}
+use mathlib.Core.Path.{_≡_, sym, _∙_}
+use Prim.Native.Nat.{ℕ, _-_, _≤_, _<_}
 use native.Mathlib.Omega.{arith}
 use lib.ListN.{length}
 use Rattle.block.specs.Layout as L
 use Rattle.game.specs.Model.{arenaOf}
-use Rattle.game.proofs.Numbers.Decide.{eq?}
-use Rattle.ways.specs.Lines.{waysBytes, fieldPlace}
-use Rattle.ways.specs.Listing.{StateListed, SameOutside}
+use Rattle.ways.specs.Lines.{waysBytes}
+use Rattle.ways.specs.Listing.{StateListed}
 use Rattle.ways.specs.Packed.{Packs}
 use Rattle.ways.proofs.Filling.{apart}
 use Rattle.ways.proofs.Leading.{states-next, packs-kept}
