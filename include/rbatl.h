@@ -33,8 +33,8 @@
  *
  * Stack: any call takes at most RBATL_STACK_BYTES, and none allocates. As
  * bench/run measures it, in bytes: check 223, states_refusal 271, write 415, read
- * and read_at 3143, label 7952, table 7968, reply 8032, move 8048, states 8064,
- * rehearse 8112, worksheet 8128, allowances 10432, list 10672.
+ * and read_at 3143, label 7984, table 8000, reply 8064, move 8080, states 8096,
+ * rehearse 8144, worksheet 8160, allowances 10464, list 10736.
  *
  * Cost: rbatl_move and rbatl_reply solve the row anew at each call. For the moves
  * of up to 64 positions ask rbatl_worksheet, which solves it once, as

@@ -123,7 +123,7 @@ fn value_filling(
     v
 }
 
-// The same where none does: a loop of its own, since it takes half again as long where it can fill up a stock.
+// The same where none does: a loop of its own, since one that can fill up a stock takes up to 1.4 times as long.
 fn value_spending(
     block: &[u8],
     row: Row,
