@@ -1,4 +1,6 @@
 // Whether a call is turned down before anything is solved: the block first, then the row, and then a state or a position of it.
+#![tactic(auto)]
+
 ghost use Rattle.std.specs.Prelude.{◌≡◌, ◌≤◌, ◌<◌, length};
 ghost use Rattle.block.specs.Inner.Tests.{Decides};
 ghost use Rattle.block.specs.Layout as L;

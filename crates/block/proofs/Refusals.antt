@@ -31,6 +31,7 @@ pub refused : {rules : List Rule} {Right : ℕ → Type 0} {r : Refusal} (more :
 refused {rules} {Right} {r} more {Rest} w = record { tried = go rules w.tried }
   where
     go : (rules : List Rule) → Tried rules (Gives Right) (Refused r) → Tried (rules ++ more) Rest (Refused r)
+    go [] x' = elim x' [ ]
     go ((q when P) ∷ rules) (inl h) = inl h
     go ((q when P) ∷ rules) (inr (h, w)) = inr (h, go rules w)
 
@@ -60,6 +61,7 @@ pub passed : {rules more : List Rule} {P Q : Answer → Type 0} {n : ℕ} {a : A
 passed {rules} w next = after rules (none_holds w) next
 
 pub unmet : (rules : List Rule) → Fails rules → (r : Refusal) → Meets rules r → ⊥
+unmet [] _ r x3 = elim x3 [ ]
 unmet ((q when P) ∷ rules) (h, fails) r (inl (e, holds)) = h holds
 unmet ((q when P) ∷ rules) (h, fails) r (inr later) = unmet rules fails r later
 

@@ -1,4 +1,6 @@
 // Number 13: charges on max resources; and charges on resources of either kind.
+#![tactic(auto)]
+
 ghost use Rattle.std.specs.Prelude.{◌≡◌, ℕ, ◌<◌};
 ghost use Rattle.block.specs.Decide.{Some};
 ghost use Rattle.block.specs.Inner.Tests.{Decides};

@@ -1,4 +1,6 @@
 // The states in which a row is true, listed in a lent buffer of 24 bytes.
+#![tactic(auto)]
+
 ghost use Rattle.std.specs.Prelude.{◌≡◌, ◌<◌, length};
 ghost use Rattle.block.specs.Layout as L;
 ghost use Rattle.block.specs.Refusal.{Answers, NoValue};

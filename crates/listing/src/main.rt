@@ -1,4 +1,6 @@
 // Reads the text of a job on standard input and prints its listing. It only moves bytes: what is printed is made by `report`.
+#![tactic(auto)]
+
 ghost use Rattle.std.specs.Prelude.{◌≤◌, length};
 ghost use Rattle.listing.specs.Input.{Within};
 

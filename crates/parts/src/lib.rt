@@ -1,4 +1,6 @@
 // A team's part of a joint action, by a table of all of them.
+#![tactic(auto)]
+
 ghost use Rattle.std.specs.Prelude.{◌≡◌};
 ghost use Rattle.game.specs.Inner.Parts.{part_of};
 ghost use Rattle.game.specs.Model.{bit};

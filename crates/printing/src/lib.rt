@@ -1,4 +1,6 @@
 // The lines of the listing. Each number is given room for eight digits.
+#![tactic(auto)]
+
 ghost use Rattle.std.specs.Prelude.{◌≡◌, ◌+◌, ◌^◌, ◌≤◌, ◌<◌, length};
 ghost use Rattle.block.specs.Layout.{max_states};
 ghost use Rattle.text.specs.Inner.Adding.{Adds};

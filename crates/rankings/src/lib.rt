@@ -1,4 +1,6 @@
 // What ranks say, by the kind of a strategic row.
+#![tactic(auto)]
+
 ghost use Rattle.std.specs.Prelude.{◌<◌};
 ghost use Rattle.block.specs.Inner.Tests.{Decides};
 ghost use Rattle.turns.specs.Sizes.{set_bits};

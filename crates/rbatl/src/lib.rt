@@ -1,4 +1,6 @@
 // The C library: each call of documents 01 and 02 under its C name, and nothing else. include/rbatl.h is its header.
+#![tactic(auto)]
+
 ghost use Rattle.std.specs.Prelude.{[], ◌∷◌, ◌≡◌};
 ghost use Rattle.text.specs.Text.{read_call, block_after, Exact, Numbered};
 ghost use Rattle.game.specs.Demand.{Demand3};

@@ -1,4 +1,6 @@
 // The reader: a text into a block.
+#![tactic(auto)]
+
 mod actions;
 mod agents;
 mod gos;

@@ -1,4 +1,6 @@
 // The listing of a job, as bytes in a lent buffer.
+#![tactic(auto)]
+
 mod plans;
 mod rows;
 

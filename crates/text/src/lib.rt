@@ -1,4 +1,6 @@
 // The text of a job: the one description of it (specs/), and what reader and writer share.
+#![tactic(auto)]
+
 pub mod ends;
 pub mod joint;
 pub mod output;

@@ -1,4 +1,6 @@
 // The check of a block: document 01's numbers 1 to 6, and 13, in their order.
+#![tactic(auto)]
+
 ghost use Rattle.block.specs.Check.{Verdict};
 
 use block::layout;

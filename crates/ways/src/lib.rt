@@ -1,5 +1,7 @@
 // The moves of a row and the replies to them, listed once, and where they lead: from a stock place to a stock place, and from
 // there, by the reply, to a state.
+#![tactic(auto)]
+
 pub mod back;
 pub mod landing;
 pub mod lines;

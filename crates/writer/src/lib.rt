@@ -1,4 +1,6 @@
 // The writer: the text of a block.
+#![tactic(auto)]
+
 mod agents;
 mod job;
 mod output;

@@ -1,0 +1,10 @@
+-- `zeros` stores zeros from a place on.
+use mathlib.Core.Path.{◌≡◌, refl}
+use Prim.Native.Nat.{◌-◌, ◌≤◌}
+use native.Mathlib.Omega.{arith}
+use lib.ListN.{length, length-set}
+use Rattle.block.proofs.Zeros.{Zeroed, zeroed_none, zeroed_more, zeroed_all}
+use Rattle.block.proofs.fill.zeros.Given as goal
+
+abbrev pub invariant-loop-i : goal.invariant-loop-i
+invariant-loop-i l = (l.at ≤ l.i) × ((l.i ≤ l.i-end) × ((length l.buffer ≡ length l.initial.buffer) × Zeroed l.initial.buffer l.at l.buffer l.i))

@@ -1,0 +1,6 @@
+-- `field` reads the byte at its place.
+use borrow.Author.Rules.{rules}
+use Rattle.block.proofs.layout.field.Goals as goal
+
+pub returns : goal.returns
+returns c = rw c.field_place.ensures.0 at c.byte_at.ensures

@@ -1,0 +1,6 @@
+-- `next` reads the byte at its place.
+use borrow.Author.Rules.{rules}
+use Rattle.block.proofs.layout.next.Goals as goal
+
+pub returns : goal.returns
+returns c = rw c.next_place.ensures.0 at c.byte_at.ensures

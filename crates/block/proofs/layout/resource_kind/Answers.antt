@@ -1,0 +1,6 @@
+-- `resource_kind` reads the byte at its place.
+use borrow.Author.Rules.{rules}
+use Rattle.block.proofs.layout.resource_kind.Goals as goal
+
+pub returns : goal.returns
+returns c = rw c.resource_kind_place.ensures.0 at c.byte_at.ensures
