@@ -57,9 +57,9 @@ each_proper : {n : ℕ} (base : ℕ) (spelling : ℕ → ℕ → Spelling) (plac
     (left j : ℕ) {f : Format} → j + left ≤ max_resources → n ≤ base + j → Proper (base + max_resources) f → Proper n (each_resource spelling place left j f)
 unfolding each_resource
 each_proper base spelling place at clear zero j hj l h = sooner (omega arith) h
-each_proper base spelling place at clear (suc left) j hj l h =
+each_proper {n = n} base spelling place at clear (suc left) j {f = f} hj l h =
     let (in_layout, turns) = at j (omega arith) in
-    clear_field (clear j left) (omega arith) in_layout (λ v _. each_proper base spelling place at clear left (suc j) (omega arith) (omega arith) h)
+    clear_field (clear j left) (omega arith) in_layout (λ v _. each_proper {n = suc (turn (place j))} base spelling place at clear left (suc j) {f = f} (omega arith) (omega arith) h)
 
 -- parts that each tell a number, the part j from turn turns j on
 collect_proper : {n : ℕ} (part : ℕ → ℕ → (ℕ → Format) → Format) (turns : ℕ → ℕ) (most : ℕ) → ((j : ℕ) → j ≤ most → turns j ≤ turns most) →
@@ -84,9 +84,9 @@ module _ (z : Sizes) (small : Small z) (s : ℕ) (hs : s < max_states) where
       Proper (state_turn s + (1 + agent_turns + agent_turns * a)) f → Proper n (actions z s a left k f)
   unfolding actions
   actions_proper a zero k ha hk l h = sooner (omega arith) h
-  actions_proper a (suc left) k ha hk l h =
+  actions_proper {n} a (suc left) k {f} ha hk l h =
       each_proper (state_turn s + (2 + agent_turns * a + action_costs * k)) (λ j m. cost_spelling z.edition (get_or z.kinds j sum_kind) k (left + m)) (Cost s a k) (λ j hj. (omega arith, omega arith)) (λ j m. cost_clear z.edition (get_or z.kinds j sum_kind) k (left + m)) z.resources 0 (omega arith) (omega arith)
-      (actions_proper a left (suc k) ha (omega arith) (omega arith) h)
+      (actions_proper {n = state_turn s + (2 + agent_turns * a + action_costs * k) + max_resources} a left (suc k) ha (omega arith) (omega arith) h)
 
   acts_proper : {n : ℕ} (a : ℕ) {f : ℕ → Format} → a < max_agents → n ≤ state_turn s + (1 + agent_turns * a) →
       ((c : ℕ) → Proper (state_turn s + (1 + agent_turns + agent_turns * a)) (f c)) → Proper n (acts_line z s a f)
@@ -126,10 +126,10 @@ module _ (z : Sizes) (small : Small z) (s : ℕ) (hs : s < max_states) where
       Proper (state_turn s + state_turns) f → Proper n (next_fields z s counts left joint f)
   unfolding next_fields
   nexts_proper zero joint counts hj l h = sooner (omega arith) h
-  nexts_proper (suc left) joint counts hj l h =
+  nexts_proper {n = n} (suc left) joint counts {f = f} hj l h =
       either_proper (possible counts joint)
-      (next_proper joint counts (omega arith) l (nexts_proper left (suc joint) counts (omega arith) (omega arith) h))
-      (nexts_proper left (suc joint) counts (omega arith) (omega arith) h)
+      (next_proper joint counts (omega arith) l (nexts_proper {n = state_turn s + (1 + next_turn + joint)} left (suc joint) counts (omega arith) (omega arith) h))
+      (nexts_proper {n = n} left (suc joint) counts (omega arith) (omega arith) h)
 
   state_proper : {n : ℕ} {f : Format} → n ≤ state_turn s → Proper (state_turn s + state_turns) f → Proper n (state_lines z s f)
   unfolding state_lines state_line index
@@ -141,8 +141,8 @@ module _ (z : Sizes) (small : Small z) where
   states_proper : {n : ℕ} (left s : ℕ) {f : Format} → s + left ≤ max_states → n ≤ state_turn s → Proper (row_turn 0) f → Proper n (states z left s f)
   unfolding states
   states_proper zero s hs l h = sooner (omega arith) h
-  states_proper (suc left) s hs l h =
-      state_proper z small s (omega arith) l (states_proper left (suc s) (omega arith) (omega arith) h)
+  states_proper {n} (suc left) s {f} hs l h =
+      state_proper z small s (omega arith) l (states_proper {n = state_turn s + state_turns} left (suc s) (omega arith) (omega arith) h)
 
   team_proper : {n : ℕ} (i k : ℕ) {f : Format} → i < max_rows → n ≤ row_turn i + 1 → Proper (row_turn i + (2 + max_resources)) f → Proper n (team_fields z i k f)
   unfolding team_fields
@@ -162,10 +162,10 @@ module _ (z : Sizes) (small : Small z) where
   rows_proper : {n : ℕ} (left i : ℕ) {f : Format} → i + left ≤ max_rows → n ≤ row_turn i → Proper (row_turn max_rows) f → Proper n (row_lines z left i f)
   unfolding row_lines row_line
   rows_proper zero i hi l h = sooner (omega arith) h
-  rows_proper (suc left) i hi l h =
+  rows_proper {n} (suc left) i {f} hi l h =
       clear_field kind_clear (omega arith) (omega arith)
       (λ k _. team_proper i k (omega arith) (omega arith)
-      (operands_proper i k (omega arith) (omega arith) (rows_proper left (suc i) (omega arith) (omega arith) h)))
+      (operands_proper i k (omega arith) (omega arith) (rows_proper {n = row_turn i + row_bytes} left (suc i) (omega arith) (omega arith) h)))
 
 size_proper : {n : ℕ} (sep f high : ℕ) {k : ℕ → Format} → sep < 48 → n ≤ f → f < header_bytes → ((v : ℕ) → v ≤ high → Proper (suc f) (k v)) → Proper n (size sep f high k)
 unfolding size

@@ -93,9 +93,9 @@ inside (Field i f) h = omega arith
 passed : (p : Place) → InLayout p → {n : ℕ} (f : Format) (b : Block) → Proper n f → turn p < n → Good f b → Avoids (place_of p) f b
 passed p i end b done l g = tt
 passed p i (exactly w f) b (word h) l g = passed p i f b h l g
-passed p i (value x q k) b (field a i' c h) l g = (
+passed p i {n = n} (value x q k) b (field a i' c h) l g = (
   λ e. let same : turn q ≡ turn p = ap turn (one_place q p i' i e) in omega arith,
-  passed p i (k (at b q)) b (h (at b q) g.0) (omega arith) g.1,
+  passed p i {n = suc (turn q)} (k (at b q)) b (h (at b q) g.0) (omega arith) g.1,
 )
 
 pub spells_good : (f : Format) (b : Block) (t : List ℕ) → Spells f b t → Good f b
@@ -106,9 +106,9 @@ spells_good (value x p k) b t s = ((s.0, s.1, s.2, s.3), spells_good (k (at b p)
 pub written : {n : ℕ} (f : Format) (b : Block) → Proper n f → Good f b → Spells f b (write f b)
 written end b done g = refl
 written (exactly w f) b (word h) g = (write f b, refl, written f b h g)
-written (value x p k) b (field a i c h) g =
+written {n = n} (value x p k) b (field a i c h) g =
     let m = c.meant (at b p) g.0 in
-    (x.chosen (at b p), m.0, m.1, m.2, write (k (at b p)) b, refl, written (k (at b p)) b (h (at b p) g.0) g.1)
+    (x.chosen (at b p), m.0, m.1, m.2, write (k (at b p)) b, refl, written {n = suc (turn p)} (k (at b p)) b (h (at b p) g.0) g.1)
 
 -- what a reading that is accepted shows
 abbrev Shown : Format → Block → Block → List ℕ → Type 0
@@ -162,7 +162,7 @@ sound (exactly w f) b₀ b t (word h) l e = ⊎_elim (here (λ r. sound f b₀ b
 
     there : (Starts w t → ⊥) → Shown (exactly w f) b₀ b t
     there q = never Form b (rw (after_other 0 w t missing q) at e)
-sound (value x p k) b₀ b t (field a i c h) l e = sound_value x p k b₀ b t i h l (λ v b₁ rest. sound (k v) b₁ b rest) e
+sound {n} (value x p k) b₀ b t (field a i c h) l e = sound_value x p k b₀ b t i h l (λ v b₁ rest. sound {n = suc (turn p)} (k v) b₁ b rest) e
 
 -- the bytes of b that the format's fields do not name stand in b₀
 abbrev Ready : Format → Block → Block → Type 0
@@ -184,9 +184,9 @@ is_true false h = absurd h
 pub complete : {n : ℕ} (f : Format) (b₀ b : Block) (t : List ℕ) → Proper n f → length b ≡ block_bytes → Ready f b₀ b → Spells f b t → read f b₀ t ≡ accepted b
 complete end b₀ b t done l r s = rw s (ap accepted (ext_get_or 0 b₀ b (r.0 ∙ sym l) (λ i k. sym (r.1 i (omega arith) tt))))
 complete (exactly w f) b₀ b t (word h) l r s = rw (after_found 0 w t s.0 missing s.1) (complete f b₀ b s.0 h l r s.2)
-complete (value x p k) b₀ b t (field a i c h) l r s =
+complete {n = n} (value x p k) b₀ b t (field a i c h) l r s =
     let o = s.0 in
     let rest = s.4 in
     let only : (m : ℕ) → m < x.options → Starts (x.spell m) t → m ≡ o = λ m q w. c.only t m o q s.1 w (rest, s.5) in
     rw (search_found x.spell t x.options o rest s.1 s.5 only, is_true (x.allowed o) s.2, s.3)
-    (complete (k (at b p)) (store b₀ p (at b p)) b rest (h (at b p) (o, s.1, s.2, s.3)) l (ready_on x p k b₀ b i r) s.6)
+    (complete {n = suc (turn p)} (k (at b p)) (store b₀ p (at b p)) b rest (h (at b p) (o, s.1, s.2, s.3)) l (ready_on x p k b₀ b i r) s.6)

@@ -136,8 +136,8 @@ halted {n} (exactly w f) b₀ t₀ p b t (word h) s e = on (λ rest. halted f b�
         (r : Found) → stop_found r (λ o rest. stop f b₀ rest) ≡ stopped p b t → Halted n (exactly w f) b₀ p b t (on_found r t₀ (λ o rest. read f b₀ rest))
     on ih (found o rest) e = past_this (ih rest e)
     on ih missing e = nowhere_stopped p b t e
-halted (value x q k) b₀ t₀ p b t (field l i c h) s e =
-    halted_value x q k b₀ t₀ p b t l i s h (λ v b₁ rest. halted (k v) b₁ rest p b t) e
+halted {n} (value x q k) b₀ t₀ p b t (field l i c h) s e =
+    halted_value x q k b₀ t₀ p b t l i s h (λ v b₁ rest. halted {n = suc (turn q)} (k v) b₁ rest p b t) e
 
 -- a text that is refused, and not at a value, is refused for its form
 pub misread : (f : Format) (b : Block) (t : List ℕ) (r : Refusal) (u : List ℕ) → stop f b t ≡ nowhere → read f b t ≡ refused r u → r ≡ Form

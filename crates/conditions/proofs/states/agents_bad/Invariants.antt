@@ -1,0 +1,12 @@
+-- `agents_bad` looks for bad actions over the agents.
+use Prim.Native.Nat.{ℕ, ◌≤◌, ◌<◌, ◌-◌}
+use native.Mathlib.Omega.{arith}
+use borrow.Author.Count.{below_none, below_more}
+use Rattle.block.specs.Inner.Tests.{holds, fails}
+use Rattle.block.specs.Check.{BadActions}
+use Rattle.block.proofs.Decide as D
+use borrow.Author.Rules.{rules}
+use Rattle.conditions.proofs.states.agents_bad.Given as goal
+
+abbrev pub invariant-loop-a : goal.invariant-loop-a
+invariant-loop-a l = (l.a ≤ l.n) × ((x : ℕ) → x < l.a → BadActions l.block l.s x → ⊥)

@@ -1,0 +1,20 @@
+-- `cost_bad` tells a cost of idle, and a byte 16 to 240.
+use mathlib.Core.Logic.{inl, inr, ⊎_elim}
+use native.Mathlib.Omega.{arith}
+use Rattle.block.specs.Inner.Tests.{fails}
+use Rattle.block.proofs.Decide as D
+use borrow.Author.Rules.{rules}
+use Rattle.conditions.proofs.states.cost_bad.Goals as goal
+
+pub returns-then-k-eq0 : goal.returns-then-k-eq0
+returns-then-k-eq0 c = D.same (D.less 0 c.cost_byte-c.result)
+    (λ h. inr (omega arith, omega arith))
+    (λ x. ⊎_elim (λ h. omega arith) (λ h. omega arith) x)
+
+pub returns-then-c-le-MAX_UNITS : goal.returns-then-c-le-MAX_UNITS
+returns-then-c-le-MAX_UNITS c = fails (λ x. ⊎_elim (λ h. omega arith) (λ h. c.if-k-eq0.false h.0) x)
+
+pub returns : goal.returns
+returns c = D.same (D.less c.cost_byte-c.result _)
+    (λ h. inl (omega arith))
+    (λ x. ⊎_elim (λ h. omega arith) (λ h. absurd (c.if-k-eq0.false h.0)) x)

@@ -1,0 +1,14 @@
+-- `agent_in_use` tells whether a state and an agent exist.
+use native.Mathlib.Omega.{arith}
+use Rattle.block.specs.Inner.Tests.{fails}
+use Rattle.block.proofs.Decide as D
+use borrow.Author.Rules.{rules}
+use Rattle.unused.proofs.agent_in_use.Goals as goal
+
+pub returns-then-s-states : goal.returns-then-s-states
+returns-then-s-states c = D.same (D.less c.args.a c.agents.result)
+    (λ h. (omega arith, omega arith))
+    (λ x. omega arith)
+
+pub returns : goal.returns
+returns c = fails (λ x. omega arith)
