@@ -1,0 +1,7 @@
+-- `has_bit` shifts a word and looks at its lowest bit.
+use borrow.Author.Rules.{rules}
+use Rattle.block.proofs.Decide as D
+use Rattle.turns.proofs.buffers.has_bit.Goals as goal
+
+pub returns : goal.returns
+returns c = D.equal _ _

@@ -1,0 +1,12 @@
+-- `number` goes over the resources as `numberUpTo` does.
+use mathlib.Core.Path.{◌≡◌, refl, ◌∙◌, ap}
+use Prim.Native.Nat.{ℕ, ◌-◌, ◌≤◌, ◌<◌}
+use native.Mathlib.Omega.{arith}
+use Rattle.block.specs.Layout as L
+use Rattle.game.specs.Position.{position, number_up_to}
+use Rattle.game.specs.Model.{arena_of}
+use Rattle.turns.proofs.Numbering.{goes_on, stays_small}
+use Rattle.turns.proofs.positions.number.Given as goal
+
+abbrev pub invariant-loop-j : goal.invariant-loop-j
+invariant-loop-j l = (l.j ≤ l.n) × (l.x ≡ number_up_to (arena_of l.block l.i) l.j (position l.s l.stocks))
