@@ -17,7 +17,7 @@ use solver::rows;
 use turns::{buffers, positions};
 
 // A state of a row, and the sets of the rows that it names; and whether one table tells of all pairs.
-#[derive(Drop)]
+#[derive(Clone, Copy)]
 pub struct Asked {
     pub row: usize,
     pub state: usize,
@@ -27,7 +27,7 @@ pub struct Asked {
 }
 
 // The numbers that are tried for a resource, from the first below the end.
-#[derive(Drop)]
+#[derive(Clone, Copy)]
 struct Range {
     first: usize,
     end: usize,

@@ -104,7 +104,7 @@ pub const CHARGE_BYTE: usize = BYTE_VALUES - MAX_UNITS;
 // A place of the layout: a header byte, the mask of a state, the count of a state and agent, the
 // cost of a state, agent, action and resource, the next state of a state and joint action, a
 // field of a row, the kind of a resource.
-#[derive(Drop)]
+#[derive(Clone, Copy)]
 pub enum Place {
     Header(usize),
     Mask(usize),

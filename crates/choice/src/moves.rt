@@ -21,7 +21,7 @@ use ways::worst::{Limit, Step};
 use ways::{landing, lines, listing, rows, worst};
 
 // What a side goes by at a position: the kind of the row, and the position's rank.
-#[derive(Drop)]
+#[derive(Clone, Copy)]
 pub struct Aim {
     pub kind: usize,
     pub own: usize,

@@ -13,7 +13,7 @@ use turns::sizes;
 const INPUT_BYTES: usize = TEXT_BYTES + 1;
 
 // How much of the input was read, all of it or as much as the buffer holds; or that a read failed.
-#[derive(Drop)]
+#[derive(Clone, Copy)]
 pub enum Input {
     Bytes(usize),
     Failed,

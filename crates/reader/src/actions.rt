@@ -12,7 +12,7 @@ use spellings::spelled::Spelled;
 use text::sizes::Sizes;
 
 // An agent in a state.
-#[derive(Drop)]
+#[derive(Clone, Copy)]
 struct Actor {
     state: usize,
     agent: usize,

@@ -20,7 +20,7 @@ use text::ends::sizes_end;
 use text::sizes::{Edition, Sizes};
 
 // The edition and the sizes of the job, or what stands in for them after a refusal, and the step past the line.
-#[derive(Drop)]
+#[derive(Clone, Copy)]
 pub struct Opened {
     pub z: Sizes,
     pub next: Step,
@@ -63,7 +63,7 @@ fn named(text: &[u8], e: Edition) -> Step
 }
 
 // The kind of each resource, and the step past them.
-#[derive(Drop)]
+#[derive(Clone, Copy)]
 struct Kinded {
     kinds: [usize; MAX_RESOURCES],
     next: Step,

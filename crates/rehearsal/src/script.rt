@@ -18,7 +18,7 @@ use turns::{buffers, positions};
 use ways::rows::Spot;
 
 // After how many moves a rehearsal ends, whether it is finished (1 or 0), and where; or that a byte of the script is no reply.
-#[derive(Drop)]
+#[derive(Clone, Copy)]
 pub enum Ending {
     After(usize, u8, Spot),
     NoReply,

@@ -17,7 +17,7 @@ use ways::landing::Landing;
 use ways::lines;
 use ways::rows::Spot;
 
-#[derive(Drop)]
+#[derive(Clone, Copy)]
 pub enum Turn {
     To(Spot),
     NoReply,

@@ -12,14 +12,14 @@ use turns::sizes;
 use ways::rows::Row;
 
 // The row as it is listed for its moves, with the set of its left row, and the set of its right row.
-#[derive(Drop)]
+#[derive(Clone, Copy)]
 pub struct Ready {
     pub row: Row,
     pub right: usize,
 }
 
 // The sets of the rows that a row names.
-#[derive(Drop)]
+#[derive(Clone, Copy)]
 pub struct Lower {
     pub left: usize,
     pub right: usize,

@@ -13,7 +13,7 @@ use tokens::numeral::Numeral;
 
 // A field with spellings of its own: a bound, the word of a row, the kind of a resource before so many further ones, and
 // the cost in a resource of a kind, of an action, before so many further ones.
-#[derive(Drop)]
+#[derive(Clone, Copy)]
 pub enum Spelled {
     Bound,
     Row,

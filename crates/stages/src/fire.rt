@@ -22,7 +22,7 @@ use ways::rows::{Row, Spot};
 use ways::{back, landing, lines, packs};
 
 // The k-th move of a state, which serves at a place, at a stage of an attack.
-#[derive(Drop)]
+#[derive(Clone, Copy)]
 pub struct Fire {
     pub row: Row,
     pub most: bool,
@@ -166,7 +166,7 @@ fn fire_span(
 }
 
 // The places with a number of each span, the first in lines of this width.
-#[derive(Drop)]
+#[derive(Clone, Copy)]
 pub struct Spans {
     pub low: Span,
     pub high: Span,

@@ -18,7 +18,7 @@ use turns::sizes;
 use ways::rows::Row;
 
 // Who attacks, the coalition where `most`, and the safe states from which an attack goes on.
-#[derive(Drop)]
+#[derive(Clone, Copy)]
 pub struct Side {
     pub most: bool,
     pub safe: usize,

@@ -17,7 +17,7 @@ use ways::lines;
 use ways::rows::Row;
 
 // An attack on a row: by whom, from which safe states, and at which stage.
-#[derive(Drop)]
+#[derive(Clone, Copy)]
 pub struct Attack {
     pub row: Row,
     pub most: bool,
@@ -26,7 +26,7 @@ pub struct Attack {
 }
 
 // A state and a place where ranks were given, with the states that got them at the last stage.
-#[derive(Drop)]
+#[derive(Clone, Copy)]
 pub struct Front {
     pub state: usize,
     pub place: usize,

@@ -15,7 +15,7 @@ use turns::buffers;
 use ways::rows::{Row, Spot};
 
 // Who attacks, the coalition where `most`, and the safe states from which an attack goes on.
-#[derive(Drop)]
+#[derive(Clone, Copy)]
 pub struct Side {
     pub most: bool,
     pub safe: usize,

@@ -21,7 +21,7 @@ use ways::worst::{Limit, Step};
 use ways::{landing, lines, worst};
 
 // A listed move that is tried at a position: which one it is, and where it lands.
-#[derive(Drop)]
+#[derive(Clone, Copy)]
 struct Tried {
     k: usize,
     to: Landing,

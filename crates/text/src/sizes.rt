@@ -7,14 +7,14 @@ use block::layout;
 
 // The editions of the text: one has a line for each next state, sums every resource and has no charges; the
 // other has the next states of a state on one line, a kind for each resource, and charges.
-#[derive(Drop)]
+#[derive(Clone, Copy)]
 pub enum Edition {
     First,
     Second,
 }
 
 // The edition, the sizes, and the kind of each resource.
-#[derive(Drop)]
+#[derive(Clone, Copy)]
 pub struct Sizes {
     pub edition: Edition,
     pub agents: usize,

@@ -11,7 +11,7 @@ use block::widths::wide;
 use text::{LAST_NUMBER, MINUS, NINE, NUMBERS, ZERO};
 
 // A number and the place after it and its comma or line end.
-#[derive(Drop)]
+#[derive(Clone, Copy)]
 pub enum Numeral {
     Found(usize, usize),
     Missing,

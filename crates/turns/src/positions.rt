@@ -109,7 +109,7 @@ pub fn taken(block: &[u8], i: usize, s: usize, m: usize, j: usize) -> usize
 }
 
 // The number of what a move takes of the stocks, and of what it gives them.
-#[derive(Drop)]
+#[derive(Clone, Copy)]
 pub struct Effect {
     pub takes: usize,
     pub gives: usize,

@@ -15,7 +15,7 @@ use block::layout;
 use turns::positions;
 
 // The stocks from `first` to `last`, none where that is smaller.
-#[derive(Drop)]
+#[derive(Clone, Copy)]
 pub struct Span {
     pub first: usize,
     pub last: usize,

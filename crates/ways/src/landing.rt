@@ -11,7 +11,7 @@ ghost use Rattle.ways.specs.Rows.{Playable};
 use crate::rows::{Row, Spot};
 use crate::{lines, packs};
 
-#[derive(Drop)]
+#[derive(Clone, Copy)]
 pub enum Landing {
     At(usize),
     Unpaid,

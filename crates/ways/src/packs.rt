@@ -54,7 +54,7 @@ pub fn fill_packs(block: &[u8], row: Row, ways: &mut [u8])
 }
 
 // The stocks of a place, taken apart.
-#[derive(Drop)]
+#[derive(Clone, Copy)]
 pub struct Digits {
     pub low: usize,
     pub high: usize,

@@ -8,7 +8,7 @@ use turns::positions;
 
 // The row's number and how many stock places each state has. Where `into`, only moves that lead into the set whatever the reply matter. Where not
 // `gives`, no listed move gives anything.
-#[derive(Drop)]
+#[derive(Clone, Copy)]
 pub struct Row {
     pub index: usize,
     pub places: usize,
@@ -18,7 +18,7 @@ pub struct Row {
 }
 
 // A position: its state, and the number of its stocks among the stock places.
-#[derive(Drop)]
+#[derive(Clone, Copy)]
 pub struct Spot {
     pub state: usize,
     pub place: usize,

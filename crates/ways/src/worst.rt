@@ -19,7 +19,7 @@ use block::layout;
 use turns::buffers;
 
 // A move that is made: in which state, its number, and the stock place that it leads to.
-#[derive(Drop)]
+#[derive(Clone, Copy)]
 pub struct Step {
     pub state: usize,
     pub number: usize,
@@ -27,7 +27,7 @@ pub struct Step {
 }
 
 // A rank past which a search need not go: the largest is looked for where `most`, and else the smallest.
-#[derive(Drop)]
+#[derive(Clone, Copy)]
 pub struct Limit {
     pub most: bool,
     pub rank: usize,
