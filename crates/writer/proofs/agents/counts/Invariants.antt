@@ -1,0 +1,10 @@
+-- `counts` gathers the counts, agent by agent.
+use mathlib.Core.Path.{◌≡◌, refl, ap, ◌∙◌}
+use Prim.Native.Nat.{◌-◌, ◌≤◌}
+use native.Mathlib.Numerals.{add-one}
+use native.Mathlib.Omega.{arith}
+use Rattle.text.specs.Inner.Fields.{counts_to}
+use Rattle.writer.proofs.agents.counts.Given as goal
+
+abbrev pub invariant-loop-a : goal.invariant-loop-a
+invariant-loop-a l = (l.a ≤ l.agents) × (l.counts ≡ counts_to l.block l.s l.a)

@@ -1,0 +1,16 @@
+-- `resource_fields` writes the kinds of the resources.
+use mathlib.Core.Path.{◌≡◌, refl, sym, ◌∙◌}
+use Prim.Native.Nat.{◌+◌, ◌-◌, ◌*◌, ◌≤◌}
+use native.Mathlib.Omega.{arith}
+use lib.ListN.{length}
+use Rattle.text.specs.declared.sizes.Edition.TheVariants.{Second}
+use Rattle.block.specs.Layout.{resource_kind}
+use Rattle.block.specs.declared.layout.Place.TheVariants.{ResourceKind}
+use Rattle.text.specs.Format.{value, write}
+use Rattle.text.specs.Job as J
+use Rattle.writer.specs.Inner.Lengths.{field_bytes}
+use Rattle.writer.proofs.Writing.{Collected, collected_none, collected_more, collected_all}
+use Rattle.writer.proofs.job.resource_fields.Given as goal
+
+abbrev pub invariant-loop-j : goal.invariant-loop-j
+invariant-loop-j l = (l.j ≤ l.resources) × ((length l.text ≡ length l.initial.text) × ((l.next ≤ l.at + field_bytes * l.j) × Collected (λ left i. value (J.resource_spelling Second left) (ResourceKind i)) (resource_kind l.block) J.no_kinds l.resources l.block l.initial.text l.at l.text l.next l.j))
