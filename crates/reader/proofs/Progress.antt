@@ -21,7 +21,8 @@ pub reached_none : {loop : ℕ → ℕ → Format → Format} {text : List ℕ} 
 reached_none = record { so = λ f. rw sub-zero }
 
 module _ {loop body : ℕ → ℕ → Format → Format} {text : List ℕ} {count j : ℕ} {at next : Step} {b₀ b : Block} (l : Loop loop body) (r : Reached loop text count at b₀ next b j) where
-  pub reached_more : {after : Step} {b' : Block} → j < count → ((f : Format) → resume text next (read (body (count - (j + 1)) j f) b) ≡ resume text after (read f b')) → Reached loop text count at b₀ after b' (j + 1)
+  pub reached_more : {after : Step} {b' : Block} → j < count → ((f : Format) → resume text next (read (body (count - (j + 1)) j f) b) ≡ resume text after (read f b')) →
+      Reached loop text count at b₀ after b' (j + 1)
   reached_more h body-read = record {
     so = λ f.
         r.so f
@@ -40,7 +41,8 @@ pub collected_none : {part : ℕ → ℕ → (ℕ → Format) → Format} {text 
 collected_none = record { so = λ f. rw sub-zero }
 
 module _ {part : ℕ → ℕ → (ℕ → Format) → Format} {text none told : List ℕ} {count j : ℕ} {at next : Step} {b₀ b : Block} (r : Collected part text count none at b₀ next b told j) where
-  pub collected_more : {after : Step} {b' : Block} (n : ℕ) → j < count → ((f : ℕ → Format) → resume text next (read (part (count - (j + 1)) j f) b) ≡ resume text after (read (f n) b')) → Collected part text count none at b₀ after b' (set told j n) (j + 1)
+  pub collected_more : {after : Step} {b' : Block} (n : ℕ) → j < count → ((f : ℕ → Format) → resume text next (read (part (count - (j + 1)) j f) b) ≡ resume text after (read (f n) b')) →
+      Collected part text count none at b₀ after b' (set told j n) (j + 1)
   collected_more n h body = record {
     so = λ f.
         r.so f

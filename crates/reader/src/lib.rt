@@ -83,7 +83,7 @@ pub fn read(text: &[u8], block: &mut [u8]) -> Answer
     let mut blank = [0u8; BLOCK_BYTES];
     match read_into(text, &mut blank) {
         Step::Next(_) => {
-            bytes::copy(&blank, block);
+            block.copy_from_slice(&blank);
             Answer::Value(0)
         }
         Step::Refused(r, _) => Answer::Refused(r),

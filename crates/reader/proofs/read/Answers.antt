@@ -1,0 +1,29 @@
+-- `read` reads into a blank block and copies it where the text is accepted.
+use mathlib.Core.Path.{◌≡◌, refl, ◌∙◌}
+use Rattle.text.specs.Format.{accepted, refused}
+use Rattle.text.specs.Text.{blank, read_call}
+use Rattle.text.proofs.Accepts.{accepts}
+use Rattle.text.proofs.Numbered.{numbered}
+use Rattle.reader.proofs.Calls.{read_long, read_other, read_whole}
+use Rattle.reader.proofs.read.Goals as goal
+
+pub returns-then-text-gt-TEXT_BYTES : goal.returns-then-text-gt-TEXT_BYTES
+returns-then-text-gt-TEXT_BYTES c = rw (read_long _ _ c.if-text-gt-TEXT_BYTES.true) record { value = refl; block_after = refl; exact = accepts _; numbered = numbered _ }
+
+pub returns-then-block-ne-BLOCK_BYTES : goal.returns-then-block-ne-BLOCK_BYTES
+returns-then-block-ne-BLOCK_BYTES c =
+    rw (read_other _ _ c.if-text-gt-TEXT_BYTES.false c.if-block-ne-BLOCK_BYTES.true) record { value = refl; block_after = refl; exact = accepts _; numbered = numbered _ }
+
+pub returns-in-Next : goal.returns-in-Next
+unfolding blank
+returns-in-Next c =
+    let is : read_call c.args.text.now c.args.block.now ≡ accepted c.read_into.new.job =
+    read_whole c.args.text.now c.args.block.now c.if-text-gt-TEXT_BYTES.false c.if-block-ne-BLOCK_BYTES.false ∙ (rw c.in-Next.is at c.read_into.ensures.text_value) in
+    rw is record { value = refl; block_after = c.copy_from_slice.ensures.after; exact = accepts _; numbered = numbered _ }
+
+pub returns-in-Refused : goal.returns-in-Refused
+unfolding blank
+returns-in-Refused c =
+    let is : read_call c.args.text.now c.args.block.now ≡ refused _ _ =
+    read_whole c.args.text.now c.args.block.now c.if-text-gt-TEXT_BYTES.false c.if-block-ne-BLOCK_BYTES.false ∙ (rw c.in-Refused.is at c.read_into.ensures.text_value) in
+    rw is record { value = refl; block_after = refl; exact = accepts _; numbered = numbered _ }
