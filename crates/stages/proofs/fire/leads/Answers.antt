@@ -1,0 +1,20 @@
+-- `leads` asks where the move lands.
+use mathlib.Core.Path.{subst}
+use native.Mathlib.Omega.{arith}
+use borrow.Author.Rules.{rules}
+use Rattle.block.specs.Inner.Tests.{fails}
+use Rattle.block.proofs.Decide as D
+use Rattle.game.specs.Model.{arena_of}
+use Rattle.ways.proofs.Placing.{place_position}
+use Rattle.stages.specs.Stages.{To}
+use Rattle.stages.proofs.Evolving.{to_one}
+use Rattle.stages.proofs.fire.leads.Goals as goal
+
+pub returns-in-At : goal.returns-in-At
+returns-in-At c =     let here : To c.args.block.now c.args.fire.row c.args.ways.now c.args.ways.now c.args.fire.state c.args.x c.args.fire.index c.in-At.y = (c.requires.state_bound.2, rw c.in-At.is at c.lands.ensures) in
+    D.same (D.equal c.in-At.y c.args.fire.place) (λ e. subst (To c.args.block.now c.args.fire.row c.args.ways.now c.args.ways.now c.args.fire.state c.args.x c.args.fire.index) e here) (λ to. to_one c.args.block.now c.args.fire.row c.args.ways.now c.args.ways.now c.requires.playable.0 c.args.fire.state c.args.x c.args.fire.index c.in-At.y c.args.fire.place c.requires.state_bound.0 c.requires.state_bound.1 here to)
+
+pub returns-in-Unpaid : goal.returns-in-Unpaid
+returns-in-Unpaid c = fails (λ to.
+    let (p, placed) = place_position (arena_of c.args.block.now c.args.fire.row.index) c.args.fire.state c.args.x c.requires.state_bound.0 (omega (arith, c.requires.state_bound.1, c.requires.playable.0.places_are)) in
+    rw c.in-Unpaid.is at c.lands.ensures p placed (to.1.1 p placed).0)

@@ -1,0 +1,13 @@
+-- `store_ranks` stores one rank after another.
+use mathlib.Core.Path.{subst}
+use Prim.Native.Nat.{ℕ, ◌-◌, ◌≤◌}
+use native.Mathlib.Omega.{arith}
+use Rattle.stages.specs.Solving.{SpanStored}
+use Rattle.stages.proofs.Starting.{span_none, span_next}
+use Rattle.stages.proofs.start.store_ranks.Given as goal
+
+abbrev pub invariant-loop-p : goal.invariant-loop-p
+invariant-loop-p l = (l.first ≤ l.p) × (l.p ≤ l.end) × SpanStored l.first l.p l.rank l.initial.ranks l.ranks
+
+abbrev pub decreases-loop-p : goal.decreases-loop-p
+decreases-loop-p l = l.end - l.p
