@@ -3,7 +3,7 @@
 use mathlib.Core.Bool.{Bool, true, false, not}
 use mathlib.Core.List.{List}
 use mathlib.Core.Logic.{inl, inr, ⊎_elim}
-use mathlib.Core.Path.{◌≡◌, sym, ◌∙◌, subst}
+use mathlib.Core.Path.{◌≡◌, sym, subst}
 use Prim.Native.Nat.{ℕ, ◌<◌}
 use native.Mathlib.Omega.{arith}
 use Rattle.block.specs.Layout as L
@@ -16,12 +16,11 @@ use Rattle.turns.specs.Buffers.{rank_in}
 use Rattle.ways.specs.Extremes.{Beyond, Worst}
 use Rattle.ways.specs.Landing.{Lands, WorstWithin}
 use Rattle.ways.specs.Lines.{count_in, number_in}
-use Rattle.ways.specs.Listing.{Useful, Listed}
-use Rattle.ways.specs.Places.{PlacedAt}
+use Rattle.ways.specs.Listing.{Listed}
 use Rattle.ways.specs.Rows.{Playable}
 use Rattle.ways.specs.declared.rows.Row.{Row}
 use Rattle.ways.specs.declared.landing.Landing.TheVariants.{At, Unpaid}
-use Rattle.ways.proofs.Leading.{ever_allowed, move_here, allowed_useful}
+use Rattle.ways.proofs.Leading.{move_here, allowed_useful}
 use Rattle.ways.proofs.Placing.{place_position}
 use Rattle.sweeps.specs.Values.{Gathered, MoveOffers, OneOf}
 use Rattle.sweeps.proofs.Gathering.{gathered_nothing}

@@ -7,14 +7,13 @@ use native.Mathlib.Nat.{lt_trans}
 use native.Mathlib.Omega.{arith}
 use lib.ListN.{get_or, length, set, length-set, replicate, length-replicate, get_or-replicate}
 use lib.Seq.{get_or-set_same, get_or-set_other}
-use Rattle.block.specs.Decide.{Bit}
 use Rattle.block.specs.Layout as L
 use Rattle.block.specs.Layout.{Block}
 use Rattle.block.specs.Inner.Valid.{Valid}
 use Rattle.game.specs.Position.{Arena, Position, IsPosition, number, positions, full, Allowed, outcome}
 use Rattle.game.specs.Inner.Stocks.{stocks_of, stock_places, refill}
 use Rattle.game.specs.Inner.Sweep.{total}
-use Rattle.game.specs.Model.{structure_of, arena_of}
+use Rattle.game.specs.Model.{arena_of}
 use Rattle.game.specs.Table.{never}
 use Rattle.game.proofs.Blocks.Passing.{valid_proper}
 use Rattle.game.proofs.Bridge.Proper.{Proper}
@@ -23,13 +22,13 @@ use Rattle.game.proofs.Numbers.Decide.{eq?, lt?}
 use Rattle.turns.specs.Buffers.{rank_in}
 use Rattle.ways.specs.Back.{Flags, Marked, LedFrom}
 use Rattle.ways.specs.Listing.{AnyGives, Listed}
-use Rattle.ways.specs.Lines.{count_in, given_in}
+use Rattle.ways.specs.Lines.{given_in}
 use Rattle.ways.specs.Places.{PlacedAt}
 use Rattle.ways.specs.Rows.{Playable}
 use Rattle.ways.specs.declared.rows.Row.{Row}
 use Rattle.ways.proofs.Leading.{few, allowed_useful}
-use Rattle.sweeps.specs.Sweeps.{KeptFor, RestsAt, RestsBelow, ChangedAt, PlaceSettled, Settled, RestsUnflagged, work_left, Worked}
-use Rattle.sweeps.proofs.Sweeping.{Spends, rests_still, SettledBelow, settled_all}
+use Rattle.sweeps.specs.Sweeps.{KeptFor, RestsAt, RestsBelow, PlaceSettled, Settled, RestsUnflagged, work_left, Worked}
+use Rattle.sweeps.proofs.Sweeping.{Spends, rests_still, settled_all}
 
 -- a test has one value
 pub truly : (t : Bool) → t ≡ true → t ≡ false → ⊥
