@@ -1,0 +1,13 @@
+-- `needed` adds, from row i downwards, what each needed row names.
+use mathlib.Core.Path.{◌≡◌, subst}
+use Prim.Native.Nat.{ℕ, ◌+◌, ◌-◌, ◌<◌}
+use native.Mathlib.Omega.{arith}
+use Rattle.block.proofs.Decide as D
+use Rattle.solver.proofs.Needing.{NeedsFrom, needs_first, needs_with, needs_skip, needs_all}
+use Rattle.solver.proofs.needs.needed.Given as goal
+
+abbrev pub invariant-loop-j : goal.invariant-loop-j
+invariant-loop-j l = NeedsFrom l.block l.i l.j l.w
+
+abbrev pub decreases-loop-j : goal.decreases-loop-j
+decreases-loop-j l = l.j

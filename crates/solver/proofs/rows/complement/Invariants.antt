@@ -1,0 +1,20 @@
+-- `complement` takes each state that is not in the set.
+use mathlib.Core.Logic.{⊎_elim}
+use mathlib.Core.Path.{◌≡◌, sym, subst}
+use Prim.Native.Nat.{ℕ, ◌+◌, ◌-◌, ◌≤◌}
+use native.Mathlib.Omega.{arith}
+use borrow.Author.Tests.{not-true, not-false}
+use Rattle.block.specs.Decide.{Bit}
+use Rattle.block.specs.Layout as L
+use Rattle.block.proofs.Decide as D
+use Rattle.solver.proofs.Words.{SaysBelow, longer, says_none, says_with, says_skip, says_all}
+use Rattle.solver.proofs.rows.complement.Given as goal
+
+abbrev pub Misses : ℕ → ℕ → Type 0
+Misses set s = Bit set s → ⊥
+
+abbrev pub invariant-loop-s : goal.invariant-loop-s
+invariant-loop-s l = (l.s ≤ l.n) × SaysBelow (Misses l.set) l.s l.w
+
+abbrev pub decreases-loop-s : goal.decreases-loop-s
+decreases-loop-s l = l.n - l.s
