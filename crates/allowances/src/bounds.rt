@@ -25,6 +25,6 @@ pub fn put_copy(block: &[u8], i: usize, x: usize, y: usize, copy: &mut [u8])
     requires i_bound { (i < L.rows block.now) × (x < 256) × (y < 256) × (length copy.old ≡ L.block_bytes) }
     ensures { Put i x y block.now copy.new × (length copy.new ≡ L.block_bytes) }
 {
-    bytes::copy(block, copy);
+    copy.copy_from_slice(block);
     put(copy, i, x, y);
 }

@@ -1,0 +1,19 @@
+-- `first_enough` goes down from the end as far as numbers are enough; below one that is not, none is.
+use mathlib.Core.Path.{◌≡◌, sym, ◌∙◌, subst}
+use Prim.Native.Nat.{ℕ, ◌+◌, ◌-◌, ◌≤◌, ◌<◌}
+use native.Mathlib.Omega.{arith}
+use lib.ListN.{length}
+use borrow.Author.Tests.{not-true, not-false}
+use Rattle.block.specs.Layout as L
+use Rattle.block.proofs.Decide as D
+use Rattle.allowances.specs.Inner.Pairs.{Enough}
+use Rattle.allowances.proofs.Putting.{enough_more}
+use Rattle.allowances.specs.Inner.Asked.{Lent}
+use Rattle.allowances.proofs.pairs.first_enough.Given as goal
+
+abbrev pub invariant-loop-y : goal.invariant-loop-y
+invariant-loop-y l =
+    ((l.first ≤ l.y) × (l.y ≤ l.initial.y)) × (l.y < l.initial.y → Enough l.block l.ask.row l.ask.state l.x l.y) × Lent l.block l.ask l.copy l.ways l.ranks
+
+abbrev pub decreases-loop-y : goal.decreases-loop-y
+decreases-loop-y l = l.y

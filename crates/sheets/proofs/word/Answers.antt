@@ -1,0 +1,9 @@
+-- `word` is the move, or 256 and the refusal's number.
+use mathlib.Core.Path.{◌≡◌, sym, ap}
+use native.Mathlib.Omega.{arith}
+use borrow.Author.Rules.{rules}
+use Rattle.sheets.specs.Worksheet.{word_for}
+use Rattle.sheets.proofs.word.Goals as goal
+
+pub returns-in-Refused : goal.returns-in-Refused
+returns-in-Refused c = omega (arith, c.number.ensures, c.wide.ensures.value, ap word_for c.in-Refused.is)
