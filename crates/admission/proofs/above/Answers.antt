@@ -14,7 +14,7 @@ use Rattle.admission.proofs.above.Goals as goal
 
 -- an absent resource has one stock place
 pub returns-then-resources-j : goal.returns-then-resources-j
-returns-then-resources-j c =     let absent : L.resources c.args.block.now ≤ c.args.j = omega (arith, c.resources.ensures, c.if-resources-j.true) in
+returns-then-resources-j c = let absent : L.resources c.args.block.now ≤ c.args.j = omega (arith, c.resources.ensures, c.if-resources-j.true) in
     let one : places (bounds_of c.args.block.now c.args.i c.args.j) ≡ 1 = ap (λ (t : Bool). places (cond t (bound_of (L.bound c.args.block.now c.args.i c.args.j)) unlimited)) (le-ltb c.args.j (L.resources c.args.block.now) absent) in
     D.same (D.at_most 1 c.args.stock) (λ h. omega (arith, one)) (λ h. omega (arith, one))
 

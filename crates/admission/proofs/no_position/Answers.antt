@@ -46,7 +46,7 @@ pub loop-j-smaller : goal.loop-j-smaller
 loop-j-smaller c = omega arith
 
 pub loop-j-preserved : goal.loop-j-preserved
-loop-j-preserved c =     (omega (arith, c.loop-j-test.true), none_more (λ k. places (bounds_of c.args.block.now c.args.i k) ≤ get_or c.args.stocks.now k 0) c.loop-j.j c.loop-j.invariant.1 (D.falsity (told c.before.before) c.if-above.false))
+loop-j-preserved c = (omega (arith, c.loop-j-test.true), none_more (λ k. places (bounds_of c.args.block.now c.args.i k) ≤ get_or c.args.stocks.now k 0) c.loop-j.j c.loop-j.invariant.1 (D.falsity (told c.before.before) c.if-above.false))
 
 pub returns : goal.returns
 returns c = fails none

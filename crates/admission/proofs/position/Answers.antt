@@ -12,7 +12,7 @@ use borrow.Author.Rules.{rules}
 use Rattle.admission.proofs.position.Goals as goal
 
 pub no_position-requires : goal.no_position-requires
-no_position-requires c =     let (valid, row) = row_admitted c.args.block.now c.args.i (none_holds (rw c.in-Value.is at c.row.ensures)) in
+no_position-requires c = let (valid, row) = row_admitted c.args.block.now c.args.i (none_holds (rw c.in-Value.is at c.row.ensures)) in
      record { valid = valid; i_bound = (row.0, row.1, omega (arith, c.requires)) }
 
 pub returns-then-no_position : goal.returns-then-no_position

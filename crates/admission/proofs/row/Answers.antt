@@ -12,7 +12,7 @@ use borrow.Author.Rules.{rules}
 use Rattle.admission.proofs.row.Goals as goal
 
 pub kind-requires : goal.kind-requires
-kind-requires c =     let (valid, inside) = set_admitted c.args.block.now c.args.i (none_holds (rw c.in-Value.is at c.any_row.ensures)) in
+kind-requires c = let (valid, inside) = set_admitted c.args.block.now c.args.i (none_holds (rw c.in-Value.is at c.any_row.ensures)) in
      record { block_len = valid.sized.bytes; i_lt_max_rows = omega (arith, inside, valid.sized.rows_fit) }
 
 pub returns-then-kind-lt-NEXT_KIND : goal.returns-then-kind-lt-NEXT_KIND

@@ -12,7 +12,7 @@ use borrow.Author.Rules.{rules}
 use Rattle.admission.proofs.state.Goals as goal
 
 pub states-requires : goal.states-requires
-states-requires c =     (row_admitted c.args.block.now c.args.i (none_holds (rw c.in-Value.is at c.row.ensures))).0.sized.bytes
+states-requires c = (row_admitted c.args.block.now c.args.i (none_holds (rw c.in-Value.is at c.row.ensures))).0.sized.bytes
 
 pub returns-then-states-s : goal.returns-then-states-s
 returns-then-states-s c = passed (rw c.in-Value.is at c.row.ensures) (turned_down (omega (arith, c.states.ensures, c.if-states-s.true)))

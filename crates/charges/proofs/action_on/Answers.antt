@@ -17,11 +17,6 @@ charge_on-requires c = record { sized = search rules; s_lt_max_states = search r
 pub returns-then-charge_on : goal.returns-then-charge_on
 returns-then-charge_on c = holds (c.loop-j.j, rw (← c.resources-n.ensures) c.loop-j-test.true, D.truth c.charge_on.ensures c.if-charge_on.true)
 
--- NOGOAL
--- add-j : tie.Need-overflow-add-j invariant-loop decreases-loop
--- add-j c = omega arith
--- 
-
 pub loop-j-smaller : goal.loop-j-smaller
 loop-j-smaller c = omega arith
 

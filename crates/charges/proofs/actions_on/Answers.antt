@@ -19,11 +19,6 @@ action_on-requires c = record { sized = search rules; s_lt_max_states = omega (a
 pub returns-then-action_on : goal.returns-then-action_on
 returns-then-action_on c = holds (c.loop-k.k, rw (← c.count-n.ensures) c.loop-k-test.true, D.truth c.action_on.ensures c.if-action_on.true)
 
--- NOGOAL
--- add-k : tie.Need-overflow-add-k invariant-loop decreases-loop
--- add-k c = omega arith
--- 
-
 pub loop-k-smaller : goal.loop-k-smaller
 loop-k-smaller c = omega arith
 

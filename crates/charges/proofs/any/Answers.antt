@@ -17,11 +17,6 @@ state_on-requires c = record { sized = search rules; s_bound = search rules }
 pub returns-then-state_on : goal.returns-then-state_on
 returns-then-state_on c = holds (c.loop-s.s, rw (← c.states-n.ensures) c.loop-s-test.true, D.truth c.state_on.ensures c.if-state_on.true)
 
--- NOGOAL
--- add-s : tie.Need-overflow-add-s invariant-loop decreases-loop
--- add-s c = omega arith
--- 
-
 pub loop-s-smaller : goal.loop-s-smaller
 loop-s-smaller c = omega arith
 

@@ -19,11 +19,6 @@ actions_on-requires c = record { sized = search rules; s_bound = search rules }
 pub returns-then-actions_on : goal.returns-then-actions_on
 returns-then-actions_on c = holds (c.loop-a.a, rw (← c.agents-n.ensures) c.loop-a-test.true, D.truth c.actions_on.ensures c.if-actions_on.true)
 
--- NOGOAL
--- add_a : tie.Need-overflow-add-a invariant-loop decreases-loop
--- add_a c = omega arith
--- 
-
 pub loop-a-smaller : goal.loop-a-smaller
 loop-a-smaller c = omega arith
 

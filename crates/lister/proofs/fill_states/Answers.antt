@@ -12,7 +12,7 @@ pub list_row-n-requires : goal.list_row-n-requires
 list_row-n-requires c = let (valid, inside) = states_admitted c.args.block.now c.args.i (length c.args.list.now) (length c.args.room.now) (none_holds (rw c.in-Value.is at c.turned_down.ensures)) in record { valid = valid; i_bound = inside }
 
 pub returns-in-Value : goal.returns-in-Value
-returns-in-Value c =     record {
+returns-in-Value c = record {
       answer = passed (rw c.in-Value.is at c.turned_down.ensures) (answered c.list_row-n.ensures.0);
       kept = tt;
       room_after = room_cleared no_refusal (cleared c.list_row-n.new.room c.zeros.new.buffer (length c.args.room.now) c.zeros.ensures c.list_row-n.auto.room);

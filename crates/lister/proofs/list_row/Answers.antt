@@ -25,10 +25,10 @@ row_set c =
     subst (RowSet c.args.block.now c.args.i) (sym c.word_at-set.ensures.0) c.label_row.ensures.row_labelled.set
 
 pub list_set-requires : goal.list_set-requires
-list_set-requires c =     (set_small c.args.block.now c.requires.valid c.args.i c.word_at-set.result (row_set c.before.before), c.requires.i_bound.1)
+list_set-requires c = (set_small c.args.block.now c.requires.valid c.args.i c.word_at-set.result (row_set c.before.before), c.requires.i_bound.1)
 
 pub returns : goal.returns
-returns c =     (
+returns c = (
       set_states c.args.block.now c.args.i c.word_at-set.result c.list_set.new.list c.list_set.result (row_set c.before.before.before.before.before) c.list_set.ensures,
       c.label_row.ensures.ways_len_unchanged.1 ∙ c.label_needed.ensures.ways_len_unchanged.1 ∙ c.requires.i_bound.2,
     )

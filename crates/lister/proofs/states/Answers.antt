@@ -9,7 +9,7 @@ use borrow.Author.Rules.{rules}
 use Rattle.lister.proofs.states.Goals as goal
 
 pub slice_bounds-result-end : goal.slice_bounds-result-end
-slice_bounds-result-end c =     let fits = front_fits c.args.block.now c.args.i c.args.list.now c.args.room.now c.fill_states.new.list c.fill_states.new.room c.fill_states.result c.fill_states.ensures in
+slice_bounds-result-end c = let fits = front_fits c.args.block.now c.args.i c.args.list.now c.args.room.now c.fill_states.new.list c.fill_states.new.room c.fill_states.result c.fill_states.ensures in
     sym (length-take-le _ c.fill_states.new.list (omega (arith, fits, c.front-n.ensures)))
 
 pub returns : goal.returns

@@ -9,27 +9,12 @@ use Rattle.game.specs.Model.{bit}
 use Rattle.parts.proofs.Tables.{part_lowest, part_small}
 use Rattle.parts.proofs.part.Goals as goal
 
--- NOGOAL
--- mul-result : tie.Need-overflow-mul-result
--- mul-result c = search rules
--- 
-
--- NOGOAL
--- add-result : tie.Need-overflow-add-result
--- add-result c = search rules
--- 
-
 -- the entry, as a team's and a joint action's lowest digits number it
 entry : (c : goal.After-result-1) → get_or c.args.parts.now (c.args.team % 8 * 64 + c.args.joint % 64) 0 ≡ part_of (bit c.args.team) c.args.joint
 entry c =
     let place : c.args.team % 8 * 64 + c.args.joint % 64 ≡ 64 * (c.args.team % 8) + c.args.joint % 64 = omega arith in
     ap (λ (k : ℕ). get_or c.args.parts.now k 0) place
     ∙ c.requires.entry (c.args.team % 8) (c.args.joint % 64) (omega arith) (omega arith) ∙ part_lowest c.args.team c.args.joint
-
--- NOGOAL
--- cast-result : tie.Need-overflow-cast-result
--- cast-result c = record { fits = omega (arith, entry c, part_small (bit c.before.args.team) c.before.args.joint) }
--- 
 
 pub returns : goal.returns
 returns c = entry c

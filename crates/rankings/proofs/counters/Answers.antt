@@ -9,10 +9,10 @@ use Rattle.rankings.proofs.ByKind.{decides_as, until_stands}
 use Rattle.rankings.proofs.counters.Goals as goal
 
 pub returns-then-kind-eq-NEXT_KIND : goal.returns-then-kind-eq-NEXT_KIND
-returns-then-kind-eq-NEXT_KIND c =     decides_as (ap (λ (k : ℕ). CounterBy k c.args.left c.args.own c.args.q c.args.rank) c.if-kind-eq-NEXT_KIND.true) (D.opposite c.has_bit.ensures (λ h misses. misses h) (λ misses. misses))
+returns-then-kind-eq-NEXT_KIND c = decides_as (ap (λ (k : ℕ). CounterBy k c.args.left c.args.own c.args.q c.args.rank) c.if-kind-eq-NEXT_KIND.true) (D.opposite c.has_bit.ensures (λ h misses. misses h) (λ misses. misses))
 
 pub returns-then-kind-eq-ALWAYS_KIND : goal.returns-then-kind-eq-ALWAYS_KIND
 returns-then-kind-eq-ALWAYS_KIND c = decides_as (ap (λ (k : ℕ). CounterBy k c.args.left c.args.own c.args.q c.args.rank) c.if-kind-eq-ALWAYS_KIND.true) (D.less c.args.rank c.args.own)
 
 pub returns : goal.returns
-returns c =     decides_as (until_stands c.args.kind (Bit c.args.left c.args.q → ⊥) (c.args.rank < c.args.own) (c.args.rank < 65535 → ⊥) c.if-kind-eq-NEXT_KIND.false c.if-kind-eq-ALWAYS_KIND.false) (D.opposite (D.less c.args.rank 65535) (λ h misses. misses h) (λ misses. misses))
+returns c = decides_as (until_stands c.args.kind (Bit c.args.left c.args.q → ⊥) (c.args.rank < c.args.own) (c.args.rank < 65535 → ⊥) c.if-kind-eq-NEXT_KIND.false c.if-kind-eq-ALWAYS_KIND.false) (D.opposite (D.less c.args.rank 65535) (λ h misses. misses h) (λ misses. misses))

@@ -26,7 +26,7 @@ pub overflow_sub-result : goal.overflow_sub-result
 overflow_sub-result c = subst (SFits w32) (sym (minus c.number.result (below c))) (small_minus c.number.result (below c))
 
 pub returns-in-Value : goal.returns-in-Value
-returns-in-Value c =     to_z-of_z (small (subst Small c.in-Value.is c.requires)) ∙ sym (ap answer_code c.in-Value.is)
+returns-in-Value c = to_z-of_z (small (subst Small c.in-Value.is c.requires)) ∙ sym (ap answer_code c.in-Value.is)
 
 pub returns-in-Refused : goal.returns-in-Refused
 returns-in-Refused c = to_z-of_z (overflow_sub-result c) ∙ minus c.number.result (below c) ∙ ap (λ (n : ℕ). neg_ℤ (pos n)) c.number.ensures ∙ sym (ap answer_code c.in-Refused.is)

@@ -47,7 +47,7 @@ pub list_job-requires : goal.list_job-requires
 list_job-requires c = record { valid = read_valid c.args.text.now blank _ (accepted_as c.before.before.before.before.before); out_len = (c.if-out-ne-LISTING_BYTES.false, c.if-ranks-ne-ROOM_BYTES.false, c.if-moves-ne-MOVES_BYTES.false) }
 
 pub returns-in-Value : goal.returns-in-Value
-returns-in-Value c =     record {
+returns-in-Value c = record {
       answer = called c.args.text.now c.args.out.now c.args.ranks.now c.args.moves.now c.if-out-ne-LISTING_BYTES.false c.if-ranks-ne-ROOM_BYTES.false c.if-moves-ne-MOVES_BYTES.false (accepted c.read.new.block) c.list_job.new.out (Value c.list_job.result) (accepted_as c.before.before.before.before.before.before.before.before.before.before.before.before) (value c.list_job.ensures.listing_in);
       kept = tt;
       ranks_after = room_cleared no_refusal (c.list_job.ensures.ranks_after.0 ∙ ap (λ (n : ℕ). replicate n 0) (sym c.if-ranks-ne-ROOM_BYTES.false));
@@ -55,7 +55,7 @@ returns-in-Value c =     record {
     }
 
 pub returns-in-Refused : goal.returns-in-Refused
-returns-in-Refused c =     let (stop, is) = subst (λ (a : Answer). Tells a c.read.new.block (read_call c.args.text.now blank)) c.in-Refused.is (came c.before.before.before.before.before.before.before.before.before.before) in
+returns-in-Refused c = let (stop, is) = subst (λ (a : Answer). Tells a c.read.new.block (read_call c.args.text.now blank)) c.in-Refused.is (came c.before.before.before.before.before.before.before.before.before.before) in
     record {
       answer = called c.args.text.now c.args.out.now c.args.ranks.now c.args.moves.now c.if-out-ne-LISTING_BYTES.false c.if-ranks-ne-ROOM_BYTES.false c.if-moves-ne-MOVES_BYTES.false (refused c.in-Refused.r stop) c.args.out.now (Refused c.in-Refused.r) is refl;
       kept = refl;

@@ -10,5 +10,5 @@ use borrow.Author.Rules.{rules}
 use Rattle.report.proofs.refused_line.Goals as goal
 
 pub returns : goal.returns
-returns c =     let front = added_front (refused_line c.number.result) c.args.line.now c.refused_line-n.new.out 0 c.refused_line-n.result c.refused_line-n.ensures.0 ∙ ap refused_line c.number.ensures in
+returns c = let front = added_front (refused_line c.number.result) c.args.line.now c.refused_line-n.new.out 0 c.refused_line-n.result c.refused_line-n.ensures.0 ∙ ap refused_line c.number.ensures in
     filled (refused_line (number_of c.args.r)) c.refused_line-n.new.out c.zeros.new.buffer refused_bytes c.refused_line-n.result front (omega (arith, c.refused_line-n.ensures.1)) (omega (arith, c.refused_line-n.auto.out)) c.zeros.ensures

@@ -11,16 +11,6 @@ use Rattle.admission.proofs.Admitting.{placed}
 use borrow.Author.Rules.{rules}
 use Rattle.sheets.proofs.answer_at.Goals as goal
 
--- NOGOAL
--- part-stocks-start : tie.Need-slice-bounds-stocks-start
--- part-stocks-start c = search rules
--- 
-
--- NOGOAL
--- part-stocks-end : tie.Need-slice-bounds-stocks-end
--- part-stocks-end c = search rules
--- 
-
 -- the stocks that are looked at are those of the position
 stocks : (k : ℕ) (list : List ℕ) → take (3 * k + 3 - (3 * k + 1)) (drop (3 * k + 1) list) ≡ stocks_in list k
 stocks k list = let two : 3 * k + 3 - (3 * k + 1) ≡ 2 = omega arith in let first : 3 * k + 1 ≡ suc (3 * k) = omega arith in rw two (rw first refl)

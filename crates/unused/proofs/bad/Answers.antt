@@ -18,11 +18,6 @@ place_bad-requires c = record { sized = search rules; p_lt_block_bytes = search 
 pub returns-then-place_bad : goal.returns-then-place_bad
 returns-then-place_bad c = holds (c.loop-p.p, c.loop-p-test.true, D.truth c.place_bad.ensures c.if-place_bad.true)
 
--- NOGOAL
--- add-p : tie.Need-overflow-add-p invariant-loop decreases-loop
--- add-p c = omega arith
--- 
-
 pub loop-p-smaller : goal.loop-p-smaller
 loop-p-smaller c = omega arith
 

@@ -5,7 +5,7 @@ use borrow.Author.Rules.{rules}
 use Rattle.unused.proofs.in_use.Goals as goal
 
 pub next_in_use-requires : goal.next_in_use-requires
-next_in_use-requires c =     let place = rw c.in-Next.is at c.requires.in_layout in
+next_in_use-requires c = let place = rw c.in-Next.is at c.requires.in_layout in
      record { sized = search rules; joint_lt_max_joint = place.1 }
 
 pub returns-in-Header : goal.returns-in-Header

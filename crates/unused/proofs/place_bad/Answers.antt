@@ -11,6 +11,6 @@ pub returns-then-byte_at-eq0 : goal.returns-then-byte_at-eq0
 returns-then-byte_at-eq0 c = fails (λ x. x.1 (rw (← c.byte_at.ensures) c.if-byte_at-eq0.true))
 
 pub returns : goal.returns
-returns c =     D.opposite c.in_use.ensures
+returns c = D.opposite c.in_use.ensures
     (λ u bad. bad.0 (c.place_at.result, c.place_at.ensures.0, u))
     (λ idle. (λ used. idle (subst (InUse c.args.block.now) (one_place used.0 c.place_at.result (used_in_layout c.requires.sized.0 c.requires.sized.1 used.0 used.2) c.place_at.ensures.1 (used.1 ∙ sym c.place_at.ensures.0)) used.2), λ z. c.if-byte_at-eq0.false (rw c.byte_at.ensures z)))

@@ -15,11 +15,6 @@ returns-then-f-eq-RIGHT_BYTE c = D.same c.binary.ensures
     (λ h. inr (inl (c.if-f-eq-RIGHT_BYTE.true, h)))
     (λ x. ⊎_elim (λ h. absurd (omega arith)) (λ y. ⊎_elim (λ z. z.1) (λ z. absurd (omega (arith, z.1))) y) x)
 
--- NOGOAL
--- add-result : tie.Need-overflow-add-result
--- add-result c = search rules
--- 
-
 pub returns-then-strategic : goal.returns-then-strategic
 returns-then-strategic c = D.same (D.less c.args.f (4 + c.resources.result))
     (λ h. inr (inr (D.truth c.strategic.ensures c.if-strategic.true, (omega arith, omega arith))))

@@ -28,14 +28,13 @@ module _ (c : At-After-set_bound) where
   long : length c.set_bound.new.block ≡ length c.args.block.now
   long = first.only.long
 
-
 pub returns-then-n-gt1 : goal.returns-then-n-gt1
-returns-then-n-gt1 c =     let before = first c.before.before.before.before.before.before.before.before in
+returns-then-n-gt1 c = let before = first c.before.before.before.before.before.before.before.before in
     let both : PutTo c.args.i (pair c.args.x c.args.y) c.args.block.now c.set_bound-then-n-gt1.new.block 2 =
     subst (λ (b : Block). PutTo c.args.i (pair c.args.x c.args.y) c.args.block.now b 2) (sym c.set_bound-then-n-gt1.ensures)
     (put_next before (omega (arith, c.resources-n.ensures, c.if-n-gt1.true)) (omega (arith, long c.before.before.before.before.before.before.before.before))) in
     record { only = both.only; bounds = λ j l. both.bounds j (omega (arith, c.requires.valid.sized.resources_fit)) }
 
 pub returns-else-n-gt1 : goal.returns-else-n-gt1
-returns-else-n-gt1 c =     let before = first c.before.before.before.before in
+returns-else-n-gt1 c = let before = first c.before.before.before.before in
     record { only = before.only; bounds = λ j l. before.bounds j (omega (arith, c.resources-n.ensures, c.if-n-gt1.false)) }

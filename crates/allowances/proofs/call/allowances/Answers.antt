@@ -14,7 +14,7 @@ find-n-requires c =
     record { valid = valid; i_bound = inside; list_len = long }
 
 pub returns-in-Value : goal.returns-in-Value
-returns-in-Value c =     record {
+returns-in-Value c = record {
       answer = passed (rw c.in-Value.is at c.turned_down.ensures) (answered c.find-n.ensures.0);
       kept = tt;
       room_after = room_cleared no_refusal (cleared c.find-n.new.room c.zeros.new.buffer (length c.args.room.now) c.zeros.ensures c.find-n.auto.room);

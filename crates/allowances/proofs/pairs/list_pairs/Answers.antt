@@ -18,13 +18,13 @@ pub tried-ys-requires : goal.tried-ys-requires
 tried-ys-requires c = record { valid = c.requires.asking.valid; i_bound = (c.requires.asking.inside, omega arith) }
 
 pub loop-x-init : goal.loop-x-init
-loop-x-init c =     (omega arith, (omega (arith, c.tried-xs.ensures.some), filled_none _ _ _ _ _ _ _ c.requires.list_value (omega (arith, c.tried-ys.ensures.some))), c.requires.lent)
+loop-x-init c = (omega arith, (omega (arith, c.tried-xs.ensures.some), filled_none _ _ _ _ _ _ _ c.requires.list_value (omega (arith, c.tried-ys.ensures.some))), c.requires.lent)
 
 pub first_enough-y-requires : goal.first_enough-y-requires
 first_enough-y-requires c = record { asking = c.requires.asking; shows = ((c.tried-xs.ensures.each _).1 (c.loop-x.invariant.0, c.loop-x-test.true), c.loop-x.invariant.1.1.stairs.last.0, λ y l h. (c.tried-ys.ensures.each y).1 (l, omega (arith, c.loop-x.invariant.1.1.stairs.last.1))); lent = c.loop-x.invariant.2 }
 
 pub store-requires : goal.store-requires
-store-requires c =     (omega (arith, c.loop-x.invariant.1.1.long, c.loop-x.invariant.1.1.stairs.few, c.tried-xs.ensures.few), omega (arith, c.tried-xs.ensures.bytes), omega (arith, c.if-y-end.true, c.loop-x.invariant.1.1.stairs.last.1, c.tried-ys.ensures.bytes))
+store-requires c = (omega (arith, c.loop-x.invariant.1.1.long, c.loop-x.invariant.1.1.stairs.few, c.tried-xs.ensures.few), omega (arith, c.tried-xs.ensures.bytes), omega (arith, c.if-y-end.true, c.loop-x.invariant.1.1.stairs.last.1, c.tried-ys.ensures.bytes))
 
 pub overflow_add-n : goal.overflow_add-n
 overflow_add-n c = omega (arith, c.loop-x.invariant.1.1.stairs.few, c.tried-xs.ensures.few, c.tried-xs.ensures.bytes, c.loop-x-test.true)
@@ -36,7 +36,7 @@ pub loop-x-smaller : goal.loop-x-smaller
 loop-x-smaller c = omega (arith, c.loop-x-test.true)
 
 pub loop-x-preserved : goal.loop-x-preserved
-loop-x-preserved c =     (
+loop-x-preserved c = (
       omega (arith, c.loop-x.invariant.0),
       (
         omega arith,

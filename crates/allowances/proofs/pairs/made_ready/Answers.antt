@@ -49,11 +49,11 @@ pub put_copy-requires : goal.put_copy-requires
 put_copy-requires c = record { valid = c.requires.valid; i_bound = (c.requires.i_bound.0, omega (arith, c.tried-xs.ensures.some, c.tried-xs.ensures.bytes), omega (arith, c.tried-ys.ensures.some, c.tried-ys.ensures.bytes), c.requires.copy_len.0) }
 
 pub any-once-requires : goal.any-once-requires
-any-once-requires c =     let valid = put_valid (asking c.before.before.before.before.before.before.before.before.before.before.before.before.before true) (shows_last c.tried-xs.ensures) (shows_last c.tried-ys.ensures) c.put_copy.ensures.0 in
+any-once-requires c = let valid = put_valid (asking c.before.before.before.before.before.before.before.before.before.before.before.before.before true) (shows_last c.tried-xs.ensures) (shows_last c.tried-ys.ensures) c.put_copy.ensures.0 in
     (valid.sized, valid.counted)
 
 pub rank_row-requires : goal.rank_row-requires
-rank_row-requires c =     let valid = put_valid (asking c.before.before.before.before.before.before.before.before.before.before.before.before.before.before.before.before.before true) (shows_last c.tried-xs.ensures) (shows_last c.tried-ys.ensures) c.put_copy.ensures.0 in
+rank_row-requires c = let valid = put_valid (asking c.before.before.before.before.before.before.before.before.before.before.before.before.before.before.before.before.before true) (shows_last c.tried-xs.ensures) (shows_last c.tried-ys.ensures) c.put_copy.ensures.0 in
     let row = put_row (asking c.before.before.before.before.before.before.before.before.before.before.before.before.before.before.before.before.before true) (shows_last c.tried-xs.ensures) (shows_last c.tried-ys.ensures) c.put_copy.ensures.0 in
      record { valid = valid; i_bound = (row.0, row.1, c.requires.copy_len.1, c.requires.copy_len.2) }
 

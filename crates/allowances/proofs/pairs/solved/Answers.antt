@@ -26,15 +26,15 @@ pub put_copy-requires : goal.put_copy-requires
 put_copy-requires c = record { valid = c.requires.asking.valid; i_bound = (c.requires.asking.inside, shows_byte c.requires.shows.0, shows_byte c.requires.shows.1, c.requires.copy_len.0) }
 
 pub rank_row-requires : goal.rank_row-requires
-rank_row-requires c =     let row = put_row c.requires.asking c.requires.shows.0 c.requires.shows.1 c.put_copy.ensures.0 in
+rank_row-requires c = let row = put_row c.requires.asking c.requires.shows.0 c.requires.shows.1 c.put_copy.ensures.0 in
      record { valid = put_valid c.requires.asking c.requires.shows.0 c.requires.shows.1 c.put_copy.ensures.0; i_bound = (row.0, row.1, c.requires.copy_len.1, c.requires.copy_len.2) }
 
 pub full-p-requires : goal.full-p-requires
-full-p-requires c =     let row = put_row c.requires.asking c.requires.shows.0 c.requires.shows.1 c.put_copy.ensures.0 in
+full-p-requires c = let row = put_row c.requires.asking c.requires.shows.0 c.requires.shows.1 c.put_copy.ensures.0 in
      record { valid = put_valid c.requires.asking c.requires.shows.0 c.requires.shows.1 c.put_copy.ensures.0; i_bound = (row.0, row.1, put_state c.requires.asking c.requires.shows.0 c.requires.shows.1 c.put_copy.ensures.0) }
 
 pub kind-requires : goal.kind-requires
-kind-requires c =     let valid = put_valid c.requires.asking c.requires.shows.0 c.requires.shows.1 c.put_copy.ensures.0 in
+kind-requires c = let valid = put_valid c.requires.asking c.requires.shows.0 c.requires.shows.1 c.put_copy.ensures.0 in
     let row = put_row c.requires.asking c.requires.shows.0 c.requires.shows.1 c.put_copy.ensures.0 in
      record { block_len = valid.sized.bytes; i_lt_max_rows = omega (arith, row.0, valid.sized.rows_fit) }
 
@@ -51,5 +51,5 @@ pub rank_at-requires : goal.rank_at-requires
 rank_at-requires c = ranks_long c.before.before
 
 pub returns : goal.returns
-returns c =     let rank = c.rank_at.ensures.0 ∙ ap (rank_in c.rank_row.new.ranks) c.full-p.ensures in
-    let told = enough_told c.requires.asking c.requires.shows.0 c.requires.shows.1 c.put_copy.ensures.0 c.rank_row.ensures.row_ranked.ranks_of in  record { decides = D.same (subst₂ (λ (k n : ℕ). Decides (ClaimsBy k n) c.claims.result) c.kind.ensures rank c.claims.ensures) told.0 told.1; copy_len_2 = (c.put_copy.ensures.1, c.rank_row.auto.ways ∙ c.requires.copy_len.1, c.rank_row.ensures.ranks_len_unchanged ∙ c.requires.copy_len.2) }
+returns c = let rank = c.rank_at.ensures.0 ∙ ap (rank_in c.rank_row.new.ranks) c.full-p.ensures in
+    let told = enough_told c.requires.asking c.requires.shows.0 c.requires.shows.1 c.put_copy.ensures.0 c.rank_row.ensures.row_ranked.ranks_of in record { decides = D.same (subst₂ (λ (k n : ℕ). Decides (ClaimsBy k n) c.claims.result) c.kind.ensures rank c.claims.ensures) told.0 told.1; copy_len_2 = (c.put_copy.ensures.1, c.rank_row.auto.ways ∙ c.requires.copy_len.1, c.rank_row.ensures.ranks_len_unchanged ∙ c.requires.copy_len.2) }

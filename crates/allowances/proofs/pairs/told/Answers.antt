@@ -35,20 +35,20 @@ fits : (c : At-After-stocks-1) → IsPosition (arena_of c.args.copy.now c.args.a
 fits c = subst (IsPosition (arena_of c.args.copy.now c.args.ask.row)) (sym (placed c)) (spot_fits c.requires.asking.0 c.requires.asking.1 c.args.x c.args.y c.requires.shows.0 c.requires.shows.1)
 
 pub number-p-requires : goal.number-p-requires
-number-p-requires c =     let valid = table_valid c.requires.asking.0 c.requires.asking.1 in
+number-p-requires c = let valid = table_valid c.requires.asking.0 c.requires.asking.1 in
     let row = table_row c.requires.asking.0 c.requires.asking.1 in
      record { valid = valid; i_bound = (row.0, row.1, valid.sized.resources_fit.1); position = fits c.before }
 
 pub kind-requires : goal.kind-requires
-kind-requires c =     let valid = table_valid c.requires.asking.0 c.requires.asking.1 in
+kind-requires c = let valid = table_valid c.requires.asking.0 c.requires.asking.1 in
      record { block_len = valid.sized.bytes; i_lt_max_rows = omega (arith, (table_row c.requires.asking.0 c.requires.asking.1).0, valid.sized.rows_fit) }
 
 pub rank_at-requires : goal.rank_at-requires
-rank_at-requires c =     let row = table_row c.requires.asking.0 c.requires.asking.1 in
+rank_at-requires c = let row = table_row c.requires.asking.0 c.requires.asking.1 in
     omega (arith, c.number-p.ensures, number_few c.args.copy.now (table_valid c.requires.asking.0 c.requires.asking.1) c.args.ask.row row.0 row.1 _ (fits c.before.before.before), c.requires.asking.2)
 
 pub returns : goal.returns
-returns c =     let G = arena_of c.args.copy.now c.args.ask.row in
+returns c = let G = arena_of c.args.copy.now c.args.ask.row in
     let rank = c.rank_at.ensures.0 ∙ ap (rank_in c.args.ranks.now) (c.number-p.ensures ∙ ap (number G) (placed c.before.before.before.before.before)) in
     let claimed = enough_tabled c.requires.asking.0 c.requires.asking.1 c.args.x c.args.y c.requires.shows.0 c.requires.shows.1 in
     D.same (subst₂ (λ (k n : ℕ). Decides (ClaimsBy k n) c.claims.result) c.kind.ensures rank c.claims.ensures) claimed.0 claimed.1

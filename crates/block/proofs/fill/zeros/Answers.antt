@@ -12,11 +12,6 @@ loop-i-init c = (omega arith, (omega arith, (refl, zeroed_none)))
 pub bounds-buffer-i : goal.bounds-buffer-i
 bounds-buffer-i c = omega arith
 
--- NOGOAL
--- add-i : tie.Need-overflow-add-i invariant-loop decreases-loop
--- add-i c = omega arith
--- 
-
 pub loop-i-smaller : goal.loop-i-smaller
 loop-i-smaller c = omega arith
 

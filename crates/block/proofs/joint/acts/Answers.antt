@@ -6,7 +6,7 @@ use borrow.Author.Rules.{rules}
 use Rattle.block.proofs.joint.acts.Goals as goal
 
 pub returns-then-a-agents : goal.returns-then-a-agents
-returns-then-a-agents c =     D.same (D.less _ _)
+returns-then-a-agents c = D.same (D.less _ _)
     (λ k. inl (omega arith, rw (← c.count.ensures) k))
     (λ x. ⊎_elim (λ h. rw c.count.ensures h.1) (λ h. absurd (omega arith)) x)
 

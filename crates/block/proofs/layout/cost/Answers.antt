@@ -11,6 +11,6 @@ use Rattle.block.proofs.Signed.{signed_held}
 use Rattle.block.proofs.layout.cost.Goals as goal
 
 pub returns : goal.returns
-returns c =     ap (λ (z : ℤ). to_z w32 (of_z w32 z)) c.signed.ensures
+returns c = ap (λ (z : ℤ). to_z w32 (of_z w32 z)) c.signed.ensures
     ∙ signed_held (L.byte_at c.args.block.now c.cost_place-p.result) (omega (arith, c.shared_slice_known-2-1.given c.cost_place-p.result))
     ∙ ap (λ (p : ℕ). L.signed (L.byte_at c.args.block.now p)) c.cost_place-p.ensures.0

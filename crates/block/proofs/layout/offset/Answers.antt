@@ -23,7 +23,7 @@ pub resource_kind_place-requires : goal.resource_kind_place-requires
 resource_kind_place-requires c = rw c.in-ResourceKind.is at c.requires
 
 pub returns-in-Header : goal.returns-in-Header
-returns-in-Header c =     let low = rw c.in-Header.is at c.requires in
+returns-in-Header c = let low = rw c.in-Header.is at c.requires in
     rw c.in-Header.is (refl, omega arith)
 
 pub returns-in-Mask : goal.returns-in-Mask

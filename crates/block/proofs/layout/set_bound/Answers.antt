@@ -5,10 +5,5 @@ use lib.ListN.{set}
 use borrow.Author.Rules.{rules}
 use Rattle.block.proofs.layout.set_bound.Goals as goal
 
--- NOGOAL
--- add-field-place : tie.Need-overflow-add-field-place
--- add-field-place c = search rules
--- 
-
 pub returns : goal.returns
 returns c = ap (λ (p : ℕ). set c.args.block.now p c.args.v) c.field_place.ensures.0

@@ -11,36 +11,11 @@ use Rattle.block.specs.Layout as L
 use Rattle.block.proofs.Signed.{sub_same, sub_fits, sub_held, small_held, less_held}
 use Rattle.block.proofs.layout.signed.Goals as goal
 
--- NOGOAL
--- cast-if1 : tie.Need-overflow-cast-if1
--- cast-if1 c = search rules
--- 
-
--- NOGOAL
--- cast-result : tie.Need-overflow-cast-result
--- cast-result c = search rules
--- 
-
 pub returns-then-c : goal.returns-then-c
 returns-then-c c = rw (lt-ltb c.args.c 241 (omega (arith, c.if-c.true))) (small_held c.args.c (omega arith))
 
--- NOGOAL
--- cast-result-2 : tie.Need-overflow-cast-result-2
--- cast-result-2 c = search rules
--- 
-
--- NOGOAL
--- cast-result-3 : tie.Need-overflow-cast-result-3
--- cast-result-3 c = search rules
--- 
-
--- NOGOAL
--- sub-result : tie.Need-overflow-sub-result
--- sub-result c = subst (SFits w32) (sym (less_held c.before.args.c 255 (omega (arith, c.before.ranges.c)))) (sub_fits c.before.args.c 256 (omega (arith, c.before.ranges.c)) (omega arith))
--- 
-
 pub returns : goal.returns
-returns c =     let small : c.args.c < 256 = omega (arith, c.ranges.c) in
+returns c = let small : c.args.c < 256 = omega (arith, c.ranges.c) in
     let charge : L.charge_byte ≤ c.args.c = omega (arith, c.if-c.false) in
     rw (le-ltb c.args.c 241 charge)
     (ap (λ (z : ℤ). to_z w32 (of_z w32 z)) (less_held c.args.c 255 (omega arith))

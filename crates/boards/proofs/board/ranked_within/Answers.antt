@@ -22,7 +22,7 @@ pub states-states-requires : goal.states-states-requires
 states-states-requires c = c.requires.valid.sized.bytes
 
 pub loop-s-init : goal.loop-s-init
-loop-s-init c =     (omega arith, below_none (Within c.args.row.places c.args.ranks.now c.args.x c.args.low c.args.end))
+loop-s-init c = (omega arith, below_none (Within c.args.row.places c.args.ranks.now c.args.x c.args.low c.args.end))
 
 -- the state, and its position at the place
 module _ (c : At-In-loop-s) where
@@ -32,7 +32,6 @@ module _ (c : At-In-loop-s) where
   inside : c.loop-s.s * c.args.row.places + c.args.x < 6144
   inside =
       number_inside c.args.block.now c.requires.valid c.args.row c.requires.playable.0 c.loop-s.s c.args.x state c.requires.playable.2
-
 
 pub overflow_mul-s : goal.overflow_mul-s
 overflow_mul-s c = record { fits = omega (arith, inside c.before) }
@@ -44,7 +43,7 @@ pub rank_at-requires : goal.rank_at-requires
 rank_at-requires c = omega (arith, inside c.before, c.requires.playable.1)
 
 pub with_bit-w-requires : goal.with_bit-w-requires
-with_bit-w-requires c =     (omega (arith, state c.before.before.before.before, c.requires.valid.sized.states_fit), omega (arith, c.loop-s.invariant.1.short))
+with_bit-w-requires c = (omega (arith, state c.before.before.before.before, c.requires.valid.sized.states_fit), omega (arith, c.loop-s.invariant.1.short))
 
 pub overflow_step-s : goal.overflow_step-s
 overflow_step-s c = omega (arith, c.loop-s-test.true)
@@ -53,7 +52,7 @@ pub loop-s-smaller : goal.loop-s-smaller
 loop-s-smaller c = omega (arith, c.loop-s-test.true)
 
 pub loop-s-preserved : goal.loop-s-preserved
-loop-s-preserved c =     let told = subst (λ (r : ℕ). Decides ((c.args.low ≤ r) × (r < c.args.end)) c.between.result) c.rank_at.ensures.0 c.between.ensures in
+loop-s-preserved c = let told = subst (λ (r : ℕ). Decides ((c.args.low ≤ r) × (r < c.args.end)) c.between.result) c.rank_at.ensures.0 c.between.ensures in
     let few : c.loop-s.s < 24 = omega (arith, state c.before.before.before.before, c.requires.valid.sized.states_fit) in (
       omega (arith, c.loop-s-test.true),
       elim c.if-between.branch [
@@ -67,5 +66,5 @@ loop-s-preserved c =     let told = subst (λ (r : ℕ). Decides ((c.args.low �
     )
 
 pub returns : goal.returns
-returns c =     let all : c.loop-s.s ≡ L.states c.args.block.now = omega (arith, c.loop-s.invariant.0, c.loop-s-test.false, c.states-states.ensures) in
+returns c = let all : c.loop-s.s ≡ L.states c.args.block.now = omega (arith, c.loop-s.invariant.0, c.loop-s-test.false, c.states-states.ensures) in
     below_ranked (L.states c.args.block.now) c.args.row.places c.args.ranks.now c.args.x c.args.low c.args.end c.loop-s.w (subst (λ (s : ℕ). Gathers (Below (Within c.args.row.places c.args.ranks.now c.args.x c.args.low c.args.end) s) c.loop-s.w) all c.loop-s.invariant.1)

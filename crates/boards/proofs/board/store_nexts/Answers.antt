@@ -32,7 +32,7 @@ pub loop-s-smaller : goal.loop-s-smaller
 loop-s-smaller c = omega (arith, c.loop-s-test.true)
 
 pub loop-s-preserved : goal.loop-s-preserved
-loop-s-preserved c =     (
+loop-s-preserved c = (
       omega (arith, c.loop-s-test.true),
       nexts_next c.args.block.now c.args.row c.args.ways.now c.requires.playable.1 c.loop-s.s (state c.before.before.before.before.before) c.loop-s.board c.store_state.new.board c.store_state.ensures.by_index c.store_state.ensures.by_index_2.0 c.loop-s.invariant.1,
       c.store_state.ensures.by_index_2.1 ∙ c.loop-s.invariant.2,

@@ -30,9 +30,8 @@ module _ (c : At-In-loop-s) where
   within : c.loop-s.s < 24
   within = omega (arith, state, c.requires.valid.sized.states_fit)
 
-
 pub reach_of-w-requires : goal.reach_of-w-requires
-reach_of-w-requires c =     (c.requires.playable.1.long, ((c.requires.playable.1.states c.loop-s.s (state c.before)).lines true).few, c.loop-s.invariant.3 ∙ c.requires.playable.2, within c.before)
+reach_of-w-requires c = (c.requires.playable.1.long, ((c.requires.playable.1.states c.loop-s.s (state c.before)).lines true).few, c.loop-s.invariant.3 ∙ c.requires.playable.2, within c.before)
 
 pub overflow_add-s : goal.overflow_add-s
 overflow_add-s c = record { fits = omega (arith, within c.before.before.before) }
@@ -47,7 +46,7 @@ pub loop-s-smaller : goal.loop-s-smaller
 loop-s-smaller c = omega (arith, c.loop-s-test.true)
 
 pub loop-s-preserved : goal.loop-s-preserved
-loop-s-preserved c =     (
+loop-s-preserved c = (
       omega (arith, c.loop-s-test.true),
       reaches_next c.args.block.now c.requires.valid c.args.row c.args.ways.now c.requires.playable.1 c.loop-s.s (state c.before.before.before.before.before.before) c.loop-s.board c.set_narrow.new.sets _ c.reach_of-w.ensures.0 c.set_narrow.ensures c.loop-s.invariant.1,
       (λ i less. c.set_narrow.ensures.others i (λ e. omega arith) ∙ c.loop-s.invariant.2 i less),

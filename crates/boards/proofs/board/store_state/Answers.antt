@@ -30,13 +30,13 @@ within c =
     omega (arith, c.loop-k-test.true, c.count-n.ensures, ((c.requires.playable.1.states c.args.s c.requires.s_bound.0).lines true).few)
 
 pub overflow_mul-s : goal.overflow_mul-s
-overflow_mul-s c =     record { fits = omega (arith, c.requires.s_bound.0, c.requires.valid.sized.states_fit) }
+overflow_mul-s c = record { fits = omega (arith, c.requires.s_bound.0, c.requires.valid.sized.states_fit) }
 
 pub overflow_add-s : goal.overflow_add-s
-overflow_add-s c =     record { fits = omega (arith, c.requires.s_bound.0, c.requires.valid.sized.states_fit, within c.before.before.before) }
+overflow_add-s c = record { fits = omega (arith, c.requires.s_bound.0, c.requires.valid.sized.states_fit, within c.before.before.before) }
 
 pub set_narrow-requires : goal.set_narrow-requires
-set_narrow-requires c =     (omega (arith, c.requires.s_bound.0, c.requires.valid.sized.states_fit, within c.before.before.before, c.loop-k.invariant.3, c.requires.s_bound.1), c.next_states-w.ensures.1)
+set_narrow-requires c = (omega (arith, c.requires.s_bound.0, c.requires.valid.sized.states_fit, within c.before.before.before, c.loop-k.invariant.3, c.requires.s_bound.1), c.next_states-w.ensures.1)
 
 pub overflow_step-k : goal.overflow_step-k
 overflow_step-k c = omega (arith, c.loop-k-test.true)
@@ -45,7 +45,7 @@ pub loop-k-smaller : goal.loop-k-smaller
 loop-k-smaller c = omega (arith, c.loop-k-test.true)
 
 pub loop-k-preserved : goal.loop-k-preserved
-loop-k-preserved c =     (
+loop-k-preserved c = (
       omega (arith, c.loop-k-test.true),
       one_more (λ (l : List ℕ) (i : ℕ). to_in l c.args.s i) (λ (i w : ℕ). Nexts c.args.block.now c.args.row c.args.s (number_in c.args.ways.now c.args.s true i) w) c.loop-k.board c.set_narrow.new.sets
           (λ i ne. c.set_narrow.ensures.others (64 * c.args.s + i) (λ e. ne (omega arith)))

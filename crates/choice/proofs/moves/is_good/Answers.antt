@@ -40,7 +40,7 @@ landed : (c : At-In-At) → Lands (arena_of c.args.block.now c.args.row.index) c
 landed c = rw c.in-At.is at c.lands.ensures
 
 pub aimed-requires : goal.aimed-requires
-aimed-requires c =     let is = sym c.number.ensures in  record { valid = c.requires.valid; sought = c.requires.sought; made = (
+aimed-requires c = let is = sym c.number.ensures in record { valid = c.requires.valid; sought = c.requires.sought; made = (
             c.requires.state_bound.0,
             subst (MoveOf (structure_of c.args.block.now) (coalition_of c.args.block.now c.args.row.index) c.args.spot.state) is (useful c.before.before.before.before.before.before.before).0.0,
             omega (arith, (landed c.before.before).0, c.requires.sought.0.playable.places_are),
@@ -48,7 +48,7 @@ aimed-requires c =     let is = sym c.number.ensures in  record { valid = c.requ
               ((useful c.before.before.before.before.before.before.before).1 (c.requires.sought.0.into_is ∙ eq-eqb c.args.aim.kind 3 soon)) }
 
 pub returns-in-At : goal.returns-in-At
-returns-in-At c p placed =     let m = number_in c.args.ways.now c.args.spot.state true c.args.k in
+returns-in-At c p placed = let m = number_in c.args.ways.now c.args.spot.state true c.args.k in
     let (paid, leaves) = (landed c.before.before.before).1 p placed in
     let aimed = subst (λ (n : ℕ). AimedFrom c.args.block.now c.args.row c.args.ranks.now c.args.aim.kind c.args.aim.own c.args.spot.state n c.in-At.y c.aimed.result) c.number.ensures c.aimed.ensures in
     D.same (aimed p placed.fits placed.state leaves) (λ h. (move_here c.args.block.now c.requires.valid c.args.row c.requires.sought.0.playable c.args.spot.state c.args.spot.place m p placed (useful c.before.before.before.before.before.before.before.before).0.0 paid, h)) (λ good. good.1)

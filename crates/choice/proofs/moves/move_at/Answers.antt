@@ -34,7 +34,6 @@ module _ (start : At-Start) where
   inside : start.args.spot.state * start.args.row.places + start.args.spot.place < 6144
   inside = number_inside start.args.block.now start.requires.valid start.args.row start.requires.sought.0.playable start.args.spot.state start.args.spot.place start.requires.state_bound.0 start.requires.state_bound.1
 
-
 pub overflow_mul-spot : goal.overflow_mul-spot
 overflow_mul-spot c = record { fits = omega (arith, inside c.before.before.before.before.before.before) }
 
@@ -53,13 +52,12 @@ module _ (c : At-After-rank_at-own) (p : Position) (fits : IsPosition (arena_of 
   own : rank_in c.args.ranks.now (number (arena_of c.args.block.now c.args.row.index) p) ≡ c.rank_at-own.result
   own = ap (rank_in c.args.ranks.now) is ∙ sym c.rank_at-own.ensures.0
 
-
 pub returns-then-not-claims : goal.returns-then-not-claims
-returns-then-not-claims c right ranked p fits is =     move_lost c.args.block.now c.requires.valid c.args.row c.args.kind c.requires.sought.0 c.args.ranks.now c.args.spot.state c.args.spot.place c.rank_at-own.result p (placed c.before.before.before p fits is) (own c.before.before.before p fits is) right
+returns-then-not-claims c right ranked p fits is = move_lost c.args.block.now c.requires.valid c.args.row c.args.kind c.requires.sought.0 c.args.ranks.now c.args.spot.state c.args.spot.place c.rank_at-own.result p (placed c.before.before.before p fits is) (own c.before.before.before p fits is) right
     (D.falsity c.claims.ensures c.if-not-claims.true)
 
 pub returns-then-own-eq0 : goal.returns-then-own-eq0
-returns-then-own-eq0 c right ranked p fits is =     move_met c.args.block.now c.requires.valid c.args.row c.args.kind c.requires.sought.0 c.args.ranks.now c.args.spot.state c.args.spot.place c.rank_at-own.result p (placed c.before.before.before.before p fits is) (own c.before.before.before.before p fits is) right
+returns-then-own-eq0 c right ranked p fits is = move_met c.args.block.now c.requires.valid c.args.row c.args.kind c.requires.sought.0 c.args.ranks.now c.args.spot.state c.args.spot.place c.rank_at-own.result p (placed c.before.before.before.before p fits is) (own c.before.before.before.before p fits is) right
     (D.truth c.claims.ensures c.if-not-claims.false) c.if-own-eq0.true
 
 state_small : (start : At-Start) → start.args.spot.state < 24
@@ -79,14 +77,14 @@ pub is_good-requires : goal.is_good-requires
 is_good-requires c = record { valid = c.requires.valid; sought = c.requires.sought; state_bound = (c.requires.state_bound.0, c.requires.state_bound.1, within c.before) }
 
 pub number-requires : goal.number-requires
-number-requires c =     (c.requires.sought.1.long, state_small c.before.before.before.before.before.before.before.before.before.before.before.before.before.before.before.before, omega (arith, within c.before.before.before, ((c.requires.sought.1.states c.args.spot.state c.requires.state_bound.0).lines true).few))
+number-requires c = (c.requires.sought.1.long, state_small c.before.before.before.before.before.before.before.before.before.before.before.before.before.before.before.before, omega (arith, within c.before.before.before, ((c.requires.sought.1.states c.args.spot.state c.requires.state_bound.0).lines true).few))
 
 pub overflow_cast-result : goal.overflow_cast-result
-overflow_cast-result c =     let way = ((c.requires.sought.1.states c.args.spot.state c.requires.state_bound.0).lines true).only c.loop-k.k (within c.before.before.before.before) in
+overflow_cast-result c = let way = ((c.requires.sought.1.states c.args.spot.state c.requires.state_bound.0).lines true).only c.loop-k.k (within c.before.before.before.before) in
     record { fits = omega (arith, c.number.ensures, joint_number c.args.block.now c.requires.valid (number_in c.args.ways.now c.args.spot.state true c.loop-k.k) way.0.0.0) }
 
 pub returns-then-is_good : goal.returns-then-is_good
-returns-then-is_good c right ranked p fits is =     let here = placed c.before.before.before.before.before.before.before.before.before.before p fits is in
+returns-then-is_good c right ranked p fits is = let here = placed c.before.before.before.before.before.before.before.before.before.before p fits is in
     subst (MoveFor c.args.block.now c.args.row.index c.args.row.set right c.args.ranks.now p) (sym c.number.ensures)
     (first_found c.args.block.now c.requires.valid c.args.row c.args.kind c.requires.sought.0 c.args.ranks.now c.args.spot.state c.args.spot.place c.rank_at-own.result p here (own c.before.before.before.before.before.before.before.before.before.before p fits is) right
     (D.truth c.claims.ensures c.if-not-claims.false) c.if-own-eq0.false c.args.ways.now (c.requires.sought.1.states c.args.spot.state c.requires.state_bound.0)
@@ -99,13 +97,13 @@ pub loop-k-smaller : goal.loop-k-smaller
 loop-k-smaller c = omega (arith, c.loop-k-test.true)
 
 pub loop-k-preserved : goal.loop-k-preserved
-loop-k-preserved c =     (
+loop-k-preserved c = (
       omega (arith, c.loop-k-test.true),
       λ p here. none_more (λ j. GoodBy c.args.block.now c.args.row c.args.ranks.now c.args.kind c.rank_at-own.result p (number_in c.args.ways.now c.args.spot.state true j)) c.loop-k.k (c.loop-k.invariant.1 p here) (D.falsity (c.is_good.ensures p here) c.if-is_good.false),
     )
 
 pub returns : goal.returns
-returns c right ranked p fits is =     let here = placed c.before.before.before.before.before.before.before p fits is in
+returns c right ranked p fits is = let here = placed c.before.before.before.before.before.before.before p fits is in
     absurd (some_listed c.args.block.now c.requires.valid c.args.row c.args.kind c.requires.sought.0 c.args.ranks.now c.args.spot.state c.args.spot.place c.rank_at-own.result p here (own c.before.before.before.before.before.before.before p fits is) right
     (D.truth c.claims.ensures c.if-not-claims.false) c.if-own-eq0.false c.args.ways.now (c.requires.sought.1.states c.args.spot.state c.requires.state_bound.0) ranked
     (λ j small. c.loop-k.invariant.1 p here j (omega (arith, c.loop-k-test.false, c.count-n.ensures))))

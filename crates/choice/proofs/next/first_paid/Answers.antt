@@ -31,7 +31,7 @@ pub spends-requires : goal.spends-requires
 spends-requires c = record { valid = c.requires.valid; playable = c.requires.playable; state_bound = (c.requires.state_bound.0, c.requires.state_bound.1, more c.before) }
 
 pub returns-in-At : goal.returns-in-At
-returns-in-At c =     let remains = rw c.in-At.is at c.spends.ensures in
+returns-in-At c = let remains = rw c.in-At.is at c.spends.ensures in
     record {
       within = omega (arith, more c.before.before.before);
       paid = λ small p placed. paid_at c.args.block.now c.requires.valid c.args.row c.requires.playable.0 c.args.ways.now c.requires.playable.1 c.args.spot.state c.args.spot.place c.loop-k.k _ c.requires.state_bound.0 c.requires.state_bound.1 (more c.before.before.before) refl remains.0 p placed;
@@ -45,14 +45,14 @@ pub loop-k-smaller : goal.loop-k-smaller
 loop-k-smaller c = omega (arith, c.loop-k-test.true)
 
 pub loop-k-preserved : goal.loop-k-preserved
-loop-k-preserved c =     let G = arena_of c.args.block.now c.args.row.index in
+loop-k-preserved c = let G = arena_of c.args.block.now c.args.row.index in
     let unpaid = lands_nowhere c.args.block.now c.requires.valid c.args.row c.requires.playable.0 c.args.ways.now c.requires.playable.1 c.args.spot.state c.args.spot.place c.loop-k.k _ c.requires.state_bound.0 c.requires.state_bound.1 (more c.before.before.before) refl (rw c.in_default.is at c.spends.ensures) in (
       omega (arith, c.loop-k-test.true),
       λ j less p placed. none_more (λ i. Affordable G p (number_in c.args.ways.now c.args.spot.state true i)) c.loop-k.k (λ i below. c.loop-k.invariant.1 i below p placed) (unpaid p placed) j less,
     )
 
 pub returns : goal.returns
-returns c =     record {
+returns c = record {
       within = omega (arith, c.count-n.ensures);
       paid = λ small. absurd (omega (arith, c.count-n.ensures));
       before = λ j less. c.loop-k.invariant.1 j (omega (arith, c.loop-k-test.false));

@@ -18,5 +18,5 @@ pub taken-requires : goal.taken-requires
 taken-requires c = (c.requires.0, c.requires.1, omega (arith, c.requires.2, c.count-n.ensures, c.if-n-eq0.false))
 
 pub returns : goal.returns
-returns c =     let is = c.taken.ensures.0 ∙ ap (λ (n : ℕ). taken_in c.args.ways.now c.args.s (n - 1)) c.count-n.ensures in
+returns c = let is = c.taken.ensures.0 ∙ ap (λ (n : ℕ). taken_in c.args.ways.now c.args.s (n - 1)) c.count-n.ensures in
     D.same (D.equal c.taken.result 0) (λ e. (omega (arith, c.count-n.ensures, c.if-n-eq0.false), sym is ∙ e)) (λ h. is ∙ h.1)

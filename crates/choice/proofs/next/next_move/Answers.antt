@@ -49,9 +49,8 @@ module _ (c : At-After-rank_at) (p : Position) (fits : IsPosition (arena_of c.ar
   own : rank_in c.args.ranks.now (number (arena_of c.args.block.now c.args.row.index) p) ≡ c.rank_at.result
   own = ap (rank_in c.args.ranks.now) is ∙ sym c.rank_at.ensures.0
 
-
 pub returns-then-rank_at-ne1 : goal.returns-then-rank_at-ne1
-returns-then-rank_at-ne1 c right ranked p fits is =     move_lost c.args.block.now c.requires.valid c.args.row 3 c.requires.sought.0 c.args.ranks.now c.args.spot.state c.args.spot.place c.rank_at.result p (placed c.before.before p fits is) (own c.before.before p fits is) right c.if-rank_at-ne1.true
+returns-then-rank_at-ne1 c right ranked p fits is = move_lost c.args.block.now c.requires.valid c.args.row 3 c.requires.sought.0 c.args.ranks.now c.args.spot.state c.args.spot.place c.rank_at.result p (placed c.before.before p fits is) (own c.before.before p fits is) right c.if-rank_at-ne1.true
 
 pub first_paid-k-requires : goal.first_paid-k-requires
 first_paid-k-requires c = record { valid = c.requires.valid; playable = (c.requires.sought.0.playable, c.requires.sought.1); state_bound = c.requires.state_bound }
@@ -67,19 +66,19 @@ useful : (c : At-Then-k-count) → Useful c.args.block.now c.args.row c.args.spo
 useful c = ((c.requires.sought.1.states c.args.spot.state c.requires.state_bound.0).lines true).only c.first_paid-k.result (more c)
 
 pub number-requires : goal.number-requires
-number-requires c =     let small = listed_small c.args.block.now c.requires.valid c.args.row c.args.ways.now c.requires.sought.1 c.args.spot.state c.first_paid-k.result c.requires.state_bound.0 (more c.before) in
+number-requires c = let small = listed_small c.args.block.now c.requires.valid c.args.row c.args.ways.now c.requires.sought.1 c.args.spot.state c.first_paid-k.result c.requires.state_bound.0 (more c.before) in
     (c.requires.sought.1.long, small.0, small.1)
 
 pub overflow_cast-result : goal.overflow_cast-result
 overflow_cast-result c = record { fits = omega (arith, c.number.ensures, joint_number c.args.block.now c.requires.valid (number_in c.args.ways.now c.args.spot.state true c.first_paid-k.result) (useful c.before.before).0.0.0) }
 
 pub returns-then-k-count : goal.returns-then-k-count
-returns-then-k-count c right ranked p fits is =     let here = placed c.before.before.before.before.before.before p fits is in
+returns-then-k-count c right ranked p fits is = let here = placed c.before.before.before.before.before.before p fits is in
     subst (MoveFor c.args.block.now c.args.row.index c.args.row.set right c.args.ranks.now p) (sym c.number.ensures)
     (first_found c.args.block.now c.requires.valid c.args.row 3 c.requires.sought.0 c.args.ranks.now c.args.spot.state c.args.spot.place c.rank_at.result p here (own c.before.before.before.before.before.before p fits is) right c.if-rank_at-ne1.false (λ zero. omega (arith, c.if-rank_at-ne1.false)) c.args.ways.now (c.requires.sought.1.states c.args.spot.state c.requires.state_bound.0)
     c.first_paid-k.result (more c.before.before) (λ j less good. c.first_paid-k.ensures.before j less p here good.0.1) (paid_good c.args.block.now c.requires.valid c.args.row c.requires.sought.0.playable c.requires.sought.0.into_is c.args.spot.state c.args.spot.place p here c.args.ranks.now c.rank_at.result (number_in c.args.ways.now c.args.spot.state true c.first_paid-k.result) (useful c.before.before) (c.first_paid-k.ensures.paid (more c.before.before) p here)))
 
 pub returns : goal.returns
-returns c right ranked p fits is =     let here = placed c.before.before.before.before.before p fits is in
+returns c right ranked p fits is = let here = placed c.before.before.before.before.before p fits is in
     absurd (some_listed c.args.block.now c.requires.valid c.args.row 3 c.requires.sought.0 c.args.ranks.now c.args.spot.state c.args.spot.place c.rank_at.result p here (own c.before.before.before.before.before p fits is) right c.if-rank_at-ne1.false (λ zero. omega (arith, c.if-rank_at-ne1.false)) c.args.ways.now (c.requires.sought.1.states c.args.spot.state c.requires.state_bound.0) ranked
     (λ j small good. c.first_paid-k.ensures.before j (omega (arith, c.if-k-count.false, c.count.ensures)) p here good.0.1))

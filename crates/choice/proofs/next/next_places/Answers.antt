@@ -18,10 +18,10 @@ abbrev At-In-loop-x : Type 0
 At-In-loop-x = lts.In-loop tie.the-claims reads.Pre reads.Post goal.the-invariant-loop-x goal.the-decreases-loop-x tie.handed_clauses
 
 pub last_free-free-requires : goal.last_free-free-requires
-last_free-free-requires c =     (c.requires.playable.2.long, omega (arith, c.requires.s_bound.0, c.requires.valid.sized.states_fit), ((c.requires.playable.2.states c.args.s c.requires.s_bound.0).lines true).few)
+last_free-free-requires c = (c.requires.playable.2.long, omega (arith, c.requires.s_bound.0, c.requires.valid.sized.states_fit), ((c.requires.playable.2.states c.args.s c.requires.s_bound.0).lines true).few)
 
 pub loop-x-init : goal.loop-x-init
-loop-x-init c =     (omega arith, places_first c.args.s c.args.row.places c.requires.s_bound.1, refl)
+loop-x-init c = (omega arith, places_first c.args.s c.args.row.places c.requires.s_bound.1, refl)
 
 -- the position is within the buffer
 inside : (c : At-In-loop-x) → c.args.s * c.args.row.places + c.loop-x.x < 6144
@@ -47,7 +47,7 @@ pub loop-x-smaller : goal.loop-x-smaller
 loop-x-smaller c = omega (arith, c.loop-x-test.true)
 
 pub loop-x-preserved : goal.loop-x-preserved
-loop-x-preserved c =     (omega (arith, c.loop-x-test.true), places_next c.args.s c.args.row.places c.loop-x.x c.next_rank-rank.result c.loop-x.invariant.1 c.set_rank.ensures c.next_rank-rank.ensures.0, c.set_rank.ensures.kept ∙ c.loop-x.invariant.2)
+loop-x-preserved c = (omega (arith, c.loop-x-test.true), places_next c.args.s c.args.row.places c.loop-x.x c.next_rank-rank.result c.loop-x.invariant.1 c.set_rank.ensures c.next_rank-rank.ensures.0, c.set_rank.ensures.kept ∙ c.loop-x.invariant.2)
 
 pub shape_of-ranks : goal.shape_of-ranks
 shape_of-ranks c = c.loop-x.invariant.2

@@ -25,7 +25,7 @@ placed : (start : At-Start) (p : Position) → IsPosition (arena_of start.args.b
 placed start = spot_placed start.args.block.now start.args.row start.requires.playable.0 start.args.spot.state start.args.spot.place start.requires.state_bound.0 start.requires.state_bound.1
 
 pub returns-then-free : goal.returns-then-free
-returns-then-free c =     (λ p fits is. inl (refl, free_forces c.args.block.now c.requires.valid c.args.row c.requires.playable.0 c.requires.playable.1 c.args.spot.state c.args.spot.place p (placed c.before.before.before.before p fits is) c.args.ways.now c.requires.playable.2 c.requires.state_bound.0 (c.requires.state_bound.2 c.if-free.true)), omega arith)
+returns-then-free c = (λ p fits is. inl (refl, free_forces c.args.block.now c.requires.valid c.args.row c.requires.playable.0 c.requires.playable.1 c.args.spot.state c.args.spot.place p (placed c.before.before.before.before p fits is) c.args.ways.now c.requires.playable.2 c.requires.state_bound.0 (c.requires.state_bound.2 c.if-free.true)), omega arith)
 
 pub first_paid-requires : goal.first_paid-requires
 first_paid-requires c = record { valid = c.requires.valid; playable = (c.requires.playable.0, c.requires.playable.2); state_bound = (c.requires.state_bound.0, c.requires.state_bound.1) }
@@ -34,7 +34,7 @@ pub count-requires : goal.count-requires
 count-requires c = (c.requires.playable.2.long, omega (arith, c.requires.state_bound.0, c.requires.valid.sized.states_fit))
 
 pub returns-then-first_paid-count : goal.returns-then-first_paid-count
-returns-then-first_paid-count c =     let small : c.first_paid.result < count_in c.args.ways.now c.args.spot.state true = omega (arith, c.if-first_paid-count.true, c.count.ensures) in
+returns-then-first_paid-count c = let small : c.first_paid.result < count_in c.args.ways.now c.args.spot.state true = omega (arith, c.if-first_paid-count.true, c.count.ensures) in
     let useful = ((c.requires.playable.2.states c.args.spot.state c.requires.state_bound.0).lines true).only c.first_paid.result small in (
       λ p fits is.
           let here = placed c.before.before.before.before.before.before.before p fits is in
@@ -43,7 +43,7 @@ returns-then-first_paid-count c =     let small : c.first_paid.result < count_in
     )
 
 pub returns : goal.returns
-returns c =     (
+returns c = (
       λ p fits is.
           let here = placed c.before.before.before.before.before.before.before p fits is in
           inr (

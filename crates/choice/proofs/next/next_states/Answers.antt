@@ -29,5 +29,5 @@ pub shape_of-ranks : goal.shape_of-ranks
 shape_of-ranks c = c.loop-s.invariant.2
 
 pub returns : goal.returns
-returns c =     let all : c.loop-s.s ≡ L.states c.args.block.now = omega (arith, c.loop-s-test.false, c.loop-s.invariant.0, c.states-n.ensures) in
+returns c = let all : c.loop-s.s ≡ L.states c.args.block.now = omega (arith, c.loop-s-test.false, c.loop-s.invariant.0, c.states-n.ensures) in
      record { filled_to_2 = subst (λ (n : ℕ). FilledTo rank_in (NextRight c.args.block.now c.args.row.index c.args.row.set) (n * c.args.row.places) c.loop-s.ranks) all c.loop-s.invariant.1; ranks_len_unchanged = c.loop-s.invariant.2 }

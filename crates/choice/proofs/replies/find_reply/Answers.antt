@@ -68,9 +68,8 @@ module _ (start : At-Start) (k : ℕ) (small : k < count_in start.args.ways.now 
   state_fits : L.next start.args.block.now start.args.step.state (start.args.step.number + r) < 24
   state_fits = next_small start.args.block.now start.requires.valid start.args.row.index start.requires.playable.0.inside start.requires.playable.0.strategic start.args.step.state start.args.step.number r start.requires.made.0 start.requires.made.1 reply
 
-
 pub number-r-requires : goal.number-r-requires
-number-r-requires c =     (c.requires.playable.1.long, state_small c.before.before.before.before.before.before.before, omega (arith, within c.before, ((c.requires.playable.1.states c.args.step.state c.requires.made.0).lines false).few))
+number-r-requires c = (c.requires.playable.1.long, state_small c.before.before.before.before.before.before.before, omega (arith, within c.before, ((c.requires.playable.1.states c.args.step.state c.requires.made.0).lines false).few))
 
 pub overflow_add-step : goal.overflow_add-step
 overflow_add-step c = record { fits = omega (arith, c.number-r.ensures, sum_fits c.before.before.before.before.before.before.before.before.before c.loop-k.k (within c.before.before.before)) }
@@ -117,9 +116,8 @@ module _ (c : At-At-loop-k) (p : Position) (is_state : p.state ≡ c.args.step.s
   none_so_far j less small counter = c.loop-k.invariant.1 j less
       (here_counters c.args.block.now c.requires.valid c.args.row c.requires.playable.0 c.args.ranks.now c.args.aim.kind c.args.aim.own c.args.step.state c.args.step.number c.args.step.place c.requires.made p is_state leaves (number_in c.args.ways.now c.args.step.state false j) (reply c.before.before.before.before.before j small) counter)
 
-
 pub returns-then-counters : goal.returns-then-counters
-returns-then-counters c =     let small = within c.before.before.before.before.before.before.before.before in
+returns-then-counters c = let small = within c.before.before.before.before.before.before.before.before in
     let line = (c.requires.playable.1.states c.args.step.state c.requires.made.0).lines false in (
       λ p fits is_state leaves _ _. subst (Smallest (Counters c.before.before.before.before.before.before.before.before.before p is_state leaves)) (sym c.number-r.ensures)
           (line_first (ReplyTo c.args.block.now c.args.row.index c.args.step.state) (Counters c.before.before.before.before.before.before.before.before.before p is_state leaves) line (λ m counters _. listed c.before.before.before.before.before.before.before.before.before p is_state leaves m counters) c.loop-k.k small
@@ -136,14 +134,14 @@ pub loop-k-smaller : goal.loop-k-smaller
 loop-k-smaller c = omega (arith, c.loop-k-test.true)
 
 pub loop-k-preserved : goal.loop-k-preserved
-loop-k-preserved c =     (
+loop-k-preserved c = (
       omega (arith, c.loop-k-test.true),
       none_more (λ j. CounterBy c.args.aim.kind c.args.row.set c.args.aim.own (L.next c.args.block.now c.args.step.state (c.args.step.number + number_in c.args.ways.now c.args.step.state false j)) (rank_in c.args.ranks.now (L.next c.args.block.now c.args.step.state (c.args.step.number + number_in c.args.ways.now c.args.step.state false j) * c.args.row.places + c.args.step.place))) c.loop-k.k c.loop-k.invariant.1
           (λ aim. D.falsity c.counters.ensures c.if-counters.false (transport (sym (tested c.before.before)) aim)),
     )
 
 pub returns : goal.returns
-returns c =     (
+returns c = (
       λ p fits is_state leaves k counter. absurd (line_none (ReplyTo c.args.block.now c.args.row.index c.args.step.state) (Counters c.before.before p is_state leaves)
           ((c.requires.playable.1.states c.args.step.state c.requires.made.0).lines false) (λ m counters _. listed c.before.before p is_state leaves m counters)
           (λ j small. none_so_far c.before.before p is_state leaves j (omega (arith, c.loop-k-test.false, c.count-n.ensures)) small) k counter),

@@ -28,7 +28,6 @@ module _ (start : At-Start) where
   state_small : start.args.spot.state < 24
   state_small = omega (arith, start.requires.state_bound.0, start.requires.valid.sized.states_fit)
 
-
 pub find-k-requires : goal.find-k-requires
 find-k-requires c = (c.requires.playable.1.long, state_small c.before.before.before, (listed c.before.before.before).few)
 
@@ -36,7 +35,7 @@ pub count-requires : goal.count-requires
 count-requires c = (c.requires.playable.1.long, state_small c.before.before.before.before)
 
 pub returns-then-k-count : goal.returns-then-k-count
-returns-then-k-count c p here useful allowed =     let (j, small, e) = (listed c.before.before.before.before.before.before).each c.args.m useful in
+returns-then-k-count c p here useful allowed = let (j, small, e) = (listed c.before.before.before.before.before.before).each c.args.m useful in
     c.find-k.ensures.before j (omega (arith, c.if-k-count.true, c.count.ensures)) e
 
 -- the number is found
@@ -47,5 +46,5 @@ pub lands-requires : goal.lands-requires
 lands-requires c = record { valid = c.requires.valid; playable = c.requires.playable; state_bound = (c.requires.state_bound.0, c.requires.state_bound.1, within c.before) }
 
 pub returns : goal.returns
-returns c =     subst (λ (m : ℕ). Makes c.args.block.now c.args.row c.args.spot.state c.args.spot.place m c.lands.result) (c.find-k.ensures.here (within c.before.before))
+returns c = subst (λ (m : ℕ). Makes c.args.block.now c.args.row c.args.spot.state c.args.spot.place m c.lands.result) (c.find-k.ensures.here (within c.before.before))
     (way_makes c.args.block.now c.args.row c.args.spot.state c.args.spot.place (line c.before.before.before.before.before.before.before c.find-k.result) c.lands.result ((listed c.before.before.before.before.before.before.before).only c.find-k.result (within c.before.before)).0.0 c.lands.ensures)

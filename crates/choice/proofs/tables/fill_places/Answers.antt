@@ -15,7 +15,7 @@ abbrev At-In-loop-x : Type 0
 At-In-loop-x = lts.In-loop tie.the-claims reads.Pre reads.Post goal.the-invariant-loop-x goal.the-decreases-loop-x tie.handed_clauses
 
 pub loop-x-init : goal.loop-x-init
-loop-x-init c =     (omega arith, places_first c.args.s c.args.row.places c.requires.s_bound.1, refl)
+loop-x-init c = (omega arith, places_first c.args.s c.args.row.places c.requires.s_bound.1, refl)
 
 pub move_of-requires : goal.move_of-requires
 move_of-requires c = record { valid = c.requires.valid; sought = (c.requires.sought.0, c.requires.sought.1, c.requires.sought.2); state_bound = (c.requires.s_bound.0, c.loop-x-test.true) }
@@ -41,7 +41,7 @@ pub loop-x-smaller : goal.loop-x-smaller
 loop-x-smaller c = omega (arith, c.loop-x-test.true)
 
 pub loop-x-preserved : goal.loop-x-preserved
-loop-x-preserved c =     let put = byte_stored c.loop-x.moves (c.args.s * c.args.row.places + c.loop-x.x) c.move_of.result (omega (arith, inside c.before.before, c.loop-x.invariant.2, c.requires.sought.3)) in
+loop-x-preserved c = let put = byte_stored c.loop-x.moves (c.args.s * c.args.row.places + c.loop-x.x) c.move_of.result (omega (arith, inside c.before.before, c.loop-x.invariant.2, c.requires.sought.3)) in
     (omega (arith, c.loop-x-test.true), places_next c.args.s c.args.row.places c.loop-x.x c.move_of.result c.loop-x.invariant.1 put c.move_of.ensures, put.kept ∙ c.loop-x.invariant.2)
 
 pub shape_of-moves : goal.shape_of-moves

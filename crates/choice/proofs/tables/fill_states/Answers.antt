@@ -28,5 +28,5 @@ pub shape_of-moves : goal.shape_of-moves
 shape_of-moves c = c.loop-s.invariant.2
 
 pub returns : goal.returns
-returns c =     let all : c.loop-s.s ≡ L.states c.args.block.now = omega (arith, c.loop-s-test.false, c.loop-s.invariant.0, c.states-n.ensures) in
+returns c = let all : c.loop-s.s ≡ L.states c.args.block.now = omega (arith, c.loop-s-test.false, c.loop-s.invariant.0, c.states-n.ensures) in
      record { filled_to_2 = subst (λ (n : ℕ). FilledTo byte_in (MoveRight c.args.block.now c.args.row.index c.args.row.set c.args.ranks.now) (n * c.args.row.places) c.loop-s.moves) all c.loop-s.invariant.1; moves_len_unchanged = c.loop-s.invariant.2 }

@@ -4,11 +4,6 @@ use Rattle.block.proofs.Masks.{bit_above, no_bit_above}
 use borrow.Author.Rules.{rules}
 use Rattle.conditions.proofs.bits.bit_from.Goals as goal
 
--- NOGOAL
--- shr-result : tie.Need-overflow-shr-result
--- shr-result c = search rules
--- 
-
 pub returns : goal.returns
 returns c = D.opposite (D.equal _ _)
     (no_bit_above _ _)

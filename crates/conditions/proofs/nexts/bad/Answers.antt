@@ -19,11 +19,6 @@ joints_bad-requires c = record { sized = search rules; s_lt_max_states = search 
 pub returns-then-joints_bad : goal.returns-then-joints_bad
 returns-then-joints_bad c = holds (c.loop-s.s, rw (← c.states-n.ensures) c.loop-s-test.true, D.truth c.joints_bad.ensures c.if-joints_bad.true)
 
--- NOGOAL
--- add-s : tie.Need-overflow-add-s invariant-loop decreases-loop
--- add-s c = omega arith
--- 
-
 pub loop-s-smaller : goal.loop-s-smaller
 loop-s-smaller c = omega arith
 

@@ -18,11 +18,6 @@ next_bad-requires c = record { sized = search rules; s_lt_max_states = search ru
 pub returns-then-next_bad : goal.returns-then-next_bad
 returns-then-next_bad c = holds (c.loop-joint.joint, c.loop-joint-test.true, D.truth c.next_bad.ensures c.if-next_bad.true)
 
--- NOGOAL
--- add-joint : tie.Need-overflow-add-joint invariant-loop decreases-loop
--- add-joint c = omega arith
--- 
-
 pub loop-joint-smaller : goal.loop-joint-smaller
 loop-joint-smaller c = omega arith
 

@@ -17,11 +17,6 @@ row_bad-requires c = record { sized = search rules; i_lt_max_rows = search rules
 pub returns-then-row_bad : goal.returns-then-row_bad
 returns-then-row_bad c = holds (c.loop-i.i, rw (← c.rows-n.ensures) c.loop-i-test.true, D.truth c.row_bad.ensures c.if-row_bad.true)
 
--- NOGOAL
--- add-i : tie.Need-overflow-add-i invariant-loop decreases-loop
--- add-i c = omega arith
--- 
-
 pub loop-i-smaller : goal.loop-i-smaller
 loop-i-smaller c = omega arith
 

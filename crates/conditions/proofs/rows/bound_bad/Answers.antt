@@ -10,6 +10,6 @@ pub returns-then-n-le-MAX_UNITS : goal.returns-then-n-le-MAX_UNITS
 returns-then-n-le-MAX_UNITS c = fails (λ x. omega arith)
 
 pub returns : goal.returns
-returns c =     D.opposite (D.equal c.bound-n.result unlimited)
+returns c = D.opposite (D.equal c.bound-n.result unlimited)
     (λ e x. x.1 (rw (← c.bound-n.ensures) e))
     (λ n. (omega arith, rw (← c.bound-n.ensures) n))

@@ -17,11 +17,6 @@ bound_bad-requires c = record { sized = search rules; i_lt_max_rows = search rul
 pub returns-then-bound_bad : goal.returns-then-bound_bad
 returns-then-bound_bad c = holds (c.loop-j.j, rw (← c.resources-n.ensures) c.loop-j-test.true, D.truth c.bound_bad.ensures c.if-bound_bad.true)
 
--- NOGOAL
--- add-j : tie.Need-overflow-add-j invariant-loop decreases-loop
--- add-j c = omega arith
--- 
-
 pub loop-j-smaller : goal.loop-j-smaller
 loop-j-smaller c = omega arith
 

@@ -13,7 +13,7 @@ pub returns-then-operands_bad : goal.returns-then-operands_bad
 returns-then-operands_bad c = holds (operands (D.truth c.operands_bad.ensures c.if-operands_bad.true))
 
 pub returns-then-strategic : goal.returns-then-strategic
-returns-then-strategic c =     D.same c.team_bad.ensures
+returns-then-strategic c = D.same c.team_bad.ensures
     (coalition (rw (← c.kind-2.ensures) (D.truth c.strategic.ensures c.if-strategic.true)))
     (λ x.
     elim x [
@@ -23,7 +23,7 @@ returns-then-strategic c =     D.same c.team_bad.ensures
     ])
 
 pub returns : goal.returns
-returns c =     fails
+returns c = fails
     (λ x.
     elim x [
       | kind_unknown h ↦ absurd (omega arith)

@@ -12,7 +12,7 @@ pub returns-then-bit_from : goal.returns-then-bit_from
 returns-then-bit_from c = holds (team_absent (rw (← c.team-t.ensures, ← c.agents.ensures) (D.truth c.bit_from.ensures c.if-bit_from.true)))
 
 pub returns : goal.returns
-returns c =     D.same c.bounds_bad.ensures bound_range
+returns c = D.same c.bounds_bad.ensures bound_range
     (λ x.
     elim x [
       | team_empty h ↦ absurd (c.if-t-eq0.false (rw c.team-t.ensures h))

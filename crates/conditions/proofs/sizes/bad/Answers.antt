@@ -39,11 +39,11 @@ pub returns-then-outside-5 : goal.returns-then-outside-5
 returns-then-outside-5 c = holds (rows_range (rw c.rows.ensures at (D.truth c.outside-5.ensures c.if-outside-5.true)))
 
 pub kinds_bad-requires : goal.kinds_bad-requires
-kinds_bad-requires c =     let fit : Outside 1 max_resources (resources c.args.block.now) → ⊥ = clear c.resources.ensures c.outside-2.ensures c.if-outside-2.false in
+kinds_bad-requires c = let fit : Outside 1 max_resources (resources c.args.block.now) → ⊥ = clear c.resources.ensures c.outside-2.ensures c.if-outside-2.false in
     (search rules, (inside _ _ _ fit).1)
 
 pub returns : goal.returns
-returns c =     D.same c.kinds_bad.ensures
+returns c = D.same c.kinds_bad.ensures
     kinds_range
     (last
     (clear c.agents.ensures c.outside.ensures c.if-outside.false)

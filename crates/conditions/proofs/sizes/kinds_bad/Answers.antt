@@ -17,11 +17,6 @@ resource_kind-requires c = record { block_len = search rules; j_lt_max_resources
 pub returns-then-resource_kind-gt-MAX_KIND : goal.returns-then-resource_kind-gt-MAX_KIND
 returns-then-resource_kind-gt-MAX_KIND c = holds (c.loop-j.j, rw (← c.resources-n.ensures) c.loop-j-test.true, omega (arith, c.resource_kind.ensures, c.if-resource_kind-gt-MAX_KIND.true))
 
--- NOGOAL
--- add-j : tie.Need-overflow-add-j invariant-loop decreases-loop
--- add-j c = omega arith
--- 
-
 pub loop-j-smaller : goal.loop-j-smaller
 loop-j-smaller c = omega arith
 

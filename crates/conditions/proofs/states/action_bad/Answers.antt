@@ -17,11 +17,6 @@ cost_bad-requires c = record { sized = search rules; s_lt_max_states = search ru
 pub returns-then-cost_bad : goal.returns-then-cost_bad
 returns-then-cost_bad c = holds (c.loop-j.j, rw (← c.resources-n.ensures) c.loop-j-test.true, D.truth c.cost_bad.ensures c.if-cost_bad.true)
 
--- NOGOAL
--- add-j : tie.Need-overflow-add-j invariant-loop decreases-loop
--- add-j c = omega arith
--- 
-
 pub loop-j-smaller : goal.loop-j-smaller
 loop-j-smaller c = omega arith
 

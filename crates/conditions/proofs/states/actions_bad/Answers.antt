@@ -23,16 +23,11 @@ pub loop-k-init : goal.loop-k-init
 loop-k-init c = (search rules, below_none _)
 
 pub action_bad-requires : goal.action_bad-requires
-action_bad-requires c =     let few = four c.outside.ensures c.if-outside.false in
+action_bad-requires c = let few = four c.outside.ensures c.if-outside.false in
      record { sized = search rules; s_lt_max_states = omega arith }
 
 pub returns-then-action_bad : goal.returns-then-action_bad
 returns-then-action_bad c = holds (inr (c.loop-k.k, rw (← c.count-n.ensures) c.loop-k-test.true, D.truth c.action_bad.ensures c.if-action_bad.true))
-
--- NOGOAL
--- add-k : tie.Need-overflow-add-k invariant-loop decreases-loop
--- add-k c = omega arith
--- 
 
 pub loop-k-smaller : goal.loop-k-smaller
 loop-k-smaller c = omega arith
@@ -41,6 +36,6 @@ pub loop-k-preserved : goal.loop-k-preserved
 loop-k-preserved c = (omega arith, below_more _ _ c.loop-k.invariant.1 (D.falsity c.action_bad.ensures c.if-action_bad.false))
 
 pub returns : goal.returns
-returns c =     fails
+returns c = fails
     (λ x. ⊎_elim (λ h. D.falsity c.outside.ensures c.if-outside.false (rw c.count-n.ensures h))
     (D.nothing (omega arith) c.loop-k.invariant.1) x)

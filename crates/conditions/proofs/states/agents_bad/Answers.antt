@@ -17,11 +17,6 @@ actions_bad-requires c = record { sized = search rules; s_lt_max_states = search
 pub returns-then-actions_bad : goal.returns-then-actions_bad
 returns-then-actions_bad c = holds (c.loop-a.a, rw (← c.agents-n.ensures) c.loop-a-test.true, D.truth c.actions_bad.ensures c.if-actions_bad.true)
 
--- NOGOAL
--- add_a : tie.Need-overflow-add-a invariant-loop decreases-loop
--- add_a c = omega arith
--- 
-
 pub loop-a-smaller : goal.loop-a-smaller
 loop-a-smaller c = omega arith
 

@@ -17,11 +17,6 @@ state_bad-requires c = record { sized = search rules; s_lt_max_states = search r
 pub returns-then-state_bad : goal.returns-then-state_bad
 returns-then-state_bad c = holds (c.loop-s.s, rw (← c.states-n.ensures) c.loop-s-test.true, D.truth c.state_bad.ensures c.if-state_bad.true)
 
--- NOGOAL
--- add-s : tie.Need-overflow-add-s invariant-loop decreases-loop
--- add-s c = omega arith
--- 
-
 pub loop-s-smaller : goal.loop-s-smaller
 loop-s-smaller c = omega arith
 

@@ -9,5 +9,5 @@ pub returns-then-bit_from : goal.returns-then-bit_from
 returns-then-bit_from c = holds (inl (rw (← c.mask.ensures, ← c.propositions.ensures) (D.truth c.bit_from.ensures c.if-bit_from.true)))
 
 pub returns : goal.returns
-returns c =     D.same c.agents_bad.ensures inr
+returns c = D.same c.agents_bad.ensures inr
     (λ x. ⊎_elim (λ h. absurd (D.falsity c.bit_from.ensures c.if-bit_from.false (rw (c.mask.ensures, c.propositions.ensures) h))) (λ h. h) x)

@@ -63,7 +63,7 @@ own c p placed =
     ∙ ap (rank_in c.args.ranks.now) (placed_number (arena_of c.args.block.now c.args.i) c.args.spot.state c.args.spot.place p placed)
 
 pub returns-then-claims : goal.returns-then-claims
-returns-then-claims c p placed =     turned_down (claimed_wins c.requires.valid c.requires.i_bound.0 c.requires.i_bound.1 c.requires.prepared p placed.fits (subst₂ ClaimsBy c.kind.ensures (own c.before.before.before.before p placed) (D.truth c.claims.ensures c.if-claims.true)))
+returns-then-claims c p placed = turned_down (claimed_wins c.requires.valid c.requires.i_bound.0 c.requires.i_bound.1 c.requires.prepared p placed.fits (subst₂ ClaimsBy c.kind.ensures (own c.before.before.before.before p placed) (D.truth c.claims.ensures c.if-claims.true)))
 
 pub list_row-requires : goal.list_row-requires
 list_row-requires c = record { valid = c.requires.valid; playable = (c.row_of-row.ensures.0, c.requires.i_bound.2, c.row_of-row.ensures.4) }
@@ -80,7 +80,7 @@ unclaimed : (c : At-Else-claims) → ClaimsBy (L.kind c.args.block.now c.args.i)
 unclaimed c claim = D.falsity c.claims.ensures c.if-claims.false (subst (λ (k : ℕ). ClaimsBy k c.rank_at-own.result) (sym c.kind.ensures) claim)
 
 pub reply_to-r-requires : goal.reply_to-r-requires
-reply_to-r-requires c =     let (move, lands) = made c.before in  record { valid = c.requires.valid; playable = (c.row_of-row.ensures.0, c.list_row.ensures, c.requires.i_bound.3); made = (
+reply_to-r-requires c = let (move, lands) = made c.before in record { valid = c.requires.valid; playable = (c.row_of-row.ensures.0, c.list_row.ensures, c.requires.i_bound.3); made = (
             (c.requires.state_bound.0, move, omega (arith, lands.0, c.row_of-row.ensures.0.places_are)),
             subst₂ (λ (i left : ℕ). RanksOf c.args.block.now i left c.args.ready.right c.args.ranks.now) (sym c.row_of-row.ensures.1) (sym c.row_of-row.ensures.3) c.requires.prepared.ranks_of,
           ); fact = λ claim. unclaimed c.before.before.before.before.before.before.before (subst (λ (i : ℕ). ClaimsBy (L.kind c.args.block.now i) c.rank_at-own.result) c.row_of-row.ensures.1 claim) }
@@ -93,9 +93,8 @@ module _ (c : At-Else-claims) (p : Position) (placed : PlacedAt (arena_of c.args
   lost : ClaimsBy (L.kind c.args.block.now c.args.i) (rank_in c.args.ranks.now (number (arena_of c.args.block.now c.args.i) p)) → ⊥
   lost claim = unclaimed c (subst (ClaimsBy (L.kind c.args.block.now c.args.i)) (sym (own c.before.before.before p placed)) claim)
 
-
 pub returns-in-At : goal.returns-in-At
-returns-in-At c p placed =     let (move, lands) = made c.before.before in
+returns-in-At c p placed = let (move, lands) = made c.before.before in
     let at = here c.before.before.before.before.before.before.before.before p placed in
     let (paid, leaves) = lands.1 p at in
     let allowed = move_here c.args.block.now c.requires.valid c.row_of-row.result c.row_of-row.ensures.0 c.args.spot.state c.args.spot.place c.args.m p at move paid in
@@ -110,7 +109,7 @@ returns-in-At c p placed =     let (move, lands) = made c.before.before in
     (subst₂ (λ (i left : ℕ). ReplyFor c.args.block.now i left c.args.ready.right c.args.ranks.now p c.args.m c.reply_to-r.result) c.row_of-row.ensures.1 c.row_of-row.ensures.3 reply))))
 
 pub returns-in-Unpaid : goal.returns-in-Unpaid
-returns-in-Unpaid c p placed =     past (λ wins. lost c.before.before.before.before.before.before.before p placed (wins_claimed_by c.requires.valid c.requires.i_bound.0 c.requires.i_bound.1 c.requires.prepared p placed.fits wins)) (turned_down (λ allowed.
+returns-in-Unpaid c p placed = past (λ wins. lost c.before.before.before.before.before.before.before p placed (wins_claimed_by c.requires.valid c.requires.i_bound.0 c.requires.i_bound.1 c.requires.prepared p placed.fits wins)) (turned_down (λ allowed.
     let there = here c.before.before.before.before.before.before.before p placed in
     let paid = subst (λ (i : ℕ). Allowed (arena_of c.args.block.now i) p c.args.m) (sym c.row_of-row.ensures.1) allowed in
     let useful = allowed_useful c.args.block.now c.requires.valid c.row_of-row.result c.row_of-row.ensures.0 c.row_of-row.ensures.2 c.args.spot.state c.args.spot.place p there c.args.m paid in

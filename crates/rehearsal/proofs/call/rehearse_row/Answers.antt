@@ -50,7 +50,6 @@ module _ (start : At-Start) where
   few : number G (full G start.args.s) < 6144
   few = number_few start.args.block.now start.requires.valid start.args.i start.requires.i_bound.0 start.requires.i_bound.1 (full G start.args.s) first_fits
 
-
 pub rank_at-rank-requires : goal.rank_at-rank-requires
 rank_at-rank-requires c = omega (arith, c.full.ensures, few c.before.before.before.before.before.before.before.before.before.before.before.before, c.prepare-ready.ensures.long)
 
@@ -69,7 +68,6 @@ module _ (c : At-After-claims) where
   wins_by : ClaimsBy c.kind.result c.rank_at-rank.result → CoalitionWins (G c.before.before.before.before.before.before.before.before.before.before.before.before.before.before) (t c.before.before.before.before.before.before.before.before.before.before.before.before.before.before) (full (G c.before.before.before.before.before.before.before.before.before.before.before.before.before.before) c.args.s)
   wins_by claim =
       claimed_wins c.prepare-ready.ensures.valid c.prepare-ready.ensures.inside c.prepare-ready.ensures.strategic c.prepare-ready.ensures.prepared (full (G c.before.before.before.before.before.before.before.before.before.before.before.before.before.before) c.args.s) (first_fits c.before.before.before.before.before.before.before.before.before.before.before.before.before.before) (subst₂ ClaimsBy c.kind.ensures own claim)
-
 
 pub returns-then-not-claims : goal.returns-then-not-claims
 returns-then-not-claims c = record { answers = turned_down (λ wins. D.falsity c.claims.ensures c.if-not-claims.true (claimed c.before.before wins)); kept = (refl, c.prepare-ready.ensures.long ∙ sym c.requires.script_len_bound.2) }
@@ -97,7 +95,6 @@ module _ (c : At-In-After) where
   last_small =
       omega (arith, last_number_lem, number_few c.args.block.now c.requires.valid c.args.i c.requires.i_bound.0 c.requires.i_bound.1 (ends.0.at c.in-After.moves) ends.2.fits)
 
-
 pub overflow_mul-position : goal.overflow_mul-position
 overflow_mul-position c = record { fits = omega (arith, last_small c.before.before.before) }
 
@@ -111,7 +108,7 @@ pub shape_of-room-in-After : goal.shape_of-room-in-After
 shape_of-room-in-After c = c.prepare-ready.ensures.long ∙ sym c.requires.script_len_bound.2
 
 pub returns-in-After : goal.returns-in-After
-returns-in-After c =     let (P, end, _) = ends c.before.before.before.before.before.before.before.before in
+returns-in-After c = let (P, end, _) = ends c.before.before.before.before.before.before.before.before in
     let wins = wins_here c.before.before.before.before.before.before.before.before.before.before.before in
     let proper = valid_proper c.args.block.now c.prepare-ready.ensures.valid in
     let X = ready_table c.prepare-ready.ensures.valid c.prepare-ready.ensures.inside c.prepare-ready.ensures.strategic c.prepare-ready.ensures.prepared in

@@ -41,7 +41,7 @@ pub full-requires : goal.full-requires
 full-requires c = record { valid = c.requires.made_ready.valid; i_bound = (c.requires.made_ready.inside, c.requires.made_ready.strategic, omega (arith, c.requires.s_bound.0)) }
 
 pub loop-n-init : goal.loop-n-init
-loop-n-init c =     let G = arena_of c.args.block.now c.args.i in
+loop-n-init c = let G = arena_of c.args.block.now c.args.i in
     let fits = full_fits G c.args.s c.requires.s_bound.0 in (
       omega arith,
       stands_first G (valid_proper c.args.block.now c.requires.made_ready.valid) (objective_of c.args.block.now c.args.i) c.args.script.now (full G c.args.s)
@@ -83,7 +83,6 @@ module _ (c : At-At-loop-n) where
     stands.placed,
   )
 
-
 pub is_finished-requires : goal.is_finished-requires
 is_finished-requires c = omega (arith, state_small c.before.before, c.requires.s_bound.0, c.requires.made_ready.valid.sized.states_fit)
 
@@ -106,16 +105,15 @@ module _ (c : At-After-take_turn) where
       let here = (stands c.before.before.before.before.before.before).play.at c.loop-n.n in
       subst (λ (r : ℕ). Turned (G c.before.before.before.before.before.before) (t c.before.before.before.before.before.before) here r c.take_turn.result) c.wide.ensures.value (c.take_turn.ensures here (stands c.before.before.before.before.before.before).placed ((stands c.before.before.before.before.before.before).wins goes_on))
 
-
 pub returns-in-NoReply : goal.returns-in-NoReply
-returns-in-NoReply c =     stands_stuck (G c.before.before.before.before.before.before.before.before) (valid_proper c.args.block.now c.requires.made_ready.valid) (t c.before.before.before.before.before.before.before.before) c.args.script.now (full (G c.before.before.before.before.before.before.before.before) c.args.s) c.loop-n.n c.loop-n.spot.state c.loop-n.spot.place (stands c.before.before.before.before.before.before.before.before) (goes_on c.before.before)
+returns-in-NoReply c = stands_stuck (G c.before.before.before.before.before.before.before.before) (valid_proper c.args.block.now c.requires.made_ready.valid) (t c.before.before.before.before.before.before.before.before) c.args.script.now (full (G c.before.before.before.before.before.before.before.before) c.args.s) c.loop-n.n c.loop-n.spot.state c.loop-n.spot.place (stands c.before.before.before.before.before.before.before.before) (goes_on c.before.before)
     (omega (arith, c.loop-n-test.true)) (rw c.in-NoReply.is at (turned c.before.before))
 
 pub loop-n-smaller : goal.loop-n-smaller
 loop-n-smaller c = omega (arith, c.loop-n-test.true)
 
 pub loop-n-preserved : goal.loop-n-preserved
-loop-n-preserved c =     (
+loop-n-preserved c = (
       omega (arith, c.loop-n-test.true),
       stands_next (G c.before.before.before.before.before.before.before.before) (valid_proper c.args.block.now c.requires.made_ready.valid) (t c.before.before.before.before.before.before.before.before) c.args.script.now (full (G c.before.before.before.before.before.before.before.before) c.args.s) c.loop-n.n c.loop-n.spot.state c.loop-n.spot.place (stands c.before.before.before.before.before.before.before.before) (goes_on c.before.before)
           c.in-To.next (rw c.in-To.is at (turned c.before.before)),
@@ -129,12 +127,12 @@ out : (c : At-After-loop-n) → c.loop-n.n ≡ length c.args.script.now
 out c = omega (arith, c.loop-n-test.false, c.loop-n.invariant.0)
 
 pub returns-then-is_finished-2 : goal.returns-then-is_finished-2
-returns-then-is_finished-2 c =     let none_left = out c.before.before.before in
+returns-then-is_finished-2 c = let none_left = out c.before.before.before in
     subst (λ (k : ℕ). EndsAs (G c.before.before.before.before) (t c.before.before.before.before) c.args.script.now (full (G c.before.before.before.before) c.args.s) (After k 1 c.loop-n.spot)) none_left
     (ended c.before.before.before.before (subst (FinishedBy c.kind-kind.result c.args.ready.right (length c.args.script.now) c.loop-n.spot.state) (sym none_left) (D.truth c.is_finished-2.ensures c.if-is_finished-2.true)))
 
 pub returns : goal.returns
-returns c =     let none_left = out c.before.before.before in
+returns c = let none_left = out c.before.before.before in
     let unfinished : Finished (t c.before.before.before.before) (length c.args.script.now) (states (G c.before.before.before.before) (stands c.before.before.before.before).play) c.loop-n.n → ⊥ =
     λ done. D.falsity c.is_finished-2.ensures c.if-is_finished-2.false (subst (FinishedBy c.kind-kind.result c.args.ready.right (length c.args.script.now) c.loop-n.spot.state) none_left ((told c.before.before.before.before).1 done)) in
     subst (λ (k : ℕ). EndsAs (G c.before.before.before.before) (t c.before.before.before.before) c.args.script.now (full (G c.before.before.before.before) c.args.s) (After k 0 c.loop-n.spot)) none_left (

@@ -42,7 +42,7 @@ pub find-requires : goal.find-requires
 find-requires c = (c.requires.made_ready.ranked.listed.long, omega (arith, c.requires.state_bound.0, c.requires.made_ready.valid.sized.states_fit), (replies c.before.before.before.before).few)
 
 pub returns-then-find-count : goal.returns-then-find-count
-returns-then-find-count c p placed wins =     never_reply c.args.block.now c.requires.made_ready.valid c.args.ready.row c.args.spot.state c.args.spot.place 0 c.args.r c.args.i c.requires.made_ready.ranked.index_is
+returns-then-find-count c p placed wins = never_reply c.args.block.now c.requires.made_ready.valid c.args.ready.row c.args.spot.state c.args.spot.place 0 c.args.r c.args.i c.requires.made_ready.ranked.index_is
     (λ reply. let (j, small, e) = (replies c.before.before.before.before.before.before.before).each c.args.r reply in c.find.ensures.before j (omega (arith, c.if-find-count.true, c.count.ensures)) e)
     p placed
 
@@ -77,12 +77,12 @@ moves : (c : At-After-wide-m) (p : Position) → PlacedAt (arena_of c.args.block
 moves c p placed = subst (SpotMove c.args.block.now c.args.i c.args.ready.row p) (sym c.wide-m.ensures.value) (c.spot_move.ensures p placed)
 
 pub returns-in-At : goal.returns-in-At
-returns-in-At c p placed wins =     let move = moves c.before.before.before.before.before p placed in
+returns-in-At c p placed wins = let move = moves c.before.before.before.before.before p placed in
     subst (λ (q : ℕ). Turned (arena_of c.args.block.now c.args.i) (objective_of c.args.block.now c.args.i) p c.args.r (To (record { state = q; place = c.in-At.y }))) (sym c.next.ensures)
     (turned_to c.args.block.now c.requires.made_ready.valid c.args.ready.row c.args.spot.state c.args.spot.place c.wide-m.result c.args.r c.args.i c.requires.made_ready.ranked.index_is c.in-At.y
     (replied c.before.before.before.before.before.before.before) (made c.before.before) p placed (move.move (λ none. move.none none wins)))
 
 pub returns-in-Unpaid : goal.returns-in-Unpaid
-returns-in-Unpaid c p placed wins =     let move = moves c.before.before.before.before p placed in
+returns-in-Unpaid c p placed wins = let move = moves c.before.before.before.before p placed in
     absurd (never_unpaid c.args.block.now c.requires.made_ready.valid c.args.ready.row c.args.spot.state c.args.spot.place c.wide-m.result c.args.r c.args.i c.requires.made_ready.ranked.index_is
     (rw c.in-Unpaid.is at c.way_to.ensures) p placed move (λ none. move.none none wins))

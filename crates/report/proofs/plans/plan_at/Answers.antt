@@ -27,4 +27,4 @@ pub bounds-moves-p : goal.bounds-moves-p
 bounds-moves-p c = omega (arith, below c.before.before.before.before, c.requires.room_bytes_in_bounds.1)
 
 pub returns : goal.returns
-returns c =     (λ rest. rw (← c.full-p.ensures, ← c.rank_at.ensures.0) (c.plan_line.ensures.0 rest), c.plan_line.ensures.1)
+returns c = (λ rest. rw (← c.full-p.ensures, ← c.rank_at.ensures.0) (c.plan_line.ensures.0 rest), c.plan_line.ensures.1)

@@ -43,10 +43,10 @@ pub loop-from-smaller : goal.loop-from-smaller
 loop-from-smaller c = omega (arith, inside c.before.before.before.before.before)
 
 pub loop-from-preserved : goal.loop-from-preserved
-loop-from-preserved c =     planned_next c.args.block.now c.args.i c.args.set (table_in c.args.ranks.now c.args.moves.now) c.requires.set_bound.1 c.loop-from.invariant c.lowest.result c.lowest.ensures c.plan_at-next.ensures.0 c.plan_at-next.ensures.1 c.plan_at-next.auto.out
+loop-from-preserved c = planned_next c.args.block.now c.args.i c.args.set (table_in c.args.ranks.now c.args.moves.now) c.requires.set_bound.1 c.loop-from.invariant c.lowest.result c.lowest.ensures c.plan_at-next.ensures.0 c.plan_at-next.ensures.1 c.plan_at-next.auto.out
 
 pub shape_of-out : goal.shape_of-out
 shape_of-out c = c.loop-from.invariant.long
 
 pub returns : goal.returns
-returns c =     (planned_all c.args.block.now c.args.i c.args.set (table_in c.args.ranks.now c.args.moves.now) c.requires.set_bound.1 c.loop-from.invariant c.loop-from-test.false, omega (arith, c.loop-from.invariant.near, c.loop-from.invariant.inside, c.requires.valid.sized.states_fit))
+returns c = (planned_all c.args.block.now c.args.i c.args.set (table_in c.args.ranks.now c.args.moves.now) c.requires.set_bound.1 c.loop-from.invariant c.loop-from-test.false, omega (arith, c.loop-from.invariant.near, c.loop-from.invariant.inside, c.requires.valid.sized.states_fit))

@@ -42,7 +42,7 @@ pub set_line-plans-requires : goal.set_line-plans-requires
 set_line-plans-requires c = (omega (arith, c.requires.sets_len.3), (omega (arith, c.requires.valid.1, c.requires.valid.0.sized.rows_fit), small c.before.before))
 
 pub returns-then-kind-lt-NEXT_KIND : goal.returns-then-kind-lt-NEXT_KIND
-returns-then-kind-lt-NEXT_KIND c =     let low : L.kind c.args.block.now c.args.i < L.next_kind = omega (arith, c.if-kind-lt-NEXT_KIND.true, c.kind.ensures) in
+returns-then-kind-lt-NEXT_KIND c = let low : L.kind c.args.block.now c.args.i < L.next_kind = omega (arith, c.if-kind-lt-NEXT_KIND.true, c.kind.ensures) in
      record { row_labelled = c.label_row.ensures.row_labelled; ranks_len = (c.label_row.ensures.ways_len_unchanged.1 ∙ c.requires.sets_len.1, c.requires.sets_len.2); by_index = ((set_line c.args.i c.word_at-set.result, (plain_listed c.args.block.now c.args.i c.word_at-set.result (told c.before.before.before.before.before.before.before) low, c.set_line-plans.ensures.0)), omega (arith, c.set_line-plans.ensures.1)) }
 
 pub row_table-requires : goal.row_table-requires
@@ -52,7 +52,7 @@ pub plan_lines-requires : goal.plan_lines-requires
 plan_lines-requires c = record { valid = c.requires.valid.0; i_bound = (c.requires.valid.1, strategic c.before.before.before.before.before.before.before.before); set_bound = (small c.before.before.before.before.before.before.before.before.before.before.before.before.before.before, set_inside c.args.block.now c.args.i c.word_at-set.result (told c.before.before.before.before.before.before.before.before.before.before.before.before.before.before)); room_bytes_in_bounds = (omega (arith, c.row_table.ensures.long.0), omega (arith, c.row_table.ensures.long.1), omega (arith, c.set_line-plans.ensures.1, c.set_line-plans.auto.out, c.requires.sets_len.3)) }
 
 pub returns : goal.returns
-returns c =     let X = table_in c.label_row.new.ranks c.row_table.new.moves in
+returns c = let X = table_in c.label_row.new.ranks c.row_table.new.moves in
      record { row_labelled = c.label_row.ensures.row_labelled; ranks_len = c.row_table.ensures.long; by_index = (
           (
             set_line c.args.i c.word_at-set.result ++ plan_lines c.args.block.now c.args.i c.word_at-set.result X,

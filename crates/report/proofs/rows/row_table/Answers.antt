@@ -31,7 +31,7 @@ pub fill_moves-requires : goal.fill_moves-requires
 fill_moves-requires c = record { valid = c.requires.valid; sought = (c.list_moves-row.ensures.0, c.list_moves-row.ensures.1, omega (arith, c.requires.sets_len.2), c.requires.sets_len.3) }
 
 pub returns : goal.returns
-returns c =     let (right, ready) = told c.before.before.before.before.before.before.before.before.before.before.before.before.before.before.before c.left_set-left.result c.left_set-left.ensures.value in
+returns c = let (right, ready) = told c.before.before.before.before.before.before.before.before.before.before.before.before.before.before.before c.left_set-left.result c.left_set-left.ensures.value in
     let (_, _, index, set) = c.list_moves-row.ensures in
     let moved = subst₂ (λ (i w : ℕ). RanksOf c.args.block.now i w right c.args.ranks.now → MovesOf c.args.block.now i w right c.args.ranks.now c.fill_moves.new.moves) index set (c.fill_moves.ensures.by_index right) in
     row_table c.requires.valid c.requires.i_bound.0 c.requires.i_bound.1 ready c.fill_moves.new.moves moved c.requires.sets_len.2 (c.fill_moves.ensures.moves_len_unchanged ∙ c.requires.sets_len.3)

@@ -6,5 +6,5 @@ use borrow.Author.Rules.{rules}
 use Rattle.scan.proofs.fields.put.Goals as goal
 
 pub returns : goal.returns
-returns c =     let low : c.args.v % 256 ≡ c.args.v = omega arith in
+returns c = let low : c.args.v % 256 ≡ c.args.v = omega arith in
     rw (c.offset-p.ensures.0, low)

@@ -4,7 +4,7 @@ use borrow.Author.Rules.{rules}
 use Rattle.scan.proofs.steps.past_index.Goals as goal
 
 pub index-requires : goal.index-requires
-index-requires c =     let pre = rw c.in-Next.is at c.requires in
+index-requires c = let pre = rw c.in-Next.is at c.requires in
     (pre.0, pre.1)
 
 pub returns-in-Next : goal.returns-in-Next

@@ -3,4 +3,4 @@ use borrow.Author.Rules.{rules}
 use Rattle.scan.proofs.steps.past_spelled.Goals as goal
 
 pub returns : goal.returns
-returns c =     rw c.past_value.ensures record { job_value = λ f. c.spelled_at.ensures.by_index 0 (λ v. f); inside_2 = c.spelled_at.ensures.inside_2 }
+returns c = rw c.past_value.ensures record { job_value = λ f. c.spelled_at.ensures.by_index 0 (λ v. f); inside_2 = c.spelled_at.ensures.inside_2 }

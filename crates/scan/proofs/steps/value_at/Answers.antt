@@ -9,7 +9,7 @@ pub field-requires : goal.field-requires
 field-requires c = record { at_in_bounds = rw c.in-Next.is at c.requires.inside; job_len = c.requires.job_len }
 
 pub returns-in-Next : goal.returns-in-Next
-returns-in-Next c =     rw c.in-Next.is record { by_index = λ d k. c.field.ensures.by_index k ∙ with_law c.args.text.now c.field.result d (λ v rest. read (k v) _ rest); inside_2 = (past_inside c.args.text.now c.field.result c.field.ensures.inside_with, c.field.ensures.ranged) }
+returns-in-Next c = rw c.in-Next.is record { by_index = λ d k. c.field.ensures.by_index k ∙ with_law c.args.text.now c.field.result d (λ v rest. read (k v) _ rest); inside_2 = (past_inside c.args.text.now c.field.result c.field.ensures.inside_with, c.field.ensures.ranged) }
 
 pub returns-in-Refused : goal.returns-in-Refused
 returns-in-Refused c = rw c.in-Refused.is record { by_index = λ d k. refl; inside_2 = (rw c.in-Refused.is at c.requires.inside.0, tt) }

@@ -78,7 +78,7 @@ plain c other =
     ]
 
 pub returns : goal.returns
-returns c =     let set : RowSet c.args.block.now c.args.i c.row_word-w.result = row_labelled c.args.block.now c.requires.valid c.args.i c.requires.i_bound.0 c.left_set-left.result c.right_set-right.result (left_told c.before.before.before.before.before.before) (right_told c.before.before.before.before.before.before) c.if-kind-ge-NEXT_KIND.ranks c.row_word-w.result c.row_word-w.ensures (ranked c.before.before.before.before.before.before) in  record { row_labelled = record { set = subst (RowSet c.args.block.now c.args.i) (sym c.set_word.ensures.stored) set; others = c.set_word.ensures.others; long = c.set_word.ensures.kept }; ranked = λ strategic.
+returns c = let set : RowSet c.args.block.now c.args.i c.row_word-w.result = row_labelled c.args.block.now c.requires.valid c.args.i c.requires.i_bound.0 c.left_set-left.result c.right_set-right.result (left_told c.before.before.before.before.before.before) (right_told c.before.before.before.before.before.before) c.if-kind-ge-NEXT_KIND.ranks c.row_word-w.result c.row_word-w.ensures (ranked c.before.before.before.before.before.before) in record { row_labelled = record { set = subst (RowSet c.args.block.now c.args.i) (sym c.set_word.ensures.stored) set; others = c.set_word.ensures.others; long = c.set_word.ensures.kept }; ranked = λ strategic.
             let uses : L.prop_kind < L.kind c.args.block.now c.args.i = omega (arith, strategic.0) in
             let lower = (c.requires.valid.row_fits c.args.i c.requires.i_bound.0).left_lower uses in
             let same = c.left_set-left.ensures.value uses ∙ sym (c.set_word.ensures.others (L.left c.args.block.now c.args.i) (λ e. omega arith)) in

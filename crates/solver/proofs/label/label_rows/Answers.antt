@@ -18,7 +18,7 @@ pub has_bit-requires : goal.has_bit-requires
 has_bit-requires c = omega (arith, c.loop-i-test.true, c.requires.n_bound.0, c.requires.valid.sized.rows_fit)
 
 pub label_row-requires : goal.label_row-requires
-label_row-requires c =     let small : c.loop-i.i < c.args.n = c.loop-i-test.true in
+label_row-requires c = let small : c.loop-i.i < c.args.n = c.loop-i-test.true in
     let has = D.truth c.has_bit.ensures c.if-has_bit.true in
     let inside : c.loop-i.i < L.rows c.args.block.now = omega (arith, small, c.requires.n_bound.0) in
      record { valid = c.requires.valid; i_bound = (inside, omega (arith, c.requires.n_bound.1, c.loop-i.invariant.2.long), c.loop-i.invariant.1.0 ∙ c.requires.n_bound.2, c.loop-i.invariant.1.1 ∙ c.requires.n_bound.3); named_sets = λ j named. c.loop-i.invariant.2.each j (names_lower c.args.block.now c.requires.valid inside named, c.requires.closed c.loop-i.i j (small, has) named) }
@@ -30,7 +30,7 @@ pub loop-i-smaller : goal.loop-i-smaller
 loop-i-smaller c = omega (arith, c.loop-i-test.true)
 
 pub loop-i-preserved : goal.loop-i-preserved
-loop-i-preserved c =     let before : c.loop-i.i < c.args.n = c.loop-i-test.true in
+loop-i-preserved c = let before : c.loop-i.i < c.args.n = c.loop-i-test.true in
     let labelled = RowsLabelled c.args.block.now (InWord (c.loop-i.i + 1) c.args.word) c.args.sets.now in
     elim c.if-has_bit.branch [
       then-has_bit w ↦
@@ -49,5 +49,5 @@ pub shape_of-ranks : goal.shape_of-ranks
 shape_of-ranks c = c.loop-i.invariant.1.1
 
 pub returns : goal.returns
-returns c =     let done : c.loop-i.i ≡ c.args.n = omega (arith, c.loop-i.invariant.0, c.loop-i-test.false) in
+returns c = let done : c.loop-i.i ≡ c.args.n = omega (arith, c.loop-i.invariant.0, c.loop-i-test.false) in
      record { rows_labelled = subst (λ (n : ℕ). RowsLabelled c.args.block.now (InWord n c.args.word) c.args.sets.now c.loop-i.sets) done c.loop-i.invariant.2; ways_len_unchanged = c.loop-i.invariant.1 }

@@ -7,7 +7,7 @@ use Rattle.turns.specs.Buffers.{word_in}
 use Rattle.solver.proofs.label.right_set.Goals as goal
 
 pub word_at-requires : goal.word_at-requires
-word_at-requires c =     let lower = (c.requires.valid.row_fits c.args.i c.requires.i_bound.0).right_lower (D.truth c.names_right.ensures c.if-names_right.true) in
+word_at-requires c = let lower = (c.requires.valid.row_fits c.args.i c.requires.i_bound.0).right_lower (D.truth c.names_right.ensures c.if-names_right.true) in
     omega (arith, lower, c.right.ensures, c.requires.i_bound, c.requires.valid.sized.rows_fit)
 
 pub returns-then-names_right : goal.returns-then-names_right

@@ -44,5 +44,5 @@ pub loop-j-preserved : goal.loop-j-preserved
 loop-j-preserved c = needs_skip c.args.block.now c.requires.valid c.args.i c.requires.i_bound c.loop-j.invariant (c.loop-j.j - 1) (below c.before.before.before).1 (D.falsity c.has_bit.ensures c.if-has_bit.false)
 
 pub returns : goal.returns
-returns c =     let done : c.loop-j.j ≡ 0 = omega (arith, c.loop-j-test.false) in
+returns c = let done : c.loop-j.j ≡ 0 = omega (arith, c.loop-j-test.false) in
     needs_all c.args.block.now c.requires.valid c.args.i c.requires.i_bound (subst (λ (n : ℕ). NeedsFrom c.args.block.now c.args.i n c.loop-j.w) done c.loop-j.invariant)

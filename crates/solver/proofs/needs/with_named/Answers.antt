@@ -34,7 +34,7 @@ right_small : (c : At-After-right) → c.right.result < 32
 right_small c = omega (arith, c.right.ensures, (c.requires.valid.row_fits c.args.i c.requires.i_bound.0).right_lower (binary c.before), c.requires.i_bound.0, c.requires.valid.sized.rows_fit)
 
 pub returns-then-kind-eq-PROP_KIND : goal.returns-then-kind-eq-PROP_KIND
-returns-then-kind-eq-PROP_KIND c =     let prop : L.kind c.args.block.now c.args.i ≡ 0 = sym c.kind.ensures ∙ c.if-kind-eq-PROP_KIND.true in (
+returns-then-kind-eq-PROP_KIND c = let prop : L.kind c.args.block.now c.args.i ≡ 0 = sym c.kind.ensures ∙ c.if-kind-eq-PROP_KIND.true in (
       c.requires.i_bound.1,
       λ j. ((λ one. inl one), ⊎_elim (λ one. one) (⊎_elim (λ (above, _). absurd (omega arith)) (λ (has, _). absurd (⊎_elim (λ e. omega (arith, e, prop)) (λ e. omega (arith, e, prop)) has)))),
     )
@@ -46,7 +46,7 @@ pub with_bit-requires : goal.with_bit-requires
 with_bit-requires c = (right_small c.before, c.with_bit-v.ensures.0 32 (left_small c.before.before.before.before.before) c.requires.i_bound.1)
 
 pub returns-then-names_right : goal.returns-then-names_right
-returns-then-names_right c =     (
+returns-then-names_right c = (
       c.with_bit.ensures.0 32 (right_small c.before.before) (c.with_bit-v.ensures.0 32 (left_small c.before.before.before.before.before.before) c.requires.i_bound.1),
       λ j. (
         (λ one. ⊎_elim (λ h. ⊎_elim (λ h. inl h) (λ e. inr (inl (uses c.before.before.before.before.before.before, e ∙ c.left.ensures))) ((c.with_bit-v.ensures.1 j).0 h)) (λ e. inr (inr (binary c.before.before.before, e ∙ c.right.ensures))) ((c.with_bit.ensures.1 j).0 one)),
@@ -55,7 +55,7 @@ returns-then-names_right c =     (
     )
 
 pub returns : goal.returns
-returns c =     (
+returns c = (
       c.with_bit-v.ensures.0 32 (left_small c.before.before.before.before) c.requires.i_bound.1,
       λ j. (
         (λ one. ⊎_elim (λ h. inl h) (λ e. inr (inl (uses c.before.before.before.before, e ∙ c.left.ensures))) ((c.with_bit-v.ensures.1 j).0 one)),

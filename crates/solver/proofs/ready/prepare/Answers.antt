@@ -13,7 +13,7 @@ pub rank_row-row-requires : goal.rank_row-row-requires
 rank_row-row-requires c = record { valid = c.requires.valid; i_bound = (c.requires.i_bound.0, c.requires.i_bound.1, c.lower_sets-lower.ensures.ways_len_unchanged.0 ∙ c.requires.i_bound.2, c.lower_sets-lower.ensures.ways_len_unchanged.1 ∙ c.requires.i_bound.3) }
 
 pub returns : goal.returns
-returns c =     let set_is = sym c.rank_row-row.ensures.row_ranked.set_is in
+returns c = let set_is = sym c.rank_row-row.ensures.row_ranked.set_is in
     record {
       valid = c.requires.valid;
       inside = c.requires.i_bound.0;

@@ -31,7 +31,7 @@ pub loop-s-smaller : goal.loop-s-smaller
 loop-s-smaller c = omega arith
 
 pub loop-s-preserved : goal.loop-s-preserved
-loop-s-preserved c =     (
+loop-s-preserved c = (
       omega (arith, c.loop-s-test.true),
       elim c.if-not-has_bit.branch [
         then-not-has_bit w ↦
@@ -42,5 +42,5 @@ loop-s-preserved c =     (
     )
 
 pub returns : goal.returns
-returns c =     let all : c.loop-s.s ≡ L.states c.args.block.now = omega (arith, c.loop-s.invariant.0, c.loop-s-test.false, c.states-n.ensures) in
+returns c = let all : c.loop-s.s ≡ L.states c.args.block.now = omega (arith, c.loop-s.invariant.0, c.loop-s-test.false, c.states-n.ensures) in
     says_all (Misses c.args.set) c.args.block.now c.loop-s.w c.requires.sized.states_fit.1 (subst (λ (s : ℕ). SaysBelow (Misses c.args.set) s c.loop-s.w) all c.loop-s.invariant.1)

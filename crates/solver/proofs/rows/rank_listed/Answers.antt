@@ -29,16 +29,16 @@ pub next_ranks-requires : goal.next_ranks-requires
 next_ranks-requires c = record { valid = c.requires.valid; playable = (c.requires.sought.0.playable, into c.before.before, c.requires.sought.1, c.requires.sought.2) }
 
 pub returns-then-kind-eq-NEXT_KIND : goal.returns-then-kind-eq-NEXT_KIND
-returns-then-kind-eq-NEXT_KIND c =     (next_ranked c.args.block.now c.args.row.index c.args.row.set c.args.right c.next_ranks.new.ranks (sym c.kind-kind.ensures ∙ c.if-kind-eq-NEXT_KIND.true) c.next_ranks.ensures.0, c.next_ranks.ensures.1)
+returns-then-kind-eq-NEXT_KIND c = (next_ranked c.args.block.now c.args.row.index c.args.row.set c.args.right c.next_ranks.new.ranks (sym c.kind-kind.ensures ∙ c.if-kind-eq-NEXT_KIND.true) c.next_ranks.ensures.0, c.next_ranks.ensures.1)
 
 pub solve-requires : goal.solve-requires
 solve-requires c = record { valid = c.requires.valid; playable = (c.requires.sought.0.playable, c.requires.sought.1, c.requires.sought.2); into_value = all c.before.before.before.before.before }
 
 pub returns-then-kind-eq-ALWAYS_KIND : goal.returns-then-kind-eq-ALWAYS_KIND
-returns-then-kind-eq-ALWAYS_KIND c =     (always_ranked c.args.block.now c.args.row.index c.args.row.set c.args.right c.solve.new.ranks (sym c.kind-kind.ensures ∙ c.if-kind-eq-ALWAYS_KIND.true) c.complement.result c.complement-fails.result c.complement.ensures c.complement-fails.ensures c.solve.ensures.0, c.solve.ensures.1)
+returns-then-kind-eq-ALWAYS_KIND c = (always_ranked c.args.block.now c.args.row.index c.args.row.set c.args.right c.solve.new.ranks (sym c.kind-kind.ensures ∙ c.if-kind-eq-ALWAYS_KIND.true) c.complement.result c.complement-fails.result c.complement.ensures c.complement-fails.ensures c.solve.ensures.0, c.solve.ensures.1)
 
 pub solve-requires-2 : goal.solve-requires-2
 solve-requires-2 c = record { valid = c.requires.valid; playable = (c.requires.sought.0.playable, c.requires.sought.1, c.requires.sought.2); into_value = all c.before.before.before }
 
 pub returns : goal.returns
-returns c =     (until_ranked c.args.block.now c.args.row.index c.args.row.set c.args.right c.solve-2.new.ranks (λ e. c.if-kind-eq-NEXT_KIND.false (c.kind-kind.ensures ∙ e)) (λ e. c.if-kind-eq-ALWAYS_KIND.false (c.kind-kind.ensures ∙ e)) c.solve-2.ensures.0, c.solve-2.ensures.1)
+returns c = (until_ranked c.args.block.now c.args.row.index c.args.row.set c.args.right c.solve-2.new.ranks (λ e. c.if-kind-eq-NEXT_KIND.false (c.kind-kind.ensures ∙ e)) (λ e. c.if-kind-eq-ALWAYS_KIND.false (c.kind-kind.ensures ∙ e)) c.solve-2.ensures.0, c.solve-2.ensures.1)

@@ -6,7 +6,7 @@ use Rattle.choice.specs.Tables.{RanksOf}
 use Rattle.solver.proofs.rows.rank_row.Goals as goal
 
 pub returns : goal.returns
-returns c =     let (sought, listed, index, set) = c.list_moves-row.ensures in
+returns c = let (sought, listed, index, set) = c.list_moves-row.ensures in
      record { row_ranked = record {
         sought = sought;
         listed = listed;

@@ -29,7 +29,7 @@ pub loop-s-smaller : goal.loop-s-smaller
 loop-s-smaller c = omega arith
 
 pub loop-s-preserved : goal.loop-s-preserved
-loop-s-preserved c =     let Q = TrueBy c.args.block.now c.args.i c.args.left c.args.right c.args.ranks.now in
+loop-s-preserved c = let Q = TrueBy c.args.block.now c.args.i c.args.left c.args.right c.args.ranks.now in
     (
       omega (arith, c.loop-s-test.true),
       elim c.if-true_at.branch [
@@ -41,6 +41,6 @@ loop-s-preserved c =     let Q = TrueBy c.args.block.now c.args.i c.args.left c.
     )
 
 pub returns : goal.returns
-returns c =     let Q = TrueBy c.args.block.now c.args.i c.args.left c.args.right c.args.ranks.now in
+returns c = let Q = TrueBy c.args.block.now c.args.i c.args.left c.args.right c.args.ranks.now in
     let all : c.loop-s.s ≡ L.states c.args.block.now = omega (arith, c.loop-s.invariant.0, c.loop-s-test.false, c.states-n.ensures) in
     says_all Q c.args.block.now c.loop-s.w c.requires.valid.sized.states_fit.1 (subst (λ (s : ℕ). SaysBelow Q s c.loop-s.w) all c.loop-s.invariant.1)

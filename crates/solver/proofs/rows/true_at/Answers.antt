@@ -52,24 +52,23 @@ module _ (start : At-Start) where
   or_is : L.kind start.args.block.now start.args.i ≡ 2 → True ≡ Or
   or_is e = ap stands e
 
-
 pub has_bit-requires : goal.has_bit-requires
-has_bit-requires c =     omega (arith, c.left.ensures, (c.requires.valid.row_fits c.args.i c.requires.i_bound.0).prop_fits (sym c.kind-kind.ensures ∙ c.if-kind-eq-PROP_KIND.true), c.requires.valid.sized.propositions_fit)
+has_bit-requires c = omega (arith, c.left.ensures, (c.requires.valid.row_fits c.args.i c.requires.i_bound.0).prop_fits (sym c.kind-kind.ensures ∙ c.if-kind-eq-PROP_KIND.true), c.requires.valid.sized.propositions_fit)
 
 pub returns-then-kind-eq-PROP_KIND : goal.returns-then-kind-eq-PROP_KIND
-returns-then-kind-eq-PROP_KIND c =     let path = prop_is c.before.before.before.before.before.before.before.before (sym c.kind-kind.ensures ∙ c.if-kind-eq-PROP_KIND.true) in
+returns-then-kind-eq-PROP_KIND c = let path = prop_is c.before.before.before.before.before.before.before.before (sym c.kind-kind.ensures ∙ c.if-kind-eq-PROP_KIND.true) in
     D.same c.has_bit.ensures (λ h. transport (sym path) (subst₂ Bit c.mask.ensures c.left.ensures h)) (λ h. subst₂ Bit (sym c.mask.ensures) (sym c.left.ensures) (transport path h))
 
 pub returns-then-kind-eq-NOT_KIND : goal.returns-then-kind-eq-NOT_KIND
-returns-then-kind-eq-NOT_KIND c =     let path = not_is c.before.before.before.before.before.before.before (sym c.kind-kind.ensures ∙ c.if-kind-eq-NOT_KIND.true) in
+returns-then-kind-eq-NOT_KIND c = let path = not_is c.before.before.before.before.before.before.before (sym c.kind-kind.ensures ∙ c.if-kind-eq-NOT_KIND.true) in
     D.opposite c.has_bit-then-kind-eq-NOT_KIND.ensures (λ h q. transport path q h) (λ fails. transport (sym path) fails)
 
 pub returns-then-has_bit : goal.returns-then-has_bit
-returns-then-has_bit c =     let path = or_is c.before.before.before.before.before.before.before.before.before (sym c.kind-kind.ensures ∙ c.if-kind-eq-OR_KIND.true) in
+returns-then-has_bit c = let path = or_is c.before.before.before.before.before.before.before.before.before (sym c.kind-kind.ensures ∙ c.if-kind-eq-OR_KIND.true) in
     D.same c.has_bit-then-kind-eq-OR_KIND.ensures (λ h. transport (sym path) (inl h)) (λ _. D.truth c.has_bit-then-kind-eq-OR_KIND.ensures c.if-has_bit.true)
 
 pub returns-else-has_bit : goal.returns-else-has_bit
-returns-else-has_bit c =     let path = or_is c.before.before.before.before.before.before.before.before.before.before (sym c.kind-kind.ensures ∙ c.if-kind-eq-OR_KIND.true) in
+returns-else-has_bit c = let path = or_is c.before.before.before.before.before.before.before.before.before.before (sym c.kind-kind.ensures ∙ c.if-kind-eq-OR_KIND.true) in
     D.same c.has_bit-else-has_bit.ensures (λ h. transport (sym path) (inr h))
     (λ q. ⊎_elim (λ h. absurd (D.falsity c.has_bit-then-kind-eq-OR_KIND.ensures c.if-has_bit.false h)) (λ h. h) (transport path q))
 
@@ -81,7 +80,7 @@ pub full-requires : goal.full-requires
 full-requires c = record { valid = c.requires.valid; i_bound = (c.requires.i_bound.0, strategic c.before.before.before.before.before.before.before c.kind-kind.result c.kind-kind.ensures c.if-kind-eq-PROP_KIND.false c.if-kind-eq-NOT_KIND.false c.if-kind-eq-OR_KIND.false, c.requires.i_bound.1) }
 
 pub rank_at-requires : goal.rank_at-requires
-rank_at-requires c =     let G = arena_of c.args.block.now c.args.i in
+rank_at-requires c = let G = arena_of c.args.block.now c.args.i in
     omega (
       arith,
       c.full.ensures,
@@ -90,6 +89,6 @@ rank_at-requires c =     let G = arena_of c.args.block.now c.args.i in
     )
 
 pub returns : goal.returns
-returns c =     let path = strategic_stands (L.kind c.args.block.now c.args.i) (Prop c.before.before.before.before.before.before.before.before.before.before) (Not c.before.before.before.before.before.before.before.before.before.before) (Or c.before.before.before.before.before.before.before.before.before.before) (Claimed c.before.before.before.before.before.before.before.before.before.before) (λ e. c.if-kind-eq-PROP_KIND.false (c.kind-kind.ensures ∙ e)) (λ e. c.if-kind-eq-NOT_KIND.false (c.kind-kind.ensures ∙ e)) (λ e. c.if-kind-eq-OR_KIND.false (c.kind-kind.ensures ∙ e)) in
+returns c = let path = strategic_stands (L.kind c.args.block.now c.args.i) (Prop c.before.before.before.before.before.before.before.before.before.before) (Not c.before.before.before.before.before.before.before.before.before.before) (Or c.before.before.before.before.before.before.before.before.before.before) (Claimed c.before.before.before.before.before.before.before.before.before.before) (λ e. c.if-kind-eq-PROP_KIND.false (c.kind-kind.ensures ∙ e)) (λ e. c.if-kind-eq-NOT_KIND.false (c.kind-kind.ensures ∙ e)) (λ e. c.if-kind-eq-OR_KIND.false (c.kind-kind.ensures ∙ e)) in
     let rank = c.rank_at.ensures.0 ∙ ap (rank_in c.args.ranks.now) c.full.ensures in
     D.same c.claims.ensures (λ h. transport (sym path) (subst₂ ClaimsBy c.kind-kind.ensures rank h)) (λ h. subst₂ ClaimsBy (sym c.kind-kind.ensures) (sym rank) (transport path h))

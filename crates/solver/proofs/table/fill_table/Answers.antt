@@ -15,6 +15,6 @@ pub fill_moves-requires : goal.fill_moves-requires
 fill_moves-requires c = record { valid = c.requires.valid; sought = (c.prepare-ready.ensures.ranked.sought, c.prepare-ready.ensures.ranked.listed, omega (arith, c.prepare-ready.ensures.long), c.requires.ranks_len.1) }
 
 pub returns : goal.returns
-returns c =     row_table c.requires.valid c.requires.i_bound.0 c.requires.i_bound.1 c.prepare-ready.ensures.prepared c.fill_moves.new.moves
+returns c = row_table c.requires.valid c.requires.i_bound.0 c.requires.i_bound.1 c.prepare-ready.ensures.prepared c.fill_moves.new.moves
     (subst (λ (i : ℕ). RanksOf c.args.block.now i c.prepare-ready.result.row.set c.prepare-ready.result.right c.prepare-ready.new.ranks → MovesOf c.args.block.now i c.prepare-ready.result.row.set c.prepare-ready.result.right c.prepare-ready.new.ranks c.fill_moves.new.moves) c.prepare-ready.ensures.ranked.index_is (c.fill_moves.ensures.by_index c.prepare-ready.result.right))
     c.prepare-ready.ensures.long (c.fill_moves.ensures.moves_len_unchanged ∙ c.requires.ranks_len.1)

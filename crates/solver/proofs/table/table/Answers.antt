@@ -14,7 +14,7 @@ pub returns-then-moves-ne-MOVES_BYTES : goal.returns-then-moves-ne-MOVES_BYTES
 returns-then-moves-ne-MOVES_BYTES c = record { table_call = record { answer = past (λ h. h c.if-ranks-ne-ROOM_BYTES.false) (turned_down c.if-moves-ne-MOVES_BYTES.true); ranks_kept = refl; moves_kept = refl }; demand3 = row_demanded c.args.block.now c.args.i }
 
 pub fill_table-requires : goal.fill_table-requires
-fill_table-requires c =     let (valid, row) = row_admitted c.args.block.now c.args.i (none_holds (rw c.in-Value.is at c.row.ensures)) in
+fill_table-requires c = let (valid, row) = row_admitted c.args.block.now c.args.i (none_holds (rw c.in-Value.is at c.row.ensures)) in
      record { valid = valid; i_bound = row; ranks_len = (c.if-ranks-ne-ROOM_BYTES.false, c.if-moves-ne-MOVES_BYTES.false) }
 
 pub returns-in-Value : goal.returns-in-Value

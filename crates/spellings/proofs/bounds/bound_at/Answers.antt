@@ -4,15 +4,5 @@ use Rattle.spellings.proofs.Searches.{bound_search}
 use borrow.Author.Rules.{rules}
 use Rattle.spellings.proofs.bounds.bound_at.Goals as goal
 
--- NOGOAL
--- slice-aggregate-word-or : tie.Need-slice-aggregate-word-or
--- slice-aggregate-word-or c = search rules
--- 
-
--- NOGOAL
--- slice-aggregate-word-or-2 : tie.Need-slice-aggregate-word-or-2
--- slice-aggregate-word-or-2 c = search rules
--- 
-
 pub returns : goal.returns
 returns c = record { text_value = rw (bound_search, c.number-n.ensures.text_value, ← c.word_or-inf.ensures.result_value) (sym c.word_or.ensures.result_value); inside_numeral = c.word_or.ensures.inside_numeral }

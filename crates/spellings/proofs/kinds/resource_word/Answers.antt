@@ -5,28 +5,8 @@ use Rattle.spellings.proofs.Searches.{resource_search}
 use borrow.Author.Rules.{rules}
 use Rattle.spellings.proofs.kinds.resource_word.Goals as goal
 
--- NOGOAL
--- slice-aggregate-word-or : tie.Need-slice-aggregate-word-or
--- slice-aggregate-word-or c = search rules
--- 
-
--- NOGOAL
--- slice-aggregate-word-or-2 : tie.Need-slice-aggregate-word-or-2
--- slice-aggregate-word-or-2 c = search rules
--- 
-
 pub returns-then-left-eq0 : goal.returns-then-left-eq0
 returns-then-left-eq0 c = record { text_value = rw (resource_search, eq-eqb _ 0 c.if-left-eq0.true, ← c.word_or-sum.ensures.result_value) (sym c.word_or.ensures.result_value); inside_numeral = c.word_or.ensures.inside_numeral }
-
--- NOGOAL
--- slice-aggregate-word-or-3 : tie.Need-slice-aggregate-word-or-3
--- slice-aggregate-word-or-3 c = search rules
--- 
-
--- NOGOAL
--- slice-aggregate-word-or-4 : tie.Need-slice-aggregate-word-or-4
--- slice-aggregate-word-or-4 c = search rules
--- 
 
 pub returns : goal.returns
 returns c = record { text_value = rw (resource_search, ne_eqb _ 0 c.if-left-eq0.false, ← c.word_or-sum-2.ensures.result_value) (sym c.word_or-2.ensures.result_value); inside_numeral = c.word_or-2.ensures.inside_numeral }

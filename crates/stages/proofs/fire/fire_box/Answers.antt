@@ -20,7 +20,7 @@ pub overflow_add-end : goal.overflow_add-end
 overflow_add-end c = omega (arith, c.requires.last_lt_max_stocks.0)
 
 pub loop-a-init : goal.loop-a-init
-loop-a-init c =     carried_none c.args.block.now c.args.fire.row c.args.ways.now c.args.board.now c.args.fire.most c.args.fire.safe c.args.fire.stage c.args.fire.state c.args.fire.index c.args.fire.place c.args.ranks.now c.args.flags.now (λ z _ (i, h, e, (from, below), _). omega arith)
+loop-a-init c = carried_none c.args.block.now c.args.fire.row c.args.ways.now c.args.board.now c.args.fire.most c.args.fire.safe c.args.fire.stage c.args.fire.state c.args.fire.index c.args.fire.place c.args.ranks.now c.args.flags.now (λ z _ (i, h, e, (from, below), _). omega arith)
 
 -- a line ends before the places do
 line_ends : (c : At-In-loop-a) → c.loop-a.a * c.args.spans.width + c.args.spans.width ≤ 256
@@ -56,7 +56,7 @@ split from first last width a z (i, h, e, (begun, below), (low, high)) (yes here
 split from first last width a z (i, h, e, (begun, below), span) (no other) = inl (i, h, e, (begun, omega arith), span)
 
 pub loop-a-preserved : goal.loop-a-preserved
-loop-a-preserved c =     let here : Carried c.args.block.now c.args.fire.row c.args.ways.now c.args.board.now c.args.fire.most c.args.fire.safe c.args.fire.stage c.args.fire.state c.args.fire.index c.args.fire.place (λ z. (c.loop-a.a * c.args.spans.width + c.args.spans.high.first ≤ z) × (z ≤ c.loop-a.a * c.args.spans.width + c.args.spans.high.last)) c.loop-a.ranks c.loop-a.flags _ _ =
+loop-a-preserved c = let here : Carried c.args.block.now c.args.fire.row c.args.ways.now c.args.board.now c.args.fire.most c.args.fire.safe c.args.fire.stage c.args.fire.state c.args.fire.index c.args.fire.place (λ z. (c.loop-a.a * c.args.spans.width + c.args.spans.high.first ≤ z) × (z ≤ c.loop-a.a * c.args.spans.width + c.args.spans.high.last)) c.loop-a.ranks c.loop-a.flags _ _ =
     record { evolved = c.fire_span.ensures.0; past = λ z place (from, to_last) to. c.fire_span.ensures.1 z from to_last place to } in
     carried_both c.args.block.now c.args.fire.row c.args.ways.now c.args.board.now c.args.fire.most c.args.fire.safe c.args.fire.stage c.args.fire.state c.args.fire.index c.args.fire.place c.requires.valid.1.playable c.requires.lent.small c.requires.state_bound.0 c.requires.state_bound.3
     (λ z _ box. split c.args.spans.low.first c.args.spans.high.first c.args.spans.high.last c.args.spans.width c.loop-a.a z box (eq? box.0 c.loop-a.a)) c.loop-a.invariant here
@@ -68,4 +68,4 @@ pub shape_of-flags : goal.shape_of-flags
 shape_of-flags c = c.loop-a.invariant.evolved.flags_long
 
 pub returns : goal.returns
-returns c =     (c.loop-a.invariant.evolved, λ x (i, h, e, (from, to_last), span) place to. c.loop-a.invariant.past x place (i, h, e, (from, omega (arith, c.loop-a-test.false)), span) to)
+returns c = (c.loop-a.invariant.evolved, λ x (i, h, e, (from, to_last), span) place to. c.loop-a.invariant.past x place (i, h, e, (from, omega (arith, c.loop-a-test.false)), span) to)

@@ -48,7 +48,7 @@ pub touch-requires : goal.touch-requires
 touch-requires c = record { valid = c.requires.valid; lent = c.requires.lent; state_bound = c.requires.state_bound; x_lt_places = c.if-x-fire.true }
 
 pub returns-then-x-fire : goal.returns-then-x-fire
-returns-then-x-fire c =     (
+returns-then-x-fire c = (
       c.touch.ensures.0,
       λ x place to.
           let e = from c.before.before.before.before.before.before.before.before.before.before.before x place to in
@@ -57,7 +57,7 @@ returns-then-x-fire c =     (
     )
 
 pub returns-else-x-fire : goal.returns-else-x-fire
-returns-else-x-fire c =     (
+returns-else-x-fire c = (
       evolved_none c.args.block.now c.args.fire.row c.args.ways.now c.args.board.now c.args.fire.most c.args.fire.safe c.args.fire.stage c.args.ranks.now c.args.flags.now,
       λ x place to. absurd (omega (arith, from c.before.before.before.before x place to, c.if-x-fire.false)),
     )

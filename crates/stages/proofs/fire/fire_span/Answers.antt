@@ -14,7 +14,7 @@ pub overflow_add-end : goal.overflow_add-end
 overflow_add-end c = omega (arith, c.requires.last_bound)
 
 pub loop-x-init : goal.loop-x-init
-loop-x-init c =     carried_none c.args.block.now c.args.fire.row c.args.ways.now c.args.board.now c.args.fire.most c.args.fire.safe c.args.fire.stage c.args.fire.state c.args.fire.index c.args.fire.place c.args.ranks.now c.args.flags.now (λ x _ (from, below). omega arith)
+loop-x-init c = carried_none c.args.block.now c.args.fire.row c.args.ways.now c.args.board.now c.args.fire.most c.args.fire.safe c.args.fire.stage c.args.fire.state c.args.fire.index c.args.fire.place c.args.ranks.now c.args.flags.now (λ x _ (from, below). omega arith)
 
 pub touch-requires : goal.touch-requires
 touch-requires c = record { valid = c.requires.valid; lent = lent_still c.args.block.now c.args.fire.row c.args.ways.now c.args.board.now c.args.fire.most c.args.fire.safe c.args.fire.stage c.requires.lent.small c.loop-x.invariant.evolved c.requires.lent; state_bound = c.requires.state_bound; x_lt_places = c.if-x-fire.true }
@@ -26,7 +26,7 @@ pub loop-x-smaller : goal.loop-x-smaller
 loop-x-smaller c = omega (arith, c.loop-x-test.true)
 
 pub loop-x-preserved : goal.loop-x-preserved
-loop-x-preserved c =     let After : List ℕ → List ℕ → Type 0 = λ ranks flags.
+loop-x-preserved c = let After : List ℕ → List ℕ → Type 0 = λ ranks flags.
     Carried c.args.block.now c.args.fire.row c.args.ways.now c.args.board.now c.args.fire.most c.args.fire.safe c.args.fire.stage c.args.fire.state c.args.fire.index c.args.fire.place (λ z. (c.args.span.first ≤ z) × (z < c.loop-x.x + 1)) c.args.ranks.now c.args.flags.now ranks flags in
     elim c.if-x-fire.branch [
       then-x-fire w ↦
@@ -49,4 +49,4 @@ pub shape_of-flags : goal.shape_of-flags
 shape_of-flags c = c.loop-x.invariant.evolved.flags_long
 
 pub returns : goal.returns
-returns c =     (c.loop-x.invariant.evolved, λ x from to_last place to. c.loop-x.invariant.past x place (from, omega (arith, c.loop-x-test.false)) to)
+returns c = (c.loop-x.invariant.evolved, λ x from to_last place to. c.loop-x.invariant.past x place (from, omega (arith, c.loop-x-test.false)) to)

@@ -41,7 +41,6 @@ module _ (start : At-Start) where
   full_narrow : Narrow (packed_in start.args.ways.now (start.args.fire.row.places - 1))
   full_narrow = narrow (start.args.fire.row.places - 1) (omega arith)
 
-
 pub unpack-full-requires : goal.unpack-full-requires
 unpack-full-requires c = (c.requires.valid.1.listed.long, omega (arith, few_places c.before.before.before.before.before.before.before, c.requires.place_lt_places))
 
@@ -68,7 +67,6 @@ module _ (c : At-After-unpack-gives) where
   takes_narrow : Narrow (packed_in c.args.ways.now c.taken.result)
   takes_narrow = narrow c.before.before.before.before.before.before.before.before.before.before.before.before c.taken.result (omega (arith, c.taken.ensures.0, takes_small c.before.before.before.before.before.before.before.before.before.before.before.before))
 
-
 pub span_of-low-requires : goal.span_of-low-requires
 span_of-low-requires c = (omega (arith, c.unpack-left.ensures.0, left_narrow c.before), omega (arith, c.unpack-takes.ensures.0, takes_narrow c.before))
 
@@ -79,7 +77,7 @@ pub overflow_add-spans : goal.overflow_add-spans
 overflow_add-spans c = omega (arith, c.unpack-full.ensures.1, full_narrow c.before.before.before.before.before.before.before.before.before.before.before.before.before.before.before.before)
 
 pub fire_box-requires : goal.fire_box-requires
-fire_box-requires c =     let full = full_narrow c.before.before.before.before.before.before.before.before.before.before.before.before.before.before.before.before.before.before in  record { valid = c.requires.valid; lent = c.requires.lent; state_bound = c.requires.state_bound; last_lt_max_stocks = (
+fire_box-requires c = let full = full_narrow c.before.before.before.before.before.before.before.before.before.before.before.before.before.before.before.before.before.before in record { valid = c.requires.valid; lent = c.requires.lent; state_bound = c.requires.state_bound; last_lt_max_stocks = (
             omega (arith, c.span_of-low.ensures.1, c.unpack-full.ensures.0),
             omega (arith, c.span_of-high.ensures.1),
             omega (arith, c.unpack-full.ensures.1),
@@ -87,7 +85,7 @@ fire_box-requires c =     let full = full_narrow c.before.before.before.before.b
           ) }
 
 pub returns : goal.returns
-returns c =     let takes = ap (packed_in c.args.ways.now) c.taken.ensures.0 in
+returns c = let takes = ap (packed_in c.args.ways.now) c.taken.ensures.0 in
     let gives = ap (packed_in c.args.ways.now) c.given.ensures.0 in
     let boxed = to_boxed c.args.block.now c.requires.valid.0 c.args.fire.row c.requires.valid.1.playable c.args.ways.now c.requires.valid.1.listed c.args.board.now c.args.fire.state c.args.fire.index c.args.fire.place c.requires.state_bound.0 c.requires.state_bound.2 c.span_of-low.result c.span_of-high.result (c.unpack-full.result.high + 1)
     (λ z comes. c.span_of-low.ensures.2 z (comes_to c.unpack-full.ensures.0 c.unpack-left.ensures.0 (c.unpack-takes.ensures.0 ∙ ap (λ (w : ℕ). w % 32) takes) (c.unpack-gives.ensures.0 ∙ ap (λ (w : ℕ). w % 32) gives) comes))

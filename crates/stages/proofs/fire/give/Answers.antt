@@ -21,7 +21,6 @@ module _ (start : At-Start) where
   small : start.args.x < 256
   small = omega (arith, few start.args.block.now start.requires.valid.0 start.args.fire.row start.requires.valid.1.playable, start.requires.state_bound.1)
 
-
 pub overflow_mul-p : goal.overflow_mul-p
 overflow_mul-p c = omega (arith, inside c.before.before.before.before.before.before.before)
 
@@ -38,7 +37,7 @@ pub bounds-flags-x : goal.bounds-flags-x
 bounds-flags-x c = omega (arith, small c.before.before.before.before.before.before.before.before.before.before.before, c.requires.lent.flags_long)
 
 pub returns : goal.returns
-returns c =     (
+returns c = (
       evolved_one c.args.block.now c.requires.valid.0 c.args.fire.row c.requires.valid.1.playable c.args.ways.now c.args.board.now c.args.fire.most c.args.fire.safe c.args.fire.stage c.args.fire.state c.args.x c.args.fire.stage
           c.requires.state_bound.0 c.requires.state_bound.1 c.requires.state_bound.2 c.set_rank.ensures (ranked c.requires.state_bound.3 c.requires.state_bound.4)
           (marked_here c.args.x c.args.flags.now (omega (arith, small c.before.before.before.before.before.before.before.before.before.before.before, c.requires.lent.flags_long)) (c.requires.state_bound.3, c.requires.lent.small)),

@@ -11,7 +11,7 @@ use Rattle.stages.proofs.Evolving.{to_one}
 use Rattle.stages.proofs.fire.leads.Goals as goal
 
 pub returns-in-At : goal.returns-in-At
-returns-in-At c =     let here : To c.args.block.now c.args.fire.row c.args.ways.now c.args.ways.now c.args.fire.state c.args.x c.args.fire.index c.in-At.y = (c.requires.state_bound.2, rw c.in-At.is at c.lands.ensures) in
+returns-in-At c = let here : To c.args.block.now c.args.fire.row c.args.ways.now c.args.ways.now c.args.fire.state c.args.x c.args.fire.index c.in-At.y = (c.requires.state_bound.2, rw c.in-At.is at c.lands.ensures) in
     D.same (D.equal c.in-At.y c.args.fire.place) (λ e. subst (To c.args.block.now c.args.fire.row c.args.ways.now c.args.ways.now c.args.fire.state c.args.x c.args.fire.index) e here) (λ to. to_one c.args.block.now c.args.fire.row c.args.ways.now c.args.ways.now c.requires.playable.0 c.args.fire.state c.args.x c.args.fire.index c.in-At.y c.args.fire.place c.requires.state_bound.0 c.requires.state_bound.1 here to)
 
 pub returns-in-Unpaid : goal.returns-in-Unpaid

@@ -31,7 +31,6 @@ module _ (start : At-Start) where
   waits =
       waits_at start.args.block.now start.requires.valid.0 start.args.fire.row start.requires.valid.1.playable start.args.ways.now start.args.board.now start.args.fire.most start.args.ranks.now start.requires.lent.0.held start.requires.lent.1 start.args.fire.state start.args.x start.args.fire.index start.requires.state_bound.0 start.requires.state_bound.1 start.requires.x_value
 
-
 pub overflow_add-fire : goal.overflow_add-fire
 overflow_add-fire c = omega (arith, (small c.before.before.before.before.before.before.before.before).1)
 
@@ -54,7 +53,7 @@ pub set_rank-requires : goal.set_rank-requires
 set_rank-requires c = (omega (arith, inside c.before.before.before.before.before.before.before.before.before.before.before.before.before.before, c.requires.lent.0.ranks_long), omega (arith, short c.before.before.before.before.before.before.before.before.before.before.before.before.before.before, c.count.ensures, c.if-next-count.true))
 
 pub returns-then-next-count : goal.returns-then-next-count
-returns-then-next-count c =     let more : c.first_staying-next.result < count_in c.args.ways.now c.args.fire.state true = omega (arith, c.count.ensures, c.if-next-count.true) in
+returns-then-next-count c = let more : c.first_staying-next.result < count_in c.args.ways.now c.args.fire.state true = omega (arith, c.count.ensures, c.if-next-count.true) in
     let waits_next = next_waits c.args.block.now c.requires.valid.0 c.args.fire.row c.requires.valid.1.playable c.args.ways.now c.args.board.now c.args.fire.state c.args.x c.args.fire.index c.args.fire.place c.first_staying-next.result c.requires.state_bound.0 c.requires.state_bound.1 (waits c.before.before.before.before.before.before.before.before.before.before.before.before.before.before.before.before.before) c.requires.state_bound.3 c.requires.state_bound.4 c.first_staying-next.ensures more in
     let high : hold ≤ rank_of c.args.fire.row c.args.ranks.now c.args.fire.state c.args.x = omega (arith, c.requires.x_value) in (
       evolved_one c.args.block.now c.requires.valid.0 c.args.fire.row c.requires.valid.1.playable c.args.ways.now c.args.board.now c.args.fire.most c.args.fire.safe c.args.fire.stage c.args.fire.state c.args.x (hold + c.first_staying-next.result) c.requires.state_bound.0 c.requires.state_bound.1 c.requires.state_bound.2 c.set_rank.ensures
@@ -63,7 +62,7 @@ returns-then-next-count c =     let more : c.first_staying-next.result < count_i
     )
 
 pub give-requires : goal.give-requires
-give-requires c =     let earned = all_earned c.args.block.now c.requires.valid.0 c.args.fire.row c.requires.valid.1.playable c.args.ways.now c.args.board.now c.args.fire.state c.args.x c.args.fire.index c.args.fire.place c.first_staying-next.result c.requires.state_bound.0 c.requires.state_bound.1 (waits c.before.before.before.before.before.before.before.before.before.before.before.before.before) c.requires.state_bound.3 c.requires.state_bound.4 c.first_staying-next.ensures (omega (arith, c.count.ensures, c.if-next-count.false)) in
+give-requires c = let earned = all_earned c.args.block.now c.requires.valid.0 c.args.fire.row c.requires.valid.1.playable c.args.ways.now c.args.board.now c.args.fire.state c.args.x c.args.fire.index c.args.fire.place c.first_staying-next.result c.requires.state_bound.0 c.requires.state_bound.1 (waits c.before.before.before.before.before.before.before.before.before.before.before.before.before) c.requires.state_bound.3 c.requires.state_bound.4 c.first_staying-next.ensures (omega (arith, c.count.ensures, c.if-next-count.false)) in
      record { valid = c.requires.valid; lent = c.requires.lent.0; state_bound = (c.requires.state_bound.0, c.requires.state_bound.1, c.requires.state_bound.2, omega (arith, c.requires.x_value), subst (λ (t : Bool). Earned c.args.block.now c.args.fire.row c.args.ways.now c.args.board.now t c.args.fire.state c.args.x) (sym c.requires.lent.1) earned) }
 
 pub returns : goal.returns

@@ -49,7 +49,6 @@ module _ (start : At-Start) where
   past_by : (r : ℕ) (most : Bool) → start.args.fire.most ≡ most → Past start.args.block.now start.args.fire.row start.args.ways.now start.args.board.now most start.args.fire.index r → Past start.args.block.now start.args.fire.row start.args.ways.now start.args.board.now start.args.fire.most start.args.fire.index r
   past_by r most side = subst (λ (t : Bool). Past start.args.block.now start.args.fire.row start.args.ways.now start.args.board.now t start.args.fire.index r) (sym side)
 
-
 pub overflow_mul-fire : goal.overflow_mul-fire
 overflow_mul-fire c = omega (arith, inside c.before.before.before.before.before.before.before)
 
@@ -63,7 +62,7 @@ pub waits_for-requires : goal.waits_for-requires
 waits_for-requires c = small c.before.before.before.before.before.before.before.before
 
 pub returns-then-not-waits_for : goal.returns-then-not-waits_for
-returns-then-not-waits_for c =     let quiet = D.falsity c.waits_for.ensures c.if-not-waits_for.true in (
+returns-then-not-waits_for c = let quiet = D.falsity c.waits_for.ensures c.if-not-waits_for.true in (
       evolved_none c.args.block.now c.args.fire.row c.args.ways.now c.args.board.now c.args.fire.most c.args.fire.safe c.args.fire.stage c.args.ranks.now c.args.flags.now,
       λ _. past c.before.before.before.before.before.before.before.before.before.before (rank_of c.args.fire.row c.args.ranks.now c.args.fire.state c.args.x) c.args.fire.most (λ h. quiet (subst (Waiting c.args.fire.most c.args.fire.index) (sym c.rank_at-r.ensures.0) h)),
     )
@@ -75,12 +74,11 @@ module _ (c : At-Else-not-waits_for) where
       subst (λ (t : Bool). Waiting t c.args.fire.index (rank_of c.args.fire.row c.args.ranks.now c.args.fire.state c.args.x)) side
       (subst (Waiting c.args.fire.most c.args.fire.index) c.rank_at-r.ensures.0 (D.truth c.waits_for.ensures c.if-not-waits_for.false))
 
-
 pub leads-requires : goal.leads-requires
 leads-requires c = record { valid = c.requires.valid.0; playable = (c.requires.valid.1.playable, c.requires.valid.1.listed); state_bound = (c.requires.state_bound.0, c.requires.x_lt_places, c.requires.state_bound.2) }
 
 pub returns-then-not-leads : goal.returns-then-not-leads
-returns-then-not-leads c =     (
+returns-then-not-leads c = (
       evolved_none c.args.block.now c.args.fire.row c.args.ways.now c.args.board.now c.args.fire.most c.args.fire.safe c.args.fire.stage c.args.ranks.now c.args.flags.now,
       λ to. absurd (D.falsity c.leads.ensures c.if-not-leads.true to),
     )
@@ -90,7 +88,7 @@ to : (c : At-Else-not-leads) → To c.args.block.now c.args.fire.row c.args.ways
 to c = D.truth c.leads.ensures c.if-not-leads.false
 
 pub give-requires : goal.give-requires
-give-requires c =     let earned : Earned c.args.block.now c.args.fire.row c.args.ways.now c.args.board.now true c.args.fire.state c.args.x = (c.args.fire.index, c.args.fire.place, to c.before.before.before.before, fires_by c.before.before.before.before.before.before.before.before.before.before.before.before.before.before.before true c.if-fire.true) in
+give-requires c = let earned : Earned c.args.block.now c.args.fire.row c.args.ways.now c.args.board.now true c.args.fire.state c.args.x = (c.args.fire.index, c.args.fire.place, to c.before.before.before.before, fires_by c.before.before.before.before.before.before.before.before.before.before.before.before.before.before.before true c.if-fire.true) in
      record { valid = c.requires.valid; lent = c.requires.lent; state_bound = (c.requires.state_bound.0, c.requires.x_lt_places, c.requires.state_bound.1, waiting c.before.before.before.before.before.before true c.if-fire.true, subst (λ (t : Bool). Earned c.args.block.now c.args.fire.row c.args.ways.now c.args.board.now t c.args.fire.state c.args.x) (sym c.if-fire.true) earned) }
 
 pub returns-then-fire : goal.returns-then-fire

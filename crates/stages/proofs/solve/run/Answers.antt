@@ -22,7 +22,7 @@ pub turn_over-more-requires : goal.turn_over-more-requires
 turn_over-more-requires c = record { valid = c.requires.valid.0; playable = (c.requires.valid.1.playable, c.requires.valid.1.long, omega (arith, c.requires.ranks_len), refl) }
 
 pub loop-more-init : goal.loop-more-init
-loop-more-init c =     running_first c.args.block.now c.requires.valid.0 c.args.row c.args.ways.now c.args.side.most c.args.side.safe c.args.goal c.args.ranks.now c.args.board.now _ _ _ _ c.requires.valid.1 c.requires.by_index
+loop-more-init c = running_first c.args.block.now c.requires.valid.0 c.args.row c.args.ways.now c.args.side.most c.args.side.safe c.args.goal c.args.ranks.now c.args.board.now _ _ _ _ c.requires.valid.1 c.requires.by_index
     (λ x place. get_or-replicate 512 (256 + x) 1 0 (omega (arith, few c.args.block.now c.requires.valid.0 c.args.row c.requires.valid.1.playable))) refl c.turn_over-more.ensures
 
 -- where the loop goes on, something is due
@@ -36,7 +36,7 @@ pub slice_bounds-run_stage-end : goal.slice_bounds-run_stage-end
 slice_bounds-run_stage-end c = sym c.loop-more.invariant.flags_long
 
 pub run_stage-requires : goal.run_stage-requires
-run_stage-requires c =     let running = now c.before.before.before in
+run_stage-requires c = let running = now c.before.before.before in
      record { valid = (c.requires.valid.0, c.loop-more.invariant.ready); lent = stage_lent _ c.requires.valid.0 _ _ _ _ _ _ _ _ _ _ running c.requires.ranks_len; stage_nonzero = c.loop-more.invariant.positive }
 
 pub overflow_add-n : goal.overflow_add-n
@@ -52,7 +52,7 @@ pub loop-more-smaller : goal.loop-more-smaller
 loop-more-smaller c = running_less _ c.requires.valid.0 _ _ _ _ _ _ _ _ _ _ (now c.before.before.before.before.before.before.before.before.before.before.before.before.before) _ _ _ _ _ c.run_stage.ensures.0 c.run_stage.ensures.1 c.turn_over-more-in-loop-more.ensures _ c.loop-more-test.true
 
 pub loop-more-preserved : goal.loop-more-preserved
-loop-more-preserved c =     let running = now c.before.before.before.before.before.before.before.before.before.before.before.before.before in
+loop-more-preserved c = let running = now c.before.before.before.before.before.before.before.before.before.before.before.before.before in
     running_next _ c.requires.valid.0 _ _ _ _ _ _ _ _ _ _ running _ _ _ _ _ c.run_stage.ensures.0 c.run_stage.ensures.1 c.turn_over-more-in-loop-more.ensures
 
 pub shape_of-board : goal.shape_of-board
@@ -62,4 +62,4 @@ pub shape_of-ranks : goal.shape_of-ranks
 shape_of-ranks c = c.loop-more.invariant.long
 
 pub returns : goal.returns
-returns c =     running_found _ c.requires.valid.0 _ _ _ _ _ _ _ _ _ _ (subst (Running c.args.block.now c.args.row c.args.ways.now c.args.side.most c.args.side.safe c.args.goal c.args.ranks.now c.loop-more.board c.loop-more.ranks c.loop-more.flags c.loop-more.n) c.loop-more-test.false c.loop-more.invariant)
+returns c = running_found _ c.requires.valid.0 _ _ _ _ _ _ _ _ _ _ (subst (Running c.args.block.now c.args.row c.args.ways.now c.args.side.most c.args.side.safe c.args.goal c.args.ranks.now c.loop-more.board c.loop-more.ranks c.loop-more.flags c.loop-more.n) c.loop-more-test.false c.loop-more.invariant)

@@ -55,7 +55,6 @@ module _ (c : At-After-states) where
       let most : c.states.result ≤ 24 = omega (arith, c.states.ensures, c.requires.valid.sized.states_fit) in
       omega (arith, mul-le-mul most (few c.args.block.now c.requires.valid c.args.row c.requires.playable.0))
 
-
 pub overflow_mul-states : goal.overflow_mul-states
 overflow_mul-states c = record { fits = omega (arith, all c.before.before) }
 
@@ -66,7 +65,7 @@ pub shape_of-ranks : goal.shape_of-ranks
 shape_of-ranks c = c.finish.ensures.long ∙ c.run.ensures.long ∙ c.first_ranks.ensures.ranks_len_unchanged
 
 pub returns : goal.returns
-returns c =     let finished = subst (λ (n : ℕ). Finished (n * c.args.row.places) c.run.new.ranks c.finish.new.ranks) c.states.ensures c.finish.ensures in (
+returns c = let finished = subst (λ (n : ℕ). Finished (n * c.args.row.places) c.run.new.ranks c.finish.new.ranks) c.states.ensures c.finish.ensures in (
       record {
         ranked = found_ranked c.args.block.now c.requires.valid c.args.row c.args.ways.now c.args.side.most c.args.side.safe c.args.goal _ _ _ c.run.ensures finished;
         outside = λ n beyond small. finished.outside n (omega (arith, all_positions c.args.block.now c.requires.valid c.args.row c.requires.playable.0)) ∙ c.run.ensures.beyond n beyond ∙ (c.first_ranks.ensures.by_index n small).outside beyond;

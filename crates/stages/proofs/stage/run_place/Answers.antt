@@ -22,7 +22,7 @@ pub states-n-requires : goal.states-n-requires
 states-n-requires c = c.requires.valid.0.sized.bytes
 
 pub loop-s-init : goal.loop-s-init
-loop-s-init c =     let none = evolved_none c.args.block.now c.args.attack.row c.args.ways.now c.args.board.now c.args.attack.most c.args.attack.safe c.args.attack.stage c.args.ranks.now c.args.flags.now in
+loop-s-init c = let none = evolved_none c.args.block.now c.args.attack.row c.args.ways.now c.args.board.now c.args.attack.most c.args.attack.safe c.args.attack.stage c.args.ranks.now c.args.flags.now in
     (omega arith, none, λ s l. absurd (omega arith))
 
 pub has_bit-requires : goal.has_bit-requires
@@ -38,7 +38,7 @@ pub loop-s-smaller : goal.loop-s-smaller
 loop-s-smaller c = omega (arith, c.loop-s-test.true)
 
 pub loop-s-preserved : goal.loop-s-preserved
-loop-s-preserved c =     let Went : List ℕ → List ℕ → Type 0 = λ ranks flags.
+loop-s-preserved c = let Went : List ℕ → List ℕ → Type 0 = λ ranks flags.
     Evolved c.args.block.now c.args.attack.row c.args.ways.now c.args.board.now c.args.attack.most c.args.attack.safe c.args.attack.stage c.loop-s.ranks c.loop-s.flags ranks flags
     × (Bit c.args.attack.safe c.loop-s.s → StateDone c.args.block.now c.args.attack.row c.args.ways.now c.args.board.now c.args.attack.most ranks c.args.y c.ranked_within-fresh.result c.loop-s.s) in
     let went : Went c.if-has_bit.ranks c.if-has_bit.flags =

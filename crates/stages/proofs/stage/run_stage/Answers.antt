@@ -12,11 +12,11 @@ use Rattle.stages.proofs.stage.run_stage.Goals as goal
 use Rattle.stages.proofs.stage.run_stage.Goals.{then-flags-y-eq1, else-flags-y-eq1}
 
 pub loop-y-init : goal.loop-y-init
-loop-y-init c =     let none = evolved_none c.args.block.now c.args.attack.row c.args.ways.now c.args.board.now c.args.attack.most c.args.attack.safe c.args.attack.stage c.args.ranks.now c.args.flags.now in
+loop-y-init c = let none = evolved_none c.args.block.now c.args.attack.row c.args.ways.now c.args.board.now c.args.attack.most c.args.attack.safe c.args.attack.stage c.args.ranks.now c.args.flags.now in
     (omega arith, none, λ y l. absurd (omega arith))
 
 pub bounds-flags-y : goal.bounds-flags-y
-bounds-flags-y c =     omega (arith, c.loop-y-test.true, c.loop-y.invariant.1.flags_long, c.requires.lent.flags_long, few c.args.block.now c.requires.valid.0 c.args.attack.row c.requires.valid.1.playable)
+bounds-flags-y c = omega (arith, c.loop-y-test.true, c.loop-y.invariant.1.flags_long, c.requires.lent.flags_long, few c.args.block.now c.requires.valid.0 c.args.attack.row c.requires.valid.1.playable)
 
 pub run_place-requires : goal.run_place-requires
 run_place-requires c = record { valid = c.requires.valid; lent = lent_still c.args.block.now c.args.attack.row c.args.ways.now c.args.board.now c.args.attack.most c.args.attack.safe c.args.attack.stage c.requires.lent.small c.loop-y.invariant.1 c.requires.lent; y_lt_places = (c.loop-y-test.true, c.requires.stage_nonzero) }
@@ -28,7 +28,7 @@ pub loop-y-smaller : goal.loop-y-smaller
 loop-y-smaller c = omega (arith, c.loop-y-test.true)
 
 pub loop-y-preserved : goal.loop-y-preserved
-loop-y-preserved c =     let Went : List ℕ → List ℕ → Type 0 = λ ranks flags.
+loop-y-preserved c = let Went : List ℕ → List ℕ → Type 0 = λ ranks flags.
     Evolved c.args.block.now c.args.attack.row c.args.ways.now c.args.board.now c.args.attack.most c.args.attack.safe c.args.attack.stage c.loop-y.ranks c.loop-y.flags ranks flags
     × (due_at c.loop-y.flags c.loop-y.y ≡ 1 → DoneAt c.args.block.now c.args.attack.row c.args.ways.now c.args.board.now c.args.attack.most c.args.attack.safe c.args.attack.stage c.loop-y.ranks ranks c.loop-y.y) in
     let went : Went c.if-flags-y-eq1.ranks c.if-flags-y-eq1.flags =

@@ -24,27 +24,27 @@ abbrev At-After-newly : Type 0
 At-After-newly = lts.After-newly tie.the-claims reads.Pre reads.Post goal.the-invariant-loop-k goal.the-decreases-loop-k tie.handed_clauses
 
 pub won_at-won-requires : goal.won_at-won-requires
-won_at-won-requires c =     (c.requires.valid.1.long, omega (arith, c.requires.state_bound.1, few c.args.block.now c.requires.valid.0 c.args.attack.row c.requires.valid.1.playable))
+won_at-won-requires c = (c.requires.valid.1.long, omega (arith, c.requires.state_bound.1, few c.args.block.now c.requires.valid.0 c.args.attack.row c.requires.valid.1.playable))
 
 pub reach_at-requires : goal.reach_at-requires
-reach_at-requires c =     (c.requires.valid.1.long, omega (arith, c.requires.state_bound.0, c.requires.valid.0.sized.states_fit))
+reach_at-requires c = (c.requires.valid.1.long, omega (arith, c.requires.state_bound.0, c.requires.valid.0.sized.states_fit))
 
 pub returns-then-not-fires : goal.returns-then-not-fires
-returns-then-not-fires c =     let quiet = D.falsity c.fires.ensures c.if-not-fires.true in (
+returns-then-not-fires c = let quiet = D.falsity c.fires.ensures c.if-not-fires.true in (
       evolved_none c.args.block.now c.args.attack.row c.args.ways.now c.args.board.now c.args.attack.most c.args.attack.safe c.args.attack.stage c.args.ranks.now c.args.flags.now,
       state_quiet c.args.block.now c.args.attack.row c.args.ways.now c.args.board.now c.args.attack.most c.requires.valid.1 c.args.ranks.now c.args.front.place c.args.front.fresh c.args.front.state c.requires.state_bound.0
           (λ h. quiet (subst (λ (w : ℕ). Fires false w c.args.front.fresh) (sym c.reach_at.ensures.0) h)),
     )
 
 pub count-n-requires : goal.count-n-requires
-count-n-requires c =     (c.requires.valid.1.listed.long, omega (arith, c.requires.state_bound.0, c.requires.valid.0.sized.states_fit))
+count-n-requires c = (c.requires.valid.1.listed.long, omega (arith, c.requires.state_bound.0, c.requires.valid.0.sized.states_fit))
 
 pub loop-k-init : goal.loop-k-init
-loop-k-init c =     let none = evolved_none c.args.block.now c.args.attack.row c.args.ways.now c.args.board.now c.args.attack.most c.args.attack.safe c.args.attack.stage c.args.ranks.now c.args.flags.now in
+loop-k-init c = let none = evolved_none c.args.block.now c.args.attack.row c.args.ways.now c.args.board.now c.args.attack.most c.args.attack.safe c.args.attack.stage c.args.ranks.now c.args.flags.now in
     (omega arith, none, λ j l. absurd (omega arith))
 
 pub to_at-to-requires : goal.to_at-to-requires
-to_at-to-requires c =     let small = listed_small c.args.block.now c.requires.valid.0 c.args.attack.row c.args.ways.now c.requires.valid.1.listed c.args.front.state c.loop-k.k c.requires.state_bound.0 (omega (arith, c.loop-k-test.true, c.count-n.ensures)) in
+to_at-to-requires c = let small = listed_small c.args.block.now c.requires.valid.0 c.args.attack.row c.args.ways.now c.requires.valid.1.listed c.args.front.state c.loop-k.k c.requires.state_bound.0 (omega (arith, c.loop-k-test.true, c.count-n.ensures)) in
     (c.requires.valid.1.long, small.0, small.1)
 
 -- the test tells of the board's words
@@ -53,7 +53,7 @@ told c =
     subst₂ (λ (to won : ℕ). Decides (Newly c.args.attack.most to won c.args.front.fresh) c.newly.result) c.to_at-to.ensures.0 c.won_at-won.ensures.0 c.newly.ensures
 
 pub fire_move-requires : goal.fire_move-requires
-fire_move-requires c =     let new = D.truth (told c.before.before.before.before) c.if-newly.true in  record { valid = c.requires.valid; lent = lent_still c.args.block.now c.args.attack.row c.args.ways.now c.args.board.now c.args.attack.most c.args.attack.safe c.args.attack.stage c.requires.lent.small c.loop-k.invariant.1 c.requires.lent; state_bound = (c.requires.state_bound.0, c.requires.state_bound.2, omega (arith, c.loop-k-test.true, c.count-n.ensures), new.0); place_lt_places = c.requires.state_bound.1 }
+fire_move-requires c = let new = D.truth (told c.before.before.before.before) c.if-newly.true in record { valid = c.requires.valid; lent = lent_still c.args.block.now c.args.attack.row c.args.ways.now c.args.board.now c.args.attack.most c.args.attack.safe c.args.attack.stage c.requires.lent.small c.loop-k.invariant.1 c.requires.lent; state_bound = (c.requires.state_bound.0, c.requires.state_bound.2, omega (arith, c.loop-k-test.true, c.count-n.ensures), new.0); place_lt_places = c.requires.state_bound.1 }
 
 pub overflow_step-k : goal.overflow_step-k
 overflow_step-k c = omega (arith, c.loop-k-test.true)
@@ -62,7 +62,7 @@ pub loop-k-smaller : goal.loop-k-smaller
 loop-k-smaller c = omega (arith, c.loop-k-test.true)
 
 pub loop-k-preserved : goal.loop-k-preserved
-loop-k-preserved c =     let Went : List ℕ → List ℕ → Type 0 = λ ranks flags.
+loop-k-preserved c = let Went : List ℕ → List ℕ → Type 0 = λ ranks flags.
     Evolved c.args.block.now c.args.attack.row c.args.ways.now c.args.board.now c.args.attack.most c.args.attack.safe c.args.attack.stage c.loop-k.ranks c.loop-k.flags ranks flags
     × (Newly c.args.attack.most (to_in c.args.board.now c.args.front.state c.loop-k.k) (won_in c.args.board.now c.args.front.place) c.args.front.fresh → DoneWith c.args.block.now c.args.attack.row c.args.ways.now c.args.board.now c.args.attack.most ranks c.args.front.state c.loop-k.k c.args.front.place) in
     let went : Went c.if-newly.ranks c.if-newly.flags =

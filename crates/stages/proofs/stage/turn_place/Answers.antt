@@ -30,16 +30,16 @@ pub bounds-flags-x-2 : goal.bounds-flags-x-2
 bounds-flags-x-2 c = omega (arith, place c.before.before.before.before.before.before, c.requires.playable.3)
 
 pub bounds-flags-x-3 : goal.bounds-flags-x-3
-bounds-flags-x-3 c =     omega (arith, place c.before.before.before.before.before.before, c.requires.playable.3, length-set c.args.flags.now (256 + c.args.x) 0)
+bounds-flags-x-3 c = omega (arith, place c.before.before.before.before.before.before, c.requires.playable.3, length-set c.args.flags.now (256 + c.args.x) 0)
 
 pub returns-then-marked-ne1 : goal.returns-then-marked-ne1
-returns-then-marked-ne1 c =     turned_quiet c.args.flags.now c.args.x (place c.before.before.before.before.before.before.before) c.requires.playable.3 (L.states c.args.block.now) c.args.row.places c.args.ranks.now c.args.n c.args.board.now c.if-marked-ne1.true
+returns-then-marked-ne1 c = turned_quiet c.args.flags.now c.args.x (place c.before.before.before.before.before.before.before) c.requires.playable.3 (L.states c.args.block.now) c.args.row.places c.args.ranks.now c.args.n c.args.board.now c.if-marked-ne1.true
 
 pub overflow_add-x : goal.overflow_add-x
 overflow_add-x c = record { fits = omega (arith, place c.before.before.before.before.before.before.before.before.before) }
 
 pub set_narrow-requires : goal.set_narrow-requires
-set_narrow-requires c =     (omega (arith, place c.before.before.before.before.before.before.before.before.before, c.requires.playable.1), c.ranked_within-won.ensures.1)
+set_narrow-requires c = (omega (arith, place c.before.before.before.before.before.before.before.before.before, c.requires.playable.1), c.ranked_within-won.ensures.1)
 
 pub returns : goal.returns
-returns c =     turned_set c.args.flags.now c.args.x (place c.before.before.before.before.before.before.before.before.before.before.before.before) c.requires.playable.3 (L.states c.args.block.now) c.args.row.places c.args.ranks.now c.args.n c.args.board.now c.if-marked-ne1.false c.ranked_within-won.ensures.0 c.set_narrow.ensures
+returns c = turned_set c.args.flags.now c.args.x (place c.before.before.before.before.before.before.before.before.before.before.before.before) c.requires.playable.3 (L.states c.args.block.now) c.args.row.places c.args.ranks.now c.args.n c.args.board.now c.if-marked-ne1.false c.ranked_within-won.ensures.0 c.set_narrow.ensures

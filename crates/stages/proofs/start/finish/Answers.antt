@@ -24,7 +24,7 @@ pub loop-p-smaller : goal.loop-p-smaller
 loop-p-smaller c = omega (arith, c.loop-p-test.true)
 
 pub loop-p-preserved : goal.loop-p-preserved
-loop-p-preserved c =     (
+loop-p-preserved c = (
       omega (arith, c.loop-p-test.true),
       elim c.if-rank_at-ge-HOLD.branch [
         then-rank_at-ge-HOLD w ↦

@@ -35,7 +35,6 @@ module _ (c : At-After-states-n) where
       let whole : c.states-n.result * c.args.row.places ≤ 24 * 256 = mul-le-mul most (few c.args.block.now c.requires.valid c.args.row c.requires.playable.0) in
       omega (arith, whole)
 
-
 -- and so are those of the next state
 module _ (c : At-In-loop-s) where
   next : (c.loop-s.s + 1) * c.args.row.places ≤ c.states-n.result * c.args.row.places
@@ -43,7 +42,6 @@ module _ (c : At-In-loop-s) where
 
   here : c.loop-s.s * c.args.row.places ≤ (c.loop-s.s + 1) * c.args.row.places
   here = let less : c.loop-s.s ≤ c.loop-s.s + 1 = omega arith in mul-le-mul_right c.args.row.places less
-
 
 pub overflow_mul-s : goal.overflow_mul-s
 overflow_mul-s c = record { fits = omega (arith, here c.before.before, next c.before.before, all c.before.before.before.before) }
@@ -67,7 +65,7 @@ pub loop-s-smaller : goal.loop-s-smaller
 loop-s-smaller c = omega (arith, c.loop-s-test.true)
 
 pub loop-s-preserved : goal.loop-s-preserved
-loop-s-preserved c =     (omega (arith, c.loop-s-test.true), c.store_ranks.ensures.long ∙ c.loop-s.invariant.1, state_first c.args.goal c.args.row.places (c.states-n.result * c.args.row.places) c.loop-s.s c.first_rank.result (next c.before.before.before.before.before.before) c.first_rank.ensures.0 c.store_ranks.ensures c.loop-s.invariant.2)
+loop-s-preserved c = (omega (arith, c.loop-s-test.true), c.store_ranks.ensures.long ∙ c.loop-s.invariant.1, state_first c.args.goal c.args.row.places (c.states-n.result * c.args.row.places) c.loop-s.s c.first_rank.result (next c.before.before.before.before.before.before) c.first_rank.ensures.0 c.store_ranks.ensures c.loop-s.invariant.2)
 
 pub overflow_mul-n : goal.overflow_mul-n
 overflow_mul-n c = record { fits = omega (arith, all c.before.before.before.before) }
@@ -79,7 +77,7 @@ pub shape_of-ranks : goal.shape_of-ranks
 shape_of-ranks c = c.store_ranks-2.ensures.long ∙ c.loop-s.invariant.1
 
 pub returns : goal.returns
-returns c =     let last : c.loop-s.s ≡ c.states-n.result = omega (arith, c.loop-s.invariant.0, c.loop-s-test.false) in
+returns c = let last : c.loop-s.s ≡ c.states-n.result = omega (arith, c.loop-s.invariant.0, c.loop-s-test.false) in
     let are : c.states-n.result * c.args.row.places ≡ positions (arena_of c.args.block.now c.args.row.index) =
     ap (λ (n : ℕ). n * c.args.row.places) c.states-n.ensures ∙ ap (λ (n : ℕ). L.states c.args.block.now * n) c.requires.playable.0.places_are ∙ sym (states_times c.args.block.now c.requires.valid c.args.row.index (L.resources c.args.block.now)) in
     let full = subst (λ (s : ℕ). FirstTo c.args.goal c.args.row.places (c.states-n.result * c.args.row.places) (s * c.args.row.places) c.loop-s.ranks) last c.loop-s.invariant.2 in

@@ -40,7 +40,7 @@ pub loop-k-smaller : goal.loop-k-smaller
 loop-k-smaller c = omega (arith, c.loop-k-test.true)
 
 pub loop-k-preserved : goal.loop-k-preserved
-loop-k-preserved c =     (
+loop-k-preserved c = (
       omega (arith, c.loop-k.invariant.0),
       omega (arith, c.loop-k-test.true),
       none_more (λ j. (c.args.from ≤ j) × Stays c.args.block.now c.args.row c.args.ways.now c.args.board.now c.args.spot.state c.args.spot.place j) c.loop-k.k c.loop-k.invariant.2 (λ (_, stays). D.falsity c.stays.ensures c.if-stays.false stays),

@@ -23,14 +23,14 @@ landed : (c : At-In-At) → To c.args.block.now c.args.row c.args.ways.now c.arg
 landed c = (c.requires.state_bound.2, rw c.in-At.is at c.lands.ensures)
 
 pub to_at-requires : goal.to_at-requires
-to_at-requires c =     let small = listed_small c.args.block.now c.requires.valid c.args.row c.args.ways.now c.requires.playable.1 c.args.spot.state c.args.k c.requires.state_bound.0 c.requires.state_bound.2 in
+to_at-requires c = let small = listed_small c.args.block.now c.requires.valid c.args.row c.args.ways.now c.requires.playable.1 c.args.spot.state c.args.k c.requires.state_bound.0 c.requires.state_bound.2 in
     (c.requires.playable.2, small.0, small.1)
 
 pub won_at-requires : goal.won_at-requires
 won_at-requires c = (c.requires.playable.2, omega (arith, (landed c.before.before).1.0, few c.args.block.now c.requires.valid c.args.row c.requires.playable.0, c.requires.playable.0.places_are))
 
 pub returns-in-At : goal.returns-in-At
-returns-in-At c =     let here = rw (c.to_at.ensures.0, c.won_at.ensures.0) at c.fires.ensures in
+returns-in-At c = let here = rw (c.to_at.ensures.0, c.won_at.ensures.0) at c.fires.ensures in
     D.opposite here
     (λ fires (z, to, quiet). quiet (subst (FiresAt c.args.block.now c.args.row c.args.ways.now c.args.board.now false c.args.spot.state c.args.k) (to_one c.args.block.now c.args.row c.args.ways.now c.args.board.now c.requires.playable.0 c.args.spot.state c.args.spot.place c.args.k c.in-At.y z c.requires.state_bound.0 c.requires.state_bound.1 (landed c.before.before.before.before) to) fires))
     (λ quiet. (c.in-At.y, landed c.before.before.before.before, quiet))

@@ -5,29 +5,14 @@ use Rattle.text.specs.Job.{last_joint}
 use borrow.Author.Rules.{rules}
 use Rattle.text.proofs.joint.last.Goals as goal
 
--- NOGOAL
--- add-if1 : tie.Need-overflow-add-if1
--- add-if1 c = search rules
--- 
-
 pub returns-then-digit-counts : goal.returns-then-digit-counts
 unfolding last_joint
 returns-then-digit-counts c = simp (rw c.digit.ensures.0 at (ne_eqb _ _ c.if-digit-counts.true))
-
--- NOGOAL
--- add-if2 : tie.Need-overflow-add-if2
--- add-if2 c = search rules
--- 
 
 pub returns-then-digit-counts-2 : goal.returns-then-digit-counts-2
 unfolding last_joint
 returns-then-digit-counts-2 c = simp (rw c.digit.ensures.0 at (eq-eqb _ _ c.if-digit-counts.false), rw c.digit-2.ensures.0 at (ne_eqb _ _ c.if-digit-counts-2.true))
 
--- NOGOAL
--- add-result : tie.Need-overflow-add-result
--- add-result c = search rules
--- 
-
 pub returns : goal.returns
 unfolding last_joint
-returns c =     rw (← c.digit.ensures.0, eq-eqb _ _ c.if-digit-counts.false, ← c.digit-2.ensures.0, eq-eqb _ _ c.if-digit-counts-2.false, ← c.digit-3.ensures.0) refl
+returns c = rw (← c.digit.ensures.0, eq-eqb _ _ c.if-digit-counts.false, ← c.digit-2.ensures.0, eq-eqb _ _ c.if-digit-counts-2.false, ← c.digit-3.ensures.0) refl

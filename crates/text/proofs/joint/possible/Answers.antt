@@ -14,4 +14,4 @@ returns-then-counts-digit-2 c = simp (rw c.digit.ensures.0 at (lt-ltb _ _ c.if-c
 
 pub returns : goal.returns
 unfolding possible
-returns c =     simp (rw c.digit.ensures.0 at (lt-ltb _ _ c.if-counts-digit.false), rw c.digit-2.ensures.0 at (lt-ltb _ _ c.if-counts-digit-2.false), c.digit-3.ensures.0)
+returns c = simp (rw c.digit.ensures.0 at (lt-ltb _ _ c.if-counts-digit.false), rw c.digit-2.ensures.0 at (lt-ltb _ _ c.if-counts-digit-2.false), c.digit-3.ensures.0)

@@ -7,10 +7,5 @@ use Rattle.text.proofs.Adding.{byte_added}
 use borrow.Author.Rules.{rules}
 use Rattle.text.proofs.output.put.Goals as goal
 
--- NOGOAL
--- add-result : tie.Need-overflow-add-result
--- add-result c = search rules
--- 
-
 pub returns : goal.returns
 returns c = (byte_added _ _ _ c.requires, refl, drop-set-lt (c.args.at + 1) c.args.text.now c.args.at c.args.x (omega arith))

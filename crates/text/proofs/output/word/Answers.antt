@@ -12,18 +12,8 @@ loop-i-init c = (omega arith, (refl, begun_none))
 pub bounds-w-i : goal.bounds-w-i
 bounds-w-i c = omega arith
 
--- NOGOAL
--- add-text : tie.Need-overflow-add-text invariant-loop decreases-loop
--- add-text c = omega arith
--- 
-
 pub bounds-text-at : goal.bounds-text-at
 bounds-text-at c = omega arith
-
--- NOGOAL
--- add-i : tie.Need-overflow-add-i invariant-loop decreases-loop
--- add-i c = omega arith
--- 
 
 pub loop-i-smaller : goal.loop-i-smaller
 loop-i-smaller c = omega arith
@@ -31,14 +21,9 @@ loop-i-smaller c = omega arith
 pub loop-i-preserved : goal.loop-i-preserved
 loop-i-preserved c = (omega arith, (simp length-set (omega arith), begun_more c.loop-i.invariant.1.1 (omega arith) (omega arith)))
 
--- NOGOAL
--- add-result : tie.Need-overflow-add-result invariant-loop decreases-loop
--- add-result c = omega arith
--- 
-
 pub shape_of-text : goal.shape_of-text
 shape_of-text c = omega arith
 
 pub returns : goal.returns
-returns c =     let all : c.loop-i.i ≡ length c.args.w.now = omega arith in
+returns c = let all : c.loop-i.i ≡ length c.args.w.now = omega arith in
     (rw all at (begun_all c.loop-i.invariant.1.1 (omega arith)), omega arith, rw all at c.loop-i.invariant.1.1.after)

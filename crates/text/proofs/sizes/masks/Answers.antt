@@ -7,12 +7,7 @@ use lib.Pow.{pow_mono}
 use borrow.Author.Rules.{rules}
 use Rattle.text.proofs.sizes.masks.Goals as goal
 
--- NOGOAL
--- shl-result : tie.Need-overflow-shl-result
--- shl-result c = search rules
--- 
-
 pub returns : goal.returns
-returns c =     let small : 2 ^ c.args.n ≤ 2 ^ 8 = pow_mono c.requires in
+returns c = let small : 2 ^ c.args.n ≤ 2 ^ 8 = pow_mono c.requires in
     let same : (1 * 2 ^ c.args.n) % 2 ^ 64 ≡ 2 ^ c.args.n = rw one-mul (mod-eq_of_lt (omega arith)) in
     (same, rw same small)

@@ -13,7 +13,7 @@ pub overflow_sub-text : goal.overflow_sub-text
 overflow_sub-text c = omega arith
 
 pub returns-then-text-at : goal.returns-then-text-at
-returns-then-text-at c =     fails (λ s. let r = room_for c.args.word.now c.args.text.now c.args.at s in omega arith)
+returns-then-text-at c = fails (λ s. let r = room_for c.args.word.now c.args.text.now c.args.at s in omega arith)
 
 pub loop-i-init : goal.loop-i-init
 loop-i-init c = (search rules, below_none _)
@@ -28,7 +28,7 @@ pub bounds-word-i : goal.bounds-word-i
 bounds-word-i c = omega arith
 
 pub returns-then-text-at-2 : goal.returns-then-text-at-2
-returns-then-text-at-2 c =     fails (λ s. c.if-text-at-2.true (byte_of c.args.word.now c.args.text.now c.args.at s c.loop-i.i (omega arith)))
+returns-then-text-at-2 c = fails (λ s. c.if-text-at-2.true (byte_of c.args.word.now c.args.text.now c.args.at s c.loop-i.i (omega arith)))
 
 pub overflow_step-i : goal.overflow_step-i
 overflow_step-i c = omega arith
@@ -40,4 +40,4 @@ pub loop-i-preserved : goal.loop-i-preserved
 loop-i-preserved c = (omega arith, below_more _ _ c.loop-i.invariant.1 c.if-text-at-2.false)
 
 pub returns : goal.returns
-returns c =     holds (stands_at c.args.word.now c.args.text.now c.args.at (omega arith) (λ i h. c.loop-i.invariant.1 i (omega arith)))
+returns c = holds (stands_at c.args.word.now c.args.text.now c.args.at (omega arith) (λ i h. c.loop-i.invariant.1 i (omega arith)))

@@ -63,7 +63,6 @@ module _ (c : At-After-cost) where
       (total_member c.args.block.now c.requires.valid c.args.team c.args.m c.args.s c.args.j c.loop-a.a c.requires.s_bound.0 c.requires.s_bound.1 (turn_agent c.before.before) c.requires.move_of
       (to_z w32 c.loop-a.total-bits) c.loop-a.invariant.1 member c.cost.result is_cost c.resource_kind-kind.result c.resource_kind-kind.ensures)
 
-
 pub combined-total-requires : goal.combined-total-requires
 combined-total-requires c sums = subst (λ (y : ℤ). SFits w32 ((to_z w32 c.loop-a.total-bits) +ℤ y)) (sym (held c.before)) (fits c.before)
 
@@ -91,6 +90,6 @@ loop-a-preserved c =
     (omega arith, totals, shift _ 2 _ _ c.loop-a.invariant.2, shift _ 4 _ _ c.loop-a.invariant.3)
 
 pub returns : goal.returns
-returns c =     let all : c.loop-a.a ≡ L.agents c.args.block.now = omega (arith, c.agents-n.ensures, c.loop-a.invariant.0, c.loop-a-test.false) in
+returns c = let all : c.loop-a.a ≡ L.agents c.args.block.now = omega (arith, c.agents-n.ensures, c.loop-a.invariant.0, c.loop-a-test.false) in
     let total = subst (λ (n : ℕ). TotalTo c.args.block.now c.args.team c.args.m c.args.s c.args.j n (to_z w32 c.loop-a.total-bits)) all c.loop-a.invariant.1 in
      record { value = total.is; j_bound = (omega (arith, total.takes_few), omega (arith, total.gives_few)) }

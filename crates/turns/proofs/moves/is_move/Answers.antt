@@ -26,7 +26,6 @@ module _ (start : At-Start) where
   makes : start.args.m < 64 → part_of (bit start.args.team) start.args.m ≡ start.args.m → Available start.args.block.now start.args.s start.args.m → MoveOf (structure_of start.args.block.now) (bit start.args.team) start.args.s start.args.m
   makes = part_move start.args.block.now start.requires.valid (bit start.args.team) start.args.s start.args.m start.requires.s_bound
 
-
 pub returns-then-m-ge-JOINT_ACTIONS : goal.returns-then-m-ge-JOINT_ACTIONS
 returns-then-m-ge-JOINT_ACTIONS c = fails (λ move. omega (arith, (told c.before.before.before move).0, c.if-m-ge-JOINT_ACTIONS.true))
 

@@ -22,7 +22,7 @@ abbrev At-Start : Type 0
 At-Start = lts.Start tie.the-claims reads.Pre reads.Post tie.handed_clauses
 
 pub overflow_sub-last : goal.overflow_sub-last
-overflow_sub-last c =     let none : 0 ≤ L.agents c.args.block.now = omega arith in
+overflow_sub-last c = let none : 0 ≤ L.agents c.args.block.now = omega arith in
     omega (arith, c.joint_actions-last.ensures.0, pow-le-pow_right {n = 4} (omega arith) none)
 
 -- one more than the part r of the largest joint action is past the moves of a side, whose team this is
@@ -38,7 +38,7 @@ pub overflow_add-result : goal.overflow_add-result
 overflow_add-result c = omega (arith, c.part.ensures, part_small (bit c.team-team.result) (c.joint_actions-last.result - 1))
 
 pub returns-then-ours : goal.returns-then-ours
-returns-then-ours c =     past c.before.before.before.before.before.before c.team-team.result (c.joint_actions-last.result - 1) c.part.result (ap (◌- 1) c.joint_actions-last.ensures.0) c.part.ensures
+returns-then-ours c = past c.before.before.before.before.before.before c.team-team.result (c.joint_actions-last.result - 1) c.part.result (ap (◌- 1) c.joint_actions-last.ensures.0) c.part.ensures
     (λ s m move. subst (λ (t : ℕ). MoveOf (structure_of c.args.block.now) (bit t) s m) (sym c.team-team.ensures) (subst (λ (t : Bool). SideMove c.args.block.now c.args.i t s m) c.if-ours.true move))
 
 pub overflow_sub-team : goal.overflow_sub-team
@@ -48,5 +48,5 @@ pub overflow_add-result-2 : goal.overflow_add-result-2
 overflow_add-result-2 c = omega (arith, c.part-2.ensures, part_small (bit (7 - c.team-team.result)) (c.joint_actions-last.result - 1))
 
 pub returns : goal.returns
-returns c =     past c.before.before.before.before.before.before (7 - c.team-team.result) (c.joint_actions-last.result - 1) c.part-2.result (ap (◌- 1) c.joint_actions-last.ensures.0) c.part-2.ensures
+returns c = past c.before.before.before.before.before.before (7 - c.team-team.result) (c.joint_actions-last.result - 1) c.part-2.result (ap (◌- 1) c.joint_actions-last.ensures.0) c.part-2.ensures
     (λ s m move. subst (λ (t : ℕ). MoveOf (structure_of c.args.block.now) (bit (7 - t)) s m) (sym c.team-team.ensures) ((others_reply c.args.block.now c.requires.valid c.args.i c.requires.i_bound.0 c.requires.i_bound.1 s m).1 (subst (λ (t : Bool). SideMove c.args.block.now c.args.i t s m) c.if-ours.false move)))

@@ -61,7 +61,6 @@ module _ (c : At-After-places-c) where
   product_small : (x : ℕ) → x * c.places-c.result ≤ x * 16
   product_small x = mul-le-mul_left x some_places.1
 
-
 pub overflow_mul-takes : goal.overflow_mul-takes
 overflow_mul-takes c = omega (arith, product_small c.before.before c.loop-j.takes, c.loop-j.invariant.3, (resource_at c.before.before.before).1)
 
@@ -82,7 +81,6 @@ module _ (c : At-After-net-cost) where
           omega arith,
         ),
       )
-
 
 pub overflow_add-takes : goal.overflow_add-takes
 overflow_add-takes c = omega (arith, product_small c.before.before.before c.loop-j.takes, c.loop-j.invariant.3, (resource_at c.before.before.before.before).1, positive_is c.before.before c.positive.result c.positive.ensures)
@@ -107,7 +105,6 @@ module _ (c : At-After-smaller) where
   sum_small : (x v : ℕ) → x ≤ few c.loop-j.j → v ≤ 45 → (x * c.places-c.result + v ≤ few (c.loop-j.j + 1)) × (few (c.loop-j.j + 1) ≤ 765)
   sum_small x v so_far small = let less = product_small c.before.before.before.before x in let one = (resource_at c.before.before.before.before.before).1 in (omega arith, omega arith)
 
-
 pub overflow_add-gives : goal.overflow_add-gives
 overflow_add-gives c = omega (arith, sum_small c.before c.loop-j.gives c.smaller.result c.loop-j.invariant.4 (gives_here c.before).1)
 
@@ -118,7 +115,7 @@ pub loop-j-smaller : goal.loop-j-smaller
 loop-j-smaller c = omega arith
 
 pub loop-j-preserved : goal.loop-j-preserved
-loop-j-preserved c =     (
+loop-j-preserved c = (
       omega arith,
       number_next c.args.block.now c.args.i c.loop-j.j c.loop-j.takes c.places-c.result c.positive.result (taken_by c.args.block.now c.args.i c.args.s c.args.m) c.loop-j.invariant.1 c.places-c.ensures (takes_here c.before).0,
       number_next c.args.block.now c.args.i c.loop-j.j c.loop-j.gives c.places-c.result c.smaller.result (given_by c.args.block.now c.args.i c.args.s c.args.m) c.loop-j.invariant.2 c.places-c.ensures (gives_here c.before).0,
@@ -127,7 +124,7 @@ loop-j-preserved c =     (
     )
 
 pub returns : goal.returns
-returns c =     let all : c.loop-j.j ≡ L.resources c.args.block.now = omega (arith, c.resources-n.ensures) in (
+returns c = let all : c.loop-j.j ≡ L.resources c.args.block.now = omega (arith, c.resources-n.ensures) in (
       c.loop-j.invariant.1 ∙ ap (λ (n : ℕ). number_up_to (arena_of c.args.block.now c.args.i) n (taken_by c.args.block.now c.args.i c.args.s c.args.m)) all,
       c.loop-j.invariant.2 ∙ ap (λ (n : ℕ). number_up_to (arena_of c.args.block.now c.args.i) n (given_by c.args.block.now c.args.i c.args.s c.args.m)) all,
     )

@@ -46,13 +46,13 @@ stock_is : (c : At-After-places-c) → c.places-c.result - 1 ≡ full_stock (bou
 stock_is c = ap (λ (k : ℕ). k - 1) c.places-c.ensures ∙ largest (bounds_of c.args.block.now c.args.i c.loop-j.j)
 
 pub overflow_mul-x : goal.overflow_mul-x
-overflow_mul-x c =     omega (arith, stays_small c.args.block.now c.requires.valid c.args.i c.loop-j.j c.loop-j.x c.places-c.result (c.places-c.result - 1) (P.full (arena_of c.args.block.now c.args.i) c.args.s) c.requires.i_bound.0 c.requires.i_bound.1 (full_fits (arena_of c.args.block.now c.args.i) c.args.s c.requires.i_bound.2) (resource_at c.before.before) c.loop-j.invariant.1 c.places-c.ensures (stock_is c.before))
+overflow_mul-x c = omega (arith, stays_small c.args.block.now c.requires.valid c.args.i c.loop-j.j c.loop-j.x c.places-c.result (c.places-c.result - 1) (P.full (arena_of c.args.block.now c.args.i) c.args.s) c.requires.i_bound.0 c.requires.i_bound.1 (full_fits (arena_of c.args.block.now c.args.i) c.args.s c.requires.i_bound.2) (resource_at c.before.before) c.loop-j.invariant.1 c.places-c.ensures (stock_is c.before))
 
 pub overflow_sub-x : goal.overflow_sub-x
 overflow_sub-x c = omega (arith, c.places-c.ensures, some_place (bounds_of c.args.block.now c.args.i c.loop-j.j))
 
 pub overflow_add-x : goal.overflow_add-x
-overflow_add-x c =     omega (arith, stays_small c.args.block.now c.requires.valid c.args.i c.loop-j.j c.loop-j.x c.places-c.result (c.places-c.result - 1) (P.full (arena_of c.args.block.now c.args.i) c.args.s) c.requires.i_bound.0 c.requires.i_bound.1 (full_fits (arena_of c.args.block.now c.args.i) c.args.s c.requires.i_bound.2) (resource_at c.before.before) c.loop-j.invariant.1 c.places-c.ensures (stock_is c.before))
+overflow_add-x c = omega (arith, stays_small c.args.block.now c.requires.valid c.args.i c.loop-j.j c.loop-j.x c.places-c.result (c.places-c.result - 1) (P.full (arena_of c.args.block.now c.args.i) c.args.s) c.requires.i_bound.0 c.requires.i_bound.1 (full_fits (arena_of c.args.block.now c.args.i) c.args.s c.requires.i_bound.2) (resource_at c.before.before) c.loop-j.invariant.1 c.places-c.ensures (stock_is c.before))
 
 pub overflow_step-j : goal.overflow_step-j
 overflow_step-j c = omega arith
@@ -61,8 +61,8 @@ pub loop-j-smaller : goal.loop-j-smaller
 loop-j-smaller c = omega arith
 
 pub loop-j-preserved : goal.loop-j-preserved
-loop-j-preserved c =     (omega arith, goes_on c.args.block.now c.requires.valid c.args.i c.loop-j.j c.loop-j.x c.places-c.result (c.places-c.result - 1) (P.full (arena_of c.args.block.now c.args.i) c.args.s) c.requires.i_bound.0 c.requires.i_bound.1 (full_fits (arena_of c.args.block.now c.args.i) c.args.s c.requires.i_bound.2) (resource_at c.before.before) c.loop-j.invariant.1 c.places-c.ensures (stock_is c.before))
+loop-j-preserved c = (omega arith, goes_on c.args.block.now c.requires.valid c.args.i c.loop-j.j c.loop-j.x c.places-c.result (c.places-c.result - 1) (P.full (arena_of c.args.block.now c.args.i) c.args.s) c.requires.i_bound.0 c.requires.i_bound.1 (full_fits (arena_of c.args.block.now c.args.i) c.args.s c.requires.i_bound.2) (resource_at c.before.before) c.loop-j.invariant.1 c.places-c.ensures (stock_is c.before))
 
 pub returns : goal.returns
-returns c =     let all : c.loop-j.j ≡ L.resources c.args.block.now = omega (arith, c.resources-n.ensures) in
+returns c = let all : c.loop-j.j ≡ L.resources c.args.block.now = omega (arith, c.resources-n.ensures) in
     c.loop-j.invariant.1 ∙ ap (λ (n : ℕ). number_up_to (arena_of c.args.block.now c.args.i) n (P.full (arena_of c.args.block.now c.args.i) c.args.s)) all

@@ -35,7 +35,6 @@ module _ (c : At-Then-c-lt0) where
   turned_held : to_z w32 (of_z w32 (pos 0 -ℤ to_z w32 (of_z w32 c.args.c))) ≡ pos (C.negative c.args.c)
   turned_held = ap (λ (z : ℤ). to_z w32 (of_z w32 z)) turned ∙ to_z-of_z w32 _ turned_fits
 
-
 pub overflow_sub-result : goal.overflow_sub-result
 overflow_sub-result c = subst (SFits w32) (sym (turned c)) (turned_fits c)
 

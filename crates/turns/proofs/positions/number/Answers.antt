@@ -27,14 +27,14 @@ pub places-requires : goal.places-requires
 places-requires c = record { valid = c.requires.valid; i_bound = (c.requires.i_bound.0, resource_at c.before, c.requires.i_bound.1) }
 
 pub overflow_mul-x : goal.overflow_mul-x
-overflow_mul-x c =     let y = position c.args.s c.args.stocks.now in
+overflow_mul-x c = let y = position c.args.s c.args.stocks.now in
     omega (arith, stays_small c.args.block.now c.requires.valid c.args.i c.loop-j.j c.loop-j.x c.places.result (y.stock c.loop-j.j) y c.requires.i_bound.0 c.requires.i_bound.1 c.requires.position (resource_at c.before.before) c.loop-j.invariant.1 c.places.ensures refl)
 
 pub bounds-stocks-j : goal.bounds-stocks-j
 bounds-stocks-j c = omega (arith, resource_at c.before.before.before, c.requires.i_bound.2)
 
 pub overflow_add-x : goal.overflow_add-x
-overflow_add-x c =     omega (arith, stays_small c.args.block.now c.requires.valid c.args.i c.loop-j.j c.loop-j.x c.places.result c.wide.result (position c.args.s c.args.stocks.now) c.requires.i_bound.0 c.requires.i_bound.1 c.requires.position (resource_at c.before.before.before.before) c.loop-j.invariant.1 c.places.ensures c.wide.ensures.value)
+overflow_add-x c = omega (arith, stays_small c.args.block.now c.requires.valid c.args.i c.loop-j.j c.loop-j.x c.places.result c.wide.result (position c.args.s c.args.stocks.now) c.requires.i_bound.0 c.requires.i_bound.1 c.requires.position (resource_at c.before.before.before.before) c.loop-j.invariant.1 c.places.ensures c.wide.ensures.value)
 
 pub overflow_step-j : goal.overflow_step-j
 overflow_step-j c = omega arith
@@ -43,11 +43,11 @@ pub loop-j-smaller : goal.loop-j-smaller
 loop-j-smaller c = omega arith
 
 pub loop-j-preserved : goal.loop-j-preserved
-loop-j-preserved c =     (
+loop-j-preserved c = (
       omega arith,
       goes_on c.args.block.now c.requires.valid c.args.i c.loop-j.j c.loop-j.x c.places.result c.wide.result (position c.args.s c.args.stocks.now) c.requires.i_bound.0 c.requires.i_bound.1 c.requires.position (resource_at c.before.before.before.before) c.loop-j.invariant.1 c.places.ensures c.wide.ensures.value,
     )
 
 pub returns : goal.returns
-returns c =     let all : c.loop-j.j ≡ L.resources c.args.block.now = omega (arith, c.resources-n.ensures) in
+returns c = let all : c.loop-j.j ≡ L.resources c.args.block.now = omega (arith, c.resources-n.ensures) in
     c.loop-j.invariant.1 ∙ ap (λ (n : ℕ). number_up_to (arena_of c.args.block.now c.args.i) n (position c.args.s c.args.stocks.now)) all

@@ -23,9 +23,9 @@ pub returns-then-c-lt0 : goal.returns-then-c-lt0
 returns-then-c-lt0 c = sym (below_takes c.args.c (sym (ap (λ (z : ℤ). lt_z z (pos 0)) (given c.before)) ∙ c.if-c-lt0.true))
 
 pub overflow_cast-result : goal.overflow_cast-result
-overflow_cast-result c =     let (sign, is, small) = above_takes c.args.c c.ranges.c (sym (ap (λ (z : ℤ). lt_z z (pos 0)) (given c.before)) ∙ c.if-c-lt0.false) in
+overflow_cast-result c = let (sign, is, small) = above_takes c.args.c c.ranges.c (sym (ap (λ (z : ℤ). lt_z z (pos 0)) (given c.before)) ∙ c.if-c-lt0.false) in
     subst (λ (z : ℤ). T (non_neg z) × Fits w64 (nat_abs z)) (sym (given c.before)) (sign, record { fits = omega arith })
 
 pub returns : goal.returns
-returns c =     let (sign, is, small) = above_takes c.args.c c.ranges.c (sym (ap (λ (z : ℤ). lt_z z (pos 0)) (given c.before)) ∙ c.if-c-lt0.false) in
+returns c = let (sign, is, small) = above_takes c.args.c c.ranges.c (sym (ap (λ (z : ℤ). lt_z z (pos 0)) (given c.before)) ∙ c.if-c-lt0.false) in
     ap nat_abs (given c.before) ∙ is

@@ -25,7 +25,7 @@ more : (b : Block) (i j c r : ℕ) → c ≡ stock_places_up_to (arena_of b i) j
 more b i j c r e e' = ap₂ ◌*◌ e e' ∙ sym (ap (stock_places_up_to (arena_of b i)) (add-one j))
 
 pub overflow_mul-c : goal.overflow_mul-c
-overflow_mul-c c =     let fits : c.loop-j.j + 1 ≤ L.resources c.args.block.now = omega (arith, c.resources-n.ensures) in
+overflow_mul-c c = let fits : c.loop-j.j + 1 ≤ L.resources c.args.block.now = omega (arith, c.resources-n.ensures) in
     omega (arith, more c.args.block.now c.args.i c.loop-j.j c.loop-j.c c.places-c.result c.loop-j.invariant.1 c.places-c.ensures, few_stocks c.args.block.now c.requires.valid c.args.i c.requires.i_bound.0 c.requires.i_bound.1 (c.loop-j.j + 1) fits)
 
 pub overflow_step-j : goal.overflow_step-j
@@ -35,9 +35,9 @@ pub loop-j-smaller : goal.loop-j-smaller
 loop-j-smaller c = omega arith
 
 pub loop-j-preserved : goal.loop-j-preserved
-loop-j-preserved c =     (omega arith, more c.args.block.now c.args.i c.loop-j.j c.loop-j.c c.places-c.result c.loop-j.invariant.1 c.places-c.ensures)
+loop-j-preserved c = (omega arith, more c.args.block.now c.args.i c.loop-j.j c.loop-j.c c.places-c.result c.loop-j.invariant.1 c.places-c.ensures)
 
 pub returns : goal.returns
-returns c =     let all : c.loop-j.j ≡ L.resources c.args.block.now = omega (arith, c.resources-n.ensures) in
+returns c = let all : c.loop-j.j ≡ L.resources c.args.block.now = omega (arith, c.resources-n.ensures) in
     let whole = c.loop-j.invariant.1 ∙ ap (stock_places_up_to (arena_of c.args.block.now c.args.i)) all in
     (whole, omega (arith, whole, few_stocks c.args.block.now c.requires.valid c.args.i c.requires.i_bound.0 c.requires.i_bound.1 (L.resources c.args.block.now) (omega arith)))

@@ -24,7 +24,7 @@ pub overflow_shr-set : goal.overflow_shr-set
 overflow_shr-set c = omega (arith, c.loop-k.invariant.1.near)
 
 pub lowest-requires : goal.lowest-requires
-lowest-requires c =     left_over c.args.set c.requires.0 c.loop-k.list c.loop-k.k c.loop-k.from c.loop-k.invariant.1 (omega (arith, c.loop-k-test.true, c.count-n.ensures))
+lowest-requires c = left_over c.args.set c.requires.0 c.loop-k.list c.loop-k.k c.loop-k.from c.loop-k.invariant.1 (omega (arith, c.loop-k-test.true, c.count-n.ensures))
 
 -- the list with one state more, at the place where one was found
 listed : (c : At-After-lowest) → Listing c.args.set (set c.loop-k.list c.loop-k.k (c.loop-k.from + c.lowest.result)) (c.loop-k.k + 1) (c.loop-k.from + c.lowest.result + 1)
@@ -61,5 +61,5 @@ pub shape_of-list : goal.shape_of-list
 shape_of-list c = c.loop-k.invariant.1.long ∙ sym c.requires.1
 
 pub returns : goal.returns
-returns c =     let n = c.count-n.ensures in let k : c.loop-k.k ≡ c.count-n.result = omega (arith, c.loop-k.invariant.0, c.loop-k-test.false) in
+returns c = let n = c.count-n.ensures in let k : c.loop-k.k ≡ c.count-n.result = omega (arith, c.loop-k.invariant.0, c.loop-k-test.false) in
     (subst (λ (n : ℕ). Lists (Bit c.args.set) c.loop-k.list n) k (listing_all c.args.set c.requires.0 c.loop-k.list c.loop-k.k c.loop-k.from c.loop-k.invariant.1 (k ∙ n)), n)

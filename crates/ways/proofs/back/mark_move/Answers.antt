@@ -49,7 +49,6 @@ module _ (start : At-Start) where
   full_narrow : Narrow (packed_in start.args.ways.now (start.args.row.places - 1))
   full_narrow = narrow (start.args.row.places - 1) (omega arith)
 
-
 pub overflow_sub-row : goal.overflow_sub-row
 overflow_sub-row c = omega (arith, c.requires.s_bound.2)
 
@@ -79,7 +78,6 @@ module _ (c : At-After-unpack-gives) where
   takes_narrow : Narrow (packed_in c.args.ways.now c.taken.result)
   takes_narrow = narrow c.before.before.before.before.before.before.before.before.before.before c.taken.result (omega (arith, c.taken.ensures.0, takes_small c.before.before.before.before.before.before.before.before.before.before))
 
-
 pub span_of-low-requires : goal.span_of-low-requires
 span_of-low-requires c = (omega (arith, c.unpack-left.ensures.0, left_narrow c.before), omega (arith, c.unpack-takes.ensures.0, takes_narrow c.before))
 
@@ -90,7 +88,7 @@ pub overflow_add-full : goal.overflow_add-full
 overflow_add-full c = omega (arith, c.unpack-full.ensures.1, full_narrow c.before.before.before.before.before.before.before.before.before.before.before.before.before.before.before)
 
 pub mark_box-requires : goal.mark_box-requires
-mark_box-requires c =     let full = full_narrow c.before.before.before.before.before.before.before.before.before.before.before.before.before.before.before in (
+mark_box-requires c = let full = full_narrow c.before.before.before.before.before.before.before.before.before.before.before.before.before.before.before in (
       omega (arith, c.span_of-low.ensures.1, c.unpack-full.ensures.0),
       omega (arith, c.span_of-high.ensures.1),
       omega (arith, c.unpack-full.ensures.1),

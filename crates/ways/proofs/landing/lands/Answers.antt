@@ -12,24 +12,24 @@ use Rattle.ways.proofs.Leading.{few, listed_small, given_small, narrow_here, lan
 use Rattle.ways.proofs.landing.lands.Goals as goal
 
 pub given-g-requires : goal.given-g-requires
-given-g-requires c =     let small = listed_small c.args.block.now c.requires.valid c.args.row c.args.ways.now c.requires.playable.1 c.args.spot.state c.args.k c.requires.state_bound.0 c.requires.state_bound.2 in
+given-g-requires c = let small = listed_small c.args.block.now c.requires.valid c.args.row c.args.ways.now c.requires.playable.1 c.args.spot.state c.args.k c.requires.state_bound.0 c.requires.state_bound.2 in
     (c.requires.playable.1.long, small.0, small.1)
 
 pub returns-then-g-eq0 : goal.returns-then-g-eq0
-returns-then-g-eq0 c =     spends_lands c.args.block.now c.requires.valid c.args.row c.requires.playable.0 c.args.ways.now c.requires.playable.1 c.args.spot.state c.args.spot.place c.args.k _ c.requires.state_bound.0 c.requires.state_bound.1 c.requires.state_bound.2 refl (sym c.given-g.ensures.0 ∙ c.if-g-eq0.true) (At c.in-At.y) (rw c.in-At.is at c.spends.ensures)
+returns-then-g-eq0 c = spends_lands c.args.block.now c.requires.valid c.args.row c.requires.playable.0 c.args.ways.now c.requires.playable.1 c.args.spot.state c.args.spot.place c.args.k _ c.requires.state_bound.0 c.requires.state_bound.1 c.requires.state_bound.2 refl (sym c.given-g.ensures.0 ∙ c.if-g-eq0.true) (At c.in-At.y) (rw c.in-At.is at c.spends.ensures)
 
 pub filled-requires : goal.filled-requires
-filled-requires c =     let narrow = narrow_here c.args.block.now c.requires.valid c.args.row c.requires.playable.0 c.args.ways.now c.requires.playable.1 c.args.spot.state c.requires.state_bound.0 in
+filled-requires c = let narrow = narrow_here c.args.block.now c.requires.valid c.args.row c.requires.playable.0 c.args.ways.now c.requires.playable.1 c.args.spot.state c.requires.state_bound.0 in
     let some = few c.args.block.now c.requires.valid c.args.row c.requires.playable.0 in
     let rest = (rw c.in-At.is at c.spends.ensures).1 in
-    let given : given_in c.args.ways.now c.args.spot.state c.args.k < c.args.row.places = omega (arith, given_small c.args.block.now c.requires.valid c.args.row c.requires.playable.0 c.args.ways.now c.requires.playable.1 c.args.spot.state c.args.spot.place c.args.k _ c.requires.state_bound.0 c.requires.state_bound.1 c.requires.state_bound.2 refl, c.requires.playable.0.places_are) in  record { ways_len = (c.requires.playable.1.long, omega arith, omega arith, c.given-g.ensures.1); narrow = (narrow (c.args.row.places - 1) (omega arith), narrow c.in-At.y (omega arith), narrow c.given-g.result (omega (arith, c.given-g.ensures.0))) }
+    let given : given_in c.args.ways.now c.args.spot.state c.args.k < c.args.row.places = omega (arith, given_small c.args.block.now c.requires.valid c.args.row c.requires.playable.0 c.args.ways.now c.requires.playable.1 c.args.spot.state c.args.spot.place c.args.k _ c.requires.state_bound.0 c.requires.state_bound.1 c.requires.state_bound.2 refl, c.requires.playable.0.places_are) in record { ways_len = (c.requires.playable.1.long, omega arith, omega arith, c.given-g.ensures.1); narrow = (narrow (c.args.row.places - 1) (omega arith), narrow c.in-At.y (omega arith), narrow c.given-g.result (omega (arith, c.given-g.ensures.0))) }
 
 pub returns-else-g-eq0 : goal.returns-else-g-eq0
-returns-else-g-eq0 c =     let (covers, rest) = rw c.in-At.is at c.spends.ensures in
+returns-else-g-eq0 c = let (covers, rest) = rw c.in-At.is at c.spends.ensures in
     lands_filled c.args.block.now c.requires.valid c.args.row c.requires.playable.0 c.args.ways.now c.requires.playable.1 c.args.spot.state c.args.spot.place c.args.k _ c.requires.state_bound.0 c.requires.state_bound.1 c.requires.state_bound.2 refl covers c.filled.result
     (c.filled.ensures
     ∙ ap₂ (λ (y g : ℕ). filled_place (packed_in c.args.ways.now (c.args.row.places - 1)) (packed_in c.args.ways.now y) (packed_in c.args.ways.now g)) (omega arith) c.given-g.ensures.0)
 
 pub returns-in-Unpaid : goal.returns-in-Unpaid
-returns-in-Unpaid c =     lands_nowhere c.args.block.now c.requires.valid c.args.row c.requires.playable.0 c.args.ways.now c.requires.playable.1 c.args.spot.state c.args.spot.place c.args.k _ c.requires.state_bound.0 c.requires.state_bound.1 c.requires.state_bound.2 refl
+returns-in-Unpaid c = lands_nowhere c.args.block.now c.requires.valid c.args.row c.requires.playable.0 c.args.ways.now c.requires.playable.1 c.args.spot.state c.args.spot.place c.args.k _ c.requires.state_bound.0 c.requires.state_bound.1 c.requires.state_bound.2 refl
     (rw c.in-Unpaid.is at c.spends.ensures)

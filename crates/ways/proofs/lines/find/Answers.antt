@@ -32,7 +32,7 @@ pub loop-k-preserved : goal.loop-k-preserved
 loop-k-preserved c = (omega (arith, c.loop-k-test.true), below_more _ _ c.loop-k.invariant.1 (λ e. c.if-number-m.false (c.number.ensures ∙ e)))
 
 pub returns : goal.returns
-returns c =     let all : c.count-n.result ≡ c.loop-k.k = omega (arith, c.loop-k-test.false, c.loop-k.invariant.0) in
+returns c = let all : c.count-n.result ≡ c.loop-k.k = omega (arith, c.loop-k-test.false, c.loop-k.invariant.0) in
     record {
       within = omega (arith, c.count-n.ensures);
       here = λ below. absurd (omega (arith, c.count-n.ensures));

@@ -16,7 +16,7 @@ pub loop-s-init : goal.loop-s-init
 loop-s-init c = (omega arith, below_none _)
 
 pub state_gives-requires : goal.state_gives-requires
-state_gives-requires c =     (c.requires.playable.1.long, omega (arith, c.states-n.ensures, c.loop-s-test.true, c.requires.valid.sized.states_fit), ((c.requires.playable.1.states c.loop-s.s (omega (arith, c.states-n.ensures, c.loop-s-test.true))).lines true).few)
+state_gives-requires c = (c.requires.playable.1.long, omega (arith, c.states-n.ensures, c.loop-s-test.true, c.requires.valid.sized.states_fit), ((c.requires.playable.1.states c.loop-s.s (omega (arith, c.states-n.ensures, c.loop-s-test.true))).lines true).few)
 
 pub returns-then-state_gives : goal.returns-then-state_gives
 returns-then-state_gives c = holds (c.loop-s.s, omega (arith, c.states-n.ensures, c.loop-s-test.true), D.truth c.state_gives.ensures c.if-state_gives.true)

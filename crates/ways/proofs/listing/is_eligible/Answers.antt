@@ -21,7 +21,7 @@ abbrev At-Else-not-ours : Type 0
 At-Else-not-ours = lts.Else1 tie.the-claims reads.Pre reads.Post tie.handed_clauses
 
 pub returns-then-not-ours : goal.returns-then-not-ours
-returns-then-not-ours c =     subst (λ (t : Bool). Decides (Eligible c.args.block.now c.args.row c.args.s t c.args.m) c.is_reply.result) (sym c.if-not-ours.true) c.is_reply.ensures
+returns-then-not-ours c = subst (λ (t : Bool). Decides (Eligible c.args.block.now c.args.row c.args.s t c.args.m) c.is_reply.result) (sym c.if-not-ours.true) c.is_reply.ensures
 
 -- past the first test, a move is asked for
 ours : (c : At-Else-not-ours) → (r : Bool) → Decides (Eligible c.args.block.now c.args.row c.args.s true c.args.m) r → Decides (Eligible c.args.block.now c.args.row c.args.s c.args.ours c.args.m) r

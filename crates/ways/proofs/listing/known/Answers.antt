@@ -24,7 +24,7 @@ listed_as b row t s ways one = record { lines = lines; effects = one.effects }
     lines false = let l = one.lines false in record { each = l.each; only = l.only; rising = l.rising; few = l.few }
 
 pub returns : goal.returns
-returns c =     (
+returns c = (
       record { inside = c.requires.playable.0.inside; strategic = c.requires.playable.0.strategic; places_are = c.requires.playable.0.places_are },
       record { states = λ s small. listed_as c.args.block.now c.args.row c.any_gives.result s c.args.ways.now (c.requires.playable.1.states s small); told = D.falsity c.any_gives.ensures; packed = c.requires.playable.1.packed; long = c.requires.playable.1.long },
       record { index_same = refl; into_same = refl; set_same = refl },

@@ -37,7 +37,6 @@ module _ (start : At-Start) (k : ℕ) (small : k < count_in start.args.ways.now 
   state_fits : L.next start.args.block.now start.args.s (start.args.m + number_in start.args.ways.now start.args.s false k) < 24
   state_fits = next_small start.args.block.now start.requires.valid start.args.row.index start.requires.playable.0.inside start.requires.playable.0.strategic start.args.s start.args.m (number_in start.args.ways.now start.args.s false k) start.requires.playable.1 start.requires.move_of reply
 
-
 pub count-n-requires : goal.count-n-requires
 count-n-requires c = (c.requires.playable.2, omega (arith, c.requires.playable.1, c.requires.valid.sized.states_fit))
 

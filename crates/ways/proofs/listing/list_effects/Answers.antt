@@ -41,7 +41,6 @@ module _ (s : ℕ) (l l' : List ℕ) (same : SameOutside (field_place s takes_at
   number_kept : (k : ℕ) → k < 64 → number_in l' s true k ≡ number_in l s true k
   number_kept k small = same.same (field_place s (2 + k)) (inl (omega arith))
 
-
 state_small : (start : At-Start) → start.args.s < 24
 state_small start = omega (arith, start.requires.playable.1, start.requires.valid.sized.states_fit)
 
@@ -80,7 +79,6 @@ module _ (c : At-After-number-m) where
         omega (arith, stocks_below G gifts (c.requires.playable.1, gives_fit G q m)),
       )
 
-
 pub effect_of-e-requires : goal.effect_of-e-requires
 effect_of-e-requires c = record { valid = c.requires.valid; i_bound = (c.requires.playable.0.inside, c.requires.playable.0.strategic, c.requires.playable.1); move_of = way c.before }
 
@@ -91,7 +89,6 @@ module _ (c : At-After-effect_of-e) where
 
   gives_is : c.effect_of-e.result.gives ≡ refill (arena_of c.args.block.now c.args.row.index) (full (arena_of c.args.block.now c.args.row.index) c.args.s) (number_in c.args.ways.now c.args.s true c.loop-k.k)
   gives_is = c.effect_of-e.ensures.1 ∙ ap (refill (arena_of c.args.block.now c.args.row.index) (full (arena_of c.args.block.now c.args.row.index) c.args.s)) (number_is c.before)
-
 
 pub set_effect-requires : goal.set_effect-requires
 set_effect-requires c = (
@@ -109,7 +106,7 @@ pub loop-k-smaller : goal.loop-k-smaller
 loop-k-smaller c = omega (arith, c.loop-k-test.true)
 
 pub loop-k-preserved : goal.loop-k-preserved
-loop-k-preserved c =     let G = arena_of c.args.block.now c.args.row.index in
+loop-k-preserved c = let G = arena_of c.args.block.now c.args.row.index in
     let takes : ℕ → ℕ = λ j. offset G (full G c.args.s) (number_in c.args.ways.now c.args.s true j) in
     let gives : ℕ → ℕ = λ j. refill G (full G c.args.s) (number_in c.args.ways.now c.args.s true j) in
     let state = state_small c.before.before.before.before.before.before.before.before.before.before.before.before in
@@ -126,7 +123,7 @@ pub shape_of-ways : goal.shape_of-ways
 shape_of-ways c = c.loop-k.invariant.2.long
 
 pub returns : goal.returns
-returns c =     let G = arena_of c.args.block.now c.args.row.index in  record { effects_of = λ k small.
+returns c = let G = arena_of c.args.block.now c.args.row.index in record { effects_of = λ k small.
           let below : k < count_in c.args.ways.now c.args.s true = omega (arith, count_kept c.args.s c.args.ways.now c.loop-k.ways c.loop-k.invariant.2) in
           let (takes, gives) = c.loop-k.invariant.1 k (omega (arith, c.count-n.ensures, c.loop-k-test.false)) in
           let number = sym (number_kept c.args.s c.args.ways.now c.loop-k.ways c.loop-k.invariant.2 k (omega (arith, c.requires.line_of.few))) in

@@ -34,7 +34,7 @@ pub numbers-limit-requires : goal.numbers-limit-requires
 numbers-limit-requires c = record { valid = c.requires.valid; i_bound = (c.requires.playable.0.inside, c.requires.playable.0.strategic); parts_table = c.requires.parts_table }
 
 pub loop-m-init : goal.loop-m-init
-loop-m-init c =     (omega arith, line_none (Listable c.args.block.now c.args.row c.args.s c.args.ours) (number_in c.args.ways.now c.args.s c.args.ours), outside_none (field_place c.args.s (line_at c.args.ours)) (field_place c.args.s (line_at c.args.ours) + 64) c.args.ways.now, λ k less. absurd (omega arith))
+loop-m-init c = (omega arith, line_none (Listable c.args.block.now c.args.row c.args.s c.args.ours) (number_in c.args.ways.now c.args.s c.args.ours), outside_none (field_place c.args.s (line_at c.args.ours)) (field_place c.args.s (line_at c.args.ours) + 64) c.args.ways.now, λ k less. absurd (omega arith))
 
 long : (c : At-In-loop-m) → length c.loop-m.ways ≡ 6704
 long c = c.loop-m.invariant.2.long ∙ c.requires.playable.2
@@ -85,7 +85,6 @@ module _ (c : At-After-is_eligible) where
       go (yes e) = here (subst (Ends c.args.block.now c.args.row c.args.s c.args.ours) e ends)
       go (no ne) = c.loop-m.invariant.3 k (omega arith) ends
 
-
 pub ends_line-requires : goal.ends_line-requires
 ends_line-requires c = record { valid = c.requires.valid; playable = (c.requires.playable.0, c.requires.playable.1); move_of = ours_move }
   where
@@ -98,9 +97,9 @@ pub shape_of-ways-then-ends_line : goal.shape_of-ways-then-ends_line
 shape_of-ways-then-ends_line c = (more c.before.before.before.before.before.before.before.before c.if-is_eligible.true c.set_number.new.ways c.set_number.ensures).1.long
 
 pub returns-then-ends_line : goal.returns-then-ends_line
-returns-then-ends_line c =     let is = eligible_here c.before.before.before.before.before.before.before.before c.if-is_eligible.true in
+returns-then-ends_line c = let is = eligible_here c.before.before.before.before.before.before.before.before c.if-is_eligible.true in
     let ends = eligible_ends c.args.block.now c.requires.valid c.args.row c.requires.playable.0 c.args.s c.args.ours c.loop-m.m is (D.truth c.ends_line.ensures c.if-ends_line.true) in
-    let (line, same) = more c.before.before.before.before.before.before.before.before c.if-is_eligible.true c.set_number.new.ways c.set_number.ensures in  record { line_of_2 = line_all (Listable c.args.block.now c.args.row c.args.s c.args.ours) (c.loop-m.m + 1) (c.loop-m.n + 1) (number_in c.set_number.new.ways c.args.s c.args.ours) (omega (arith, (next_small c.before.before.before.before.before.before.before.before.before).1))
+    let (line, same) = more c.before.before.before.before.before.before.before.before c.if-is_eligible.true c.set_number.new.ways c.set_number.ensures in record { line_of_2 = line_all (Listable c.args.block.now c.args.row c.args.s c.args.ours) (c.loop-m.m + 1) (c.loop-m.n + 1) (number_in c.set_number.new.ways c.args.s c.args.ours) (omega (arith, (next_small c.before.before.before.before.before.before.before.before.before).1))
           (listed_below c.args.block.now c.requires.valid c.args.row c.requires.playable.0 c.args.s c.args.ours c.loop-m.m ends) line; same_outside = same }
 
 pub overflow_step-m : goal.overflow_step-m
@@ -110,7 +109,7 @@ pub loop-m-smaller : goal.loop-m-smaller
 loop-m-smaller c = omega (arith, c.loop-m-test.true)
 
 pub loop-m-preserved : goal.loop-m-preserved
-loop-m-preserved c =     let small : c.loop-m.m + 1 ≤ c.numbers-limit.result = omega (arith, c.loop-m-test.true) in
+loop-m-preserved c = let small : c.loop-m.m + 1 ≤ c.numbers-limit.result = omega (arith, c.loop-m-test.true) in
     let Open : Type 0 = (k : ℕ) → k < c.loop-m.m + 1 → Ends c.args.block.now c.args.row c.args.s c.args.ours k → ⊥ in
     let After : List ℕ → ℕ → Type 0 = λ l n.
     (c.loop-m.m + 1 ≤ c.numbers-limit.result) × LineBelow (Listable c.args.block.now c.args.row c.args.s c.args.ours) (c.loop-m.m + 1) (number_in l c.args.s c.args.ours) n

@@ -40,7 +40,7 @@ pub loop-s-smaller : goal.loop-s-smaller
 loop-s-smaller c = omega (arith, c.loop-s-test.true)
 
 pub loop-s-preserved : goal.loop-s-preserved
-loop-s-preserved c =     (
+loop-s-preserved c = (
       omega (arith, c.loop-s-test.true),
       states_next c.args.block.now c.args.row c.loop-s.s c.loop-s.ways c.list_state.new.ways c.list_state.ensures.same_outside c.loop-s.invariant.1 c.list_state.ensures.state_listed,
       packs_kept c.args.block.now c.args.row c.loop-s.s c.loop-s.ways c.list_state.new.ways c.list_state.ensures.same_outside c.requires.valid c.requires.playable.0 c.loop-s.invariant.2,
@@ -51,4 +51,4 @@ pub shape_of-ways : goal.shape_of-ways
 shape_of-ways c = c.loop-s.invariant.3 ∙ sym c.requires.playable.1
 
 pub returns : goal.returns
-returns c =     record { told = λ never. absurd (apart _ c.requires.playable.2 never); states = λ s small. c.loop-s.invariant.1 s (omega (arith, c.states-n.ensures, c.loop-s-test.false)); packed = c.loop-s.invariant.2; long = c.loop-s.invariant.3 }
+returns c = record { told = λ never. absurd (apart _ c.requires.playable.2 never); states = λ s small. c.loop-s.invariant.1 s (omega (arith, c.states-n.ensures, c.loop-s-test.false)); packed = c.loop-s.invariant.2; long = c.loop-s.invariant.3 }

@@ -32,7 +32,7 @@ pub taken-requires : goal.taken-requires
 taken-requires c = record { valid = c.requires.valid; i_bound = (c.requires.i_bound.0, c.requires.i_bound.2, resource_at c.before.before); move_of = c.requires.move_of }
 
 pub returns-then-places-taken : goal.returns-then-places-taken
-returns-then-places-taken c =     let G = arena_of c.args.block.now c.args.i in
+returns-then-places-taken c = let G = arena_of c.args.block.now c.args.i in
     fails (λ all. omega (arith, full_taken (G.bounds c.loop-j.j) (cost G (full G c.args.s) c.args.m c.loop-j.j) (charge G (full G c.args.s) c.args.m c.loop-j.j) (all c.loop-j.j (resource_at c.before.before.before.before)), c.places.ensures, c.taken.ensures, c.if-places-taken.true))
 
 pub overflow_step-j : goal.overflow_step-j
@@ -42,7 +42,7 @@ pub loop-j-smaller : goal.loop-j-smaller
 loop-j-smaller c = omega (arith, c.loop-j-test.true)
 
 pub loop-j-preserved : goal.loop-j-preserved
-loop-j-preserved c =     let G = arena_of c.args.block.now c.args.i in
+loop-j-preserved c = let G = arena_of c.args.block.now c.args.i in
     (omega (arith, c.loop-j-test.true), below_more _ _ c.loop-j.invariant.1 (taken_full (G.bounds c.loop-j.j) (cost G (full G c.args.s) c.args.m c.loop-j.j) (charge G (full G c.args.s) c.args.m c.loop-j.j) (omega (arith, c.places.ensures, c.taken.ensures, c.if-places-taken.false))))
 
 pub returns : goal.returns

@@ -29,13 +29,13 @@ pub loop-x-smaller : goal.loop-x-smaller
 loop-x-smaller c = omega (arith, c.loop-x-test.true)
 
 pub loop-x-preserved : goal.loop-x-preserved
-loop-x-preserved c =     (omega (arith, c.loop-x-test.true), stored_more (PackedAt (arena_of c.args.block.now c.args.row.index)) c.set_packed.ensures c.pack_at.ensures.0 c.loop-x.invariant.1, c.set_packed.ensures.kept ∙ c.loop-x.invariant.2)
+loop-x-preserved c = (omega (arith, c.loop-x-test.true), stored_more (PackedAt (arena_of c.args.block.now c.args.row.index)) c.set_packed.ensures c.pack_at.ensures.0 c.loop-x.invariant.1, c.set_packed.ensures.kept ∙ c.loop-x.invariant.2)
 
 pub shape_of-ways : goal.shape_of-ways
 shape_of-ways c = c.loop-x.invariant.2
 
 pub returns : goal.returns
-returns c =     let G = arena_of c.args.block.now c.args.row.index in (
+returns c = let G = arena_of c.args.block.now c.args.row.index in (
       λ p fits. c.loop-x.invariant.1 (number G (stocks_of G p)) (omega (arith, stocks_below G p fits, c.requires.playable.0.places_are, c.loop-x-test.false)) p fits refl,
       c.loop-x.invariant.2 ∙ c.requires.playable.1,
     )

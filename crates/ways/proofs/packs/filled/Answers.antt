@@ -25,7 +25,6 @@ module _ (c : At-After-smaller-high) where
   product_small : c.smaller-low.result * (c.packed-full.result / 32 + 1) ≤ 15 * 16
   product_small = mul-le-mul digits_small.0 digits_small.2
 
-
 pub overflow_mul-result : goal.overflow_mul-result
 overflow_mul-result c = omega (arith, product_small c.before)
 
@@ -33,7 +32,7 @@ pub overflow_add-result-2 : goal.overflow_add-result-2
 overflow_add-result-2 c = omega (arith, product_small c.before, digits_small c.before)
 
 pub returns : goal.returns
-returns c =     let sum : c.packed.result + c.packed-2.result ≡ _ = ap₂ ◌+◌ c.packed.ensures.0 c.packed-2.ensures.0 in
+returns c = let sum : c.packed.result + c.packed-2.result ≡ _ = ap₂ ◌+◌ c.packed.ensures.0 c.packed-2.ensures.0 in
     ap₂ (λ (u v : ℕ). u * (c.packed-full.result / 32 + 1) + v) c.smaller-low.ensures c.smaller-high.ensures
     ∙ ap (λ (w : ℕ). min (c.packed-full.result % 32) ((c.packed.result + c.packed-2.result) % 32) * w + min (c.packed-full.result / 32) ((c.packed.result + c.packed-2.result) / 32)) (add-one (c.packed-full.result / 32))
     ∙ ap₂ (λ (f w : ℕ). min (f % 32) (w % 32) * suc (f / 32) + min (f / 32) (w / 32)) c.packed-full.ensures.0 sum

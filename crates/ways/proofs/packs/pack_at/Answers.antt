@@ -49,22 +49,11 @@ module _ (c : At-After-places-c) where
       packing_next c.args.block.now c.requires.valid c.args.i c.args.x (c.loop-j.j - 1) c.loop-j.rest c.loop-j.packed c.places-c.result c.places-c.ensures some few
       (subst (λ (j : ℕ). PackingTo c.args.block.now c.args.i c.args.x j c.loop-j.rest c.loop-j.packed) one c.loop-j.invariant)
 
-
 pub overflow_mul-packed : goal.overflow_mul-packed
 overflow_mul-packed c = record { fits = omega (arith, c.loop-j.invariant.small) }
 
--- NOGOAL
--- rem-packed : tie.Need-nonzero-rem-packed invariant-loop decreases-loop
--- rem-packed c = omega (arith, some c)
--- 
-
 pub overflow_add-packed : goal.overflow_add-packed
 overflow_add-packed c = record { fits = omega (arith, (next c.before).small) }
-
--- NOGOAL
--- div-rest : tie.Need-nonzero-div-rest invariant-loop decreases-loop
--- div-rest c = omega (arith, some c)
--- 
 
 pub loop-j-smaller : goal.loop-j-smaller
 loop-j-smaller c = omega (arith, c.loop-j-test.true)
@@ -73,5 +62,5 @@ pub loop-j-preserved : goal.loop-j-preserved
 loop-j-preserved c = next c.before
 
 pub returns : goal.returns
-returns c =     let none : c.loop-j.j ≡ 0 = omega (arith, c.loop-j-test.false) in
+returns c = let none : c.loop-j.j ≡ 0 = omega (arith, c.loop-j-test.false) in
     (packing_done c.args.block.now c.args.i c.args.x c.loop-j.rest c.loop-j.packed (subst (λ (j : ℕ). PackingTo c.args.block.now c.args.i c.args.x j c.loop-j.rest c.loop-j.packed) none c.loop-j.invariant), c.loop-j.invariant.small)

@@ -32,7 +32,6 @@ module _ (start : At-Start) where
   inside : L.next start.args.block.now start.args.step.state (start.args.step.number + number_in start.args.ways.now start.args.step.state false start.args.k) * start.args.row.places + start.args.step.place < 6144
   inside = reply_inside start.args.block.now start.requires.valid start.args.row start.requires.playable.0 start.args.step.state start.args.step.number start.args.step.place start.requires.made.0 (number_in start.args.ways.now start.args.step.state false start.args.k) reply
 
-
 pub number-r-requires : goal.number-r-requires
 number-r-requires c = (c.requires.playable.1.long, state_small c.before.before.before.before, omega (arith, c.requires.made.1, ((c.requires.playable.1.states c.args.step.state c.requires.made.0.0).lines false).few))
 

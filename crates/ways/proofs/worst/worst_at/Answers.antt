@@ -29,7 +29,6 @@ module _ (start : At-Start) where
       → WorstWithin start.args.block.now start.args.row start.args.ranks.now start.args.step.state start.args.step.number start.args.step.place start.args.limit.most start.args.limit.rank v
   worst v = best_worst start.args.block.now start.requires.valid start.args.row start.requires.playable.0 start.args.step.state start.args.step.number start.args.step.place start.requires.made start.args.ways.now (start.requires.playable.1.states start.args.step.state start.requires.made.0) start.args.ranks.now start.args.limit.most start.args.limit.rank v
 
-
 pub rank_after-best-requires : goal.rank_after-best-requires
 rank_after-best-requires c = record { valid = c.requires.valid; playable = c.requires.playable; made = (c.requires.made, some c.before.before.before.before) }
 
@@ -64,7 +63,7 @@ pub loop-k-smaller : goal.loop-k-smaller
 loop-k-smaller c = omega (arith, c.loop-k-test.true)
 
 pub loop-k-preserved : goal.loop-k-preserved
-loop-k-preserved c =     (
+loop-k-preserved c = (
       (omega (arith, c.loop-k.invariant.0), omega (arith, c.loop-k-test.true)),
       extreme_next c.args.limit.most (rank_after c.args.block.now c.args.row c.args.ways.now c.args.ranks.now c.args.step.state c.args.step.number c.args.step.place) c.loop-k.k c.rank_after.result c.loop-k.best c.further-best.result
           c.rank_after.ensures.0 c.loop-k.invariant.1 c.further-best.ensures,
@@ -72,7 +71,7 @@ loop-k-preserved c =     (
     )
 
 pub returns : goal.returns
-returns c =     let all : c.loop-k.k ≡ count_in c.args.ways.now c.args.step.state false = omega (arith, c.loop-k.invariant.0, c.loop-k-test.false, c.count-n.ensures) in  record { worst_within = worst c.before.before.before.before.before.before.before.before.before.before.before.before c.further.result (record {
+returns c = let all : c.loop-k.k ≡ count_in c.args.ways.now c.args.step.state false = omega (arith, c.loop-k.invariant.0, c.loop-k-test.false, c.count-n.ensures) in record { worst_within = worst c.before.before.before.before.before.before.before.before.before.before.before.before c.further.result (record {
         worst = c.loop-k.best;
         extreme = subst (λ (n : ℕ). Extreme c.args.limit.most n (rank_after c.args.block.now c.args.row c.args.ways.now c.args.ranks.now c.args.step.state c.args.step.number c.args.step.place) c.loop-k.best) all c.loop-k.invariant.1;
         further = c.further.ensures;

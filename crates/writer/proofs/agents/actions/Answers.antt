@@ -23,7 +23,7 @@ pub overflow_sub-actions : goal.overflow_sub-actions
 overflow_sub-actions c = omega arith
 
 pub costs-next-requires : goal.costs-next-requires
-costs-next-requires c =     let few = c.requires.valid.0.counted c.args.s c.args.a (omega arith) (omega arith) in
+costs-next-requires c = let few = c.requires.valid.0.counted c.args.s c.args.a (omega arith) (omega arith) in
      record { valid = (c.requires.valid.0, omega arith); s_lt_max_states = omega arith }
 
 pub overflow_step-k : goal.overflow_step-k
@@ -33,11 +33,11 @@ pub loop-k-smaller : goal.loop-k-smaller
 loop-k-smaller c = omega arith
 
 pub loop-k-preserved : goal.loop-k-preserved
-loop-k-preserved c =     (omega arith, (omega arith, (omega arith, looped_more (actions_loop (written_sizes c.args.block.now) c.args.s c.args.a) c.loop-k.invariant.1.1.1 (omega arith) c.costs-next.ensures.0)))
+loop-k-preserved c = (omega arith, (omega arith, (omega arith, looped_more (actions_loop (written_sizes c.args.block.now) c.args.s c.args.a) c.loop-k.invariant.1.1.1 (omega arith) c.costs-next.ensures.0)))
 
 pub shape_of-text : goal.shape_of-text
 shape_of-text c = omega arith
 
 pub returns : goal.returns
-returns c =     let few = c.requires.valid.0.counted c.args.s c.args.a (omega arith) (omega arith) in
+returns c = let few = c.requires.valid.0.counted c.args.s c.args.a (omega arith) (omega arith) in
     (looped_all (actions_loop (written_sizes c.args.block.now) c.args.s c.args.a) (rw c.count-actions.ensures at c.loop-k.invariant.1.1.1) (omega arith), omega arith)

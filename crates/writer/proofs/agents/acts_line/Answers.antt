@@ -8,21 +8,16 @@ use Rattle.text.specs.Job.{acts_line, index}
 use borrow.Author.Rules.{rules}
 use Rattle.writer.proofs.agents.acts_line.Goals as goal
 
--- NOGOAL
--- slice-aggregate-word : tie.Need-slice-aggregate-word
--- slice-aggregate-word c = search rules
--- 
-
 pub number-costs-requires : goal.number-costs-requires
-number-costs-requires c =     omega (arith, c.shared_slice_known-1.given (place_of (Count c.args.s c.args.a)), c.number-agent.ensures.upper_bound.1 (omega arith), c.number-count.ensures.upper_bound.1 (omega arith))
+number-costs-requires c = omega (arith, c.shared_slice_known-1.given (place_of (Count c.args.s c.args.a)), c.number-agent.ensures.upper_bound.1 (omega arith), c.number-count.ensures.upper_bound.1 (omega arith))
 
 pub actions-requires : goal.actions-requires
-actions-requires c =     let few = c.requires.valid.0.counted c.args.s c.args.a c.requires.s_bound.0 c.requires.s_bound.1 in
+actions-requires c = let few = c.requires.valid.0.counted c.args.s c.args.a c.requires.s_bound.0 c.requires.s_bound.1 in
      record { valid = (c.requires.valid.0, omega (arith, c.number-agent.ensures.upper_bound.1 (omega arith), c.number-count.ensures.upper_bound.1 (omega arith))); s_bound = c.requires.s_bound }
 
 pub returns : goal.returns
 unfolding acts_line index
-returns c =     let few = c.requires.valid.0.counted c.args.s c.args.a c.requires.s_bound.0 c.requires.s_bound.1 in (
+returns c = let few = c.requires.valid.0.counted c.args.s c.args.a c.requires.s_bound.0 c.requires.s_bound.1 in (
       λ f.
           rw c.count.ensures at (
           c.actions.ensures.0 (f (L.count c.args.block.now c.args.s c.args.a))

@@ -26,11 +26,11 @@ pub loop-a-smaller : goal.loop-a-smaller
 loop-a-smaller c = omega arith
 
 pub loop-a-preserved : goal.loop-a-preserved
-loop-a-preserved c =     (omega arith, (omega arith, (omega arith, collected_more c.loop-a.invariant.1.1.1 (omega arith) c.acts_line-next.ensures.0)))
+loop-a-preserved c = (omega arith, (omega arith, (omega arith, collected_more c.loop-a.invariant.1.1.1 (omega arith) c.acts_line-next.ensures.0)))
 
 pub shape_of-text : goal.shape_of-text
 shape_of-text c = omega arith
 
 pub returns : goal.returns
-returns c =     let all : c.agents-agents.result ≡ c.loop-a.a = omega arith in
+returns c = let all : c.agents-agents.result ≡ c.loop-a.a = omega arith in
     (collected_all (rw c.agents-agents.ensures at c.loop-a.invariant.1.1.1) (sym c.agents-agents.ensures ∙ all), omega arith)

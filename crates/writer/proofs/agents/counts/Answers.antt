@@ -31,5 +31,5 @@ pub loop-a-preserved : goal.loop-a-preserved
 loop-a-preserved c = (omega arith, rw (add-one, c.count.ensures, c.loop-a.invariant.1) refl)
 
 pub returns : goal.returns
-returns c =     let all : c.loop-a.a ≡ c.agents-agents.result = omega arith in
+returns c = let all : c.loop-a.a ≡ c.agents-agents.result = omega arith in
     c.loop-a.invariant.1 ∙ ap (counts_to c.args.block.now c.args.s) (all ∙ c.agents-agents.ensures)

@@ -17,7 +17,7 @@ row_lines-requires c = (c.requires.0, omega arith)
 
 pub returns : goal.returns
 unfolding job
-returns c =     let z = written_sizes c.args.block.now in (
+returns c = let z = written_sizes c.args.block.now in (
       sym (append-nil _)
           ∙ c.row_lines.ensures.0 end
           ∙ c.states-rows.ensures.0 (row_lines z (L.rows c.args.block.now) 0 end)

@@ -37,11 +37,11 @@ pub loop-j-smaller : goal.loop-j-smaller
 loop-j-smaller c = omega arith
 
 pub loop-j-preserved : goal.loop-j-preserved
-loop-j-preserved c =     (omega arith, (omega arith, (omega arith, collected_more c.loop-j.invariant.1.1.1 (omega arith) (λ f. rw (c.resource_kind-kind.ensures, c.list_end.ensures.0) at (c.resource-next.ensures.0 (write (f (resource_kind c.args.block.now c.loop-j.j)) c.args.block.now))))))
+loop-j-preserved c = (omega arith, (omega arith, (omega arith, collected_more c.loop-j.invariant.1.1.1 (omega arith) (λ f. rw (c.resource_kind-kind.ensures, c.list_end.ensures.0) at (c.resource-next.ensures.0 (write (f (resource_kind c.args.block.now c.loop-j.j)) c.args.block.now))))))
 
 pub shape_of-text : goal.shape_of-text
 shape_of-text c = omega arith
 
 pub returns : goal.returns
-returns c =     let all : c.resources-resources.result ≡ c.loop-j.j = omega arith in
+returns c = let all : c.resources-resources.result ≡ c.loop-j.j = omega arith in
     (collected_all (rw c.resources-resources.ensures at c.loop-j.invariant.1.1.1) (sym c.resources-resources.ensures ∙ all), omega arith)

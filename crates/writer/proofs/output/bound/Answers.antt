@@ -5,14 +5,9 @@ use Rattle.writer.proofs.Writing.{bound_number}
 use borrow.Author.Rules.{rules}
 use Rattle.writer.proofs.output.bound.Goals as goal
 
--- NOGOAL
--- slice-aggregate-word : tie.Need-slice-aggregate-word
--- slice-aggregate-word c = search rules
--- 
-
 pub returns-then-v-eq-UNLIMITED : goal.returns-then-v-eq-UNLIMITED
 unfolding bound_field
-returns-then-v-eq-UNLIMITED c =     (λ rest. rw c.if-v-eq-UNLIMITED.true (c.word.ensures.0 rest), omega arith)
+returns-then-v-eq-UNLIMITED c = (λ rest. rw c.if-v-eq-UNLIMITED.true (c.word.ensures.0 rest), omega arith)
 
 pub returns : goal.returns
-returns c =     (λ rest. rw (bound_number _ (omega arith) c.if-v-eq-UNLIMITED.false) (c.number.ensures.adds rest), omega arith)
+returns c = (λ rest. rw (bound_number _ (omega arith) c.if-v-eq-UNLIMITED.false) (c.number.ensures.adds rest), omega arith)

@@ -5,36 +5,6 @@ use Rattle.text.specs.Job.{kind_word}
 use borrow.Author.Rules.{rules}
 use Rattle.writer.proofs.output.kind.Goals as goal
 
--- NOGOAL
--- slice-aggregate-word : tie.Need-slice-aggregate-word
--- slice-aggregate-word c = search rules
--- 
-
--- NOGOAL
--- slice-aggregate-word-2 : tie.Need-slice-aggregate-word-2
--- slice-aggregate-word-2 c = search rules
--- 
-
--- NOGOAL
--- slice-aggregate-word-3 : tie.Need-slice-aggregate-word-3
--- slice-aggregate-word-3 c = search rules
--- 
-
--- NOGOAL
--- slice-aggregate-word-4 : tie.Need-slice-aggregate-word-4
--- slice-aggregate-word-4 c = search rules
--- 
-
--- NOGOAL
--- slice-aggregate-word-5 : tie.Need-slice-aggregate-word-5
--- slice-aggregate-word-5 c = search rules
--- 
-
--- NOGOAL
--- slice-aggregate-word-6 : tie.Need-slice-aggregate-word-6
--- slice-aggregate-word-6 c = search rules
--- 
-
 pub returns-in-0 : goal.returns-in-0
 unfolding kind_word
 returns-in-0 c = (λ rest. rw c.in-0.is (c.word.ensures.0 rest), omega arith)
@@ -57,5 +27,5 @@ returns-in-4 c = (λ rest. rw c.in-4.is (c.word-in-4.ensures.0 rest), omega arit
 
 pub returns-in_default : goal.returns-in_default
 unfolding kind_word
-returns-in_default c =     let last : c.args.k ≡ 5 = omega arith in
+returns-in_default c = let last : c.args.k ≡ 5 = omega arith in
     (λ rest. rw last (c.word-in_default.ensures.0 rest), omega arith)

@@ -6,4 +6,4 @@ use borrow.Author.Rules.{rules}
 use Rattle.writer.proofs.output.resource.Goals as goal
 
 pub returns : goal.returns
-returns c =     (λ rest. rw append_assoc (c.put.ensures.0 rest ∙ c.resource_word-end.ensures.0 _), omega (arith, c.put.ensures.1, c.resource_word-end.ensures.1))
+returns c = (λ rest. rw append_assoc (c.put.ensures.0 rest ∙ c.resource_word-end.ensures.0 _), omega (arith, c.put.ensures.1, c.resource_word-end.ensures.1))

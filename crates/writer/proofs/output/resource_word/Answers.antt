@@ -5,21 +5,11 @@ use Rattle.text.specs.Job.{resource_word}
 use borrow.Author.Rules.{rules}
 use Rattle.writer.proofs.output.resource_word.Goals as goal
 
--- NOGOAL
--- slice-aggregate-word : tie.Need-slice-aggregate-word
--- slice-aggregate-word c = search rules
--- 
-
--- NOGOAL
--- slice-aggregate-word-2 : tie.Need-slice-aggregate-word-2
--- slice-aggregate-word-2 c = search rules
--- 
-
 pub returns-in-0 : goal.returns-in-0
 unfolding resource_word
 returns-in-0 c = (λ rest. rw c.in-0.is (c.word.ensures.0 rest), omega arith)
 
 pub returns-in_default : goal.returns-in_default
 unfolding resource_word
-returns-in_default c =     let last : c.args.k ≡ 1 = omega arith in
+returns-in_default c = let last : c.args.k ≡ 1 = omega arith in
     (λ rest. rw last (c.word-in_default.ensures.0 rest), omega arith)

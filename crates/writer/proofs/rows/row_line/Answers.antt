@@ -17,4 +17,4 @@ operand_fields-requires c = record { valid = (c.requires.valid.0, omega arith); 
 
 pub returns : goal.returns
 unfolding row_line
-returns c =     (λ f. rw c.kind-k.ensures at (c.operand_fields.ensures.0 f ∙ c.team_fields-operands.ensures.0 (operand_fields (written_sizes c.args.block.now) c.args.i c.kind-k.result f) ∙ c.kind-team.ensures.0 _), omega arith)
+returns c = (λ f. rw c.kind-k.ensures at (c.operand_fields.ensures.0 f ∙ c.team_fields-operands.ensures.0 (operand_fields (written_sizes c.args.block.now) c.args.i c.kind-k.result f) ∙ c.kind-team.ensures.0 _), omega arith)

@@ -26,10 +26,10 @@ pub loop-i-smaller : goal.loop-i-smaller
 loop-i-smaller c = omega arith
 
 pub loop-i-preserved : goal.loop-i-preserved
-loop-i-preserved c =     (omega arith, (omega arith, (omega arith, looped_more (rows_loop (written_sizes c.args.block.now)) c.loop-i.invariant.1.1.1 (omega arith) c.row_line-next.ensures.0)))
+loop-i-preserved c = (omega arith, (omega arith, (omega arith, looped_more (rows_loop (written_sizes c.args.block.now)) c.loop-i.invariant.1.1.1 (omega arith) c.row_line-next.ensures.0)))
 
 pub shape_of-text : goal.shape_of-text
 shape_of-text c = omega arith
 
 pub returns : goal.returns
-returns c =     (looped_all (rows_loop (written_sizes c.args.block.now)) (rw c.rows-rows.ensures at c.loop-i.invariant.1.1.1) (omega arith), omega arith)
+returns c = (looped_all (rows_loop (written_sizes c.args.block.now)) (rw c.rows-rows.ensures at c.loop-i.invariant.1.1.1) (omega arith), omega arith)

@@ -16,7 +16,7 @@ bounds-requires c = record { valid = (c.requires.valid.0, omega arith); i_lt_max
 
 pub returns-then-strategic : goal.returns-then-strategic
 unfolding team_fields
-returns-then-strategic c =     (λ f. rw (sym (strategic_is c.strategic.ensures) ∙ c.if-strategic.true) (rw c.team.ensures at (c.bounds.ensures.0 f ∙ c.number-next.ensures.adds _)), omega arith)
+returns-then-strategic c = (λ f. rw (sym (strategic_is c.strategic.ensures) ∙ c.if-strategic.true) (rw c.team.ensures at (c.bounds.ensures.0 f ∙ c.number-next.ensures.adds _)), omega arith)
 
 pub returns : goal.returns
 unfolding team_fields

@@ -18,11 +18,6 @@ use Rattle.writer.proofs.states.go_line.Tie as tie
 abbrev At-After-number-next : Type 0
 At-After-number-next = lts.After-number tie.the-claims reads.Pre reads.Post goal.the-invariant-loop-joint goal.the-decreases-loop-joint tie.handed_clauses
 
--- NOGOAL
--- slice-aggregate-word : tie.Need-slice-aggregate-word invariant-loop decreases-loop
--- slice-aggregate-word c = search rules
--- 
-
 pub loop-joint-init : goal.loop-joint-init
 loop-joint-init c = (omega arith, (refl, (omega arith, looped_none)))
 
@@ -40,12 +35,12 @@ pub loop-joint-smaller : goal.loop-joint-smaller
 loop-joint-smaller c = omega arith
 
 pub loop-joint-preserved : goal.loop-joint-preserved
-loop-joint-preserved c =     (omega arith, (omega arith, (omega arith, looped_more (nexts_loop (written_sizes c.args.block.now) c.args.s _) c.loop-joint.invariant.1.1.1 (omega arith) c.next_field_if-next.ensures.0)))
+loop-joint-preserved c = (omega arith, (omega arith, (omega arith, looped_more (nexts_loop (written_sizes c.args.block.now) c.args.s _) c.loop-joint.invariant.1.1.1 (omega arith) c.next_field_if-next.ensures.0)))
 
 pub shape_of-text : goal.shape_of-text
 shape_of-text c = omega arith
 
 pub returns : goal.returns
 unfolding J.go_state J.go_word J.index
-returns c =     let nexts = looped_all (nexts_loop (written_sizes c.args.block.now) c.args.s _) c.loop-joint.invariant.1.1.1 (omega arith) in
+returns c = let nexts = looped_all (nexts_loop (written_sizes c.args.block.now) c.args.s _) c.loop-joint.invariant.1.1.1 (omega arith) in
     (λ f. nexts f ∙ c.number-next.ensures.adds _ ∙ c.word-state.ensures.0 _, omega (arith, c.loop-joint.invariant, begins c.before.before.before.before.before))

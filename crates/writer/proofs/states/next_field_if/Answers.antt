@@ -13,7 +13,7 @@ number-requires c = omega (arith, c.shared_slice_known-1.given (place_of (Next c
 
 pub returns-then-possible : goal.returns-then-possible
 unfolding next_field go_actions
-returns-then-possible c =     (λ f. rw (sym c.possible.ensures ∙ c.if-possible.true) (rw (c.next.ensures, c.next_end-sep.ensures.0) at (c.number.ensures.adds (write f c.args.block.now))), omega (arith, c.number.ensures.upper_bound))
+returns-then-possible c = (λ f. rw (sym c.possible.ensures ∙ c.if-possible.true) (rw (c.next.ensures, c.next_end-sep.ensures.0) at (c.number.ensures.adds (write f c.args.block.now))), omega (arith, c.number.ensures.upper_bound))
 
 pub returns : goal.returns
 returns c = (λ f. rw (sym c.possible.ensures ∙ c.if-possible.false) refl, omega arith)

@@ -8,14 +8,9 @@ use Rattle.text.specs.Job.{state_line, index}
 use borrow.Author.Rules.{rules}
 use Rattle.writer.proofs.states.state_line.Goals as goal
 
--- NOGOAL
--- slice-aggregate-word : tie.Need-slice-aggregate-word
--- slice-aggregate-word c = search rules
--- 
-
 pub number-requires : goal.number-requires
-number-requires c =     omega (arith, c.shared_slice_known-1.given (place_of (Mask c.args.s)), c.number-mask.ensures.upper_bound.1 (omega arith))
+number-requires c = omega (arith, c.shared_slice_known-1.given (place_of (Mask c.args.s)), c.number-mask.ensures.upper_bound.1 (omega arith))
 
 pub returns : goal.returns
 unfolding state_line index
-returns c =     (λ f. rw c.mask.ensures at (c.number.ensures.adds (write f c.args.block.now) ∙ c.number-mask.ensures.adds _ ∙ c.word-state.ensures.0 _), omega (arith, c.number-mask.ensures.upper_bound.1 (omega arith)))
+returns c = (λ f. rw c.mask.ensures at (c.number.ensures.adds (write f c.args.block.now) ∙ c.number-mask.ensures.adds _ ∙ c.word-state.ensures.0 _), omega (arith, c.number-mask.ensures.upper_bound.1 (omega arith)))

@@ -16,7 +16,7 @@ go_line-requires c = record { valid = (c.requires.valid.0, omega arith); s_lt_ma
 
 pub returns : goal.returns
 unfolding state_lines
-returns c =     let z = written_sizes c.args.block.now in (
+returns c = let z = written_sizes c.args.block.now in (
       λ f.
           rw c.counts.ensures at (c.go_line.ensures.0 f)
           ∙ c.agent_lines-go.ensures.0 (λ counts. go_state z c.args.s (next_fields z c.args.s counts max_joint 0 f))

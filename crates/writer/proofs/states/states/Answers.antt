@@ -26,10 +26,10 @@ pub loop-s-smaller : goal.loop-s-smaller
 loop-s-smaller c = omega arith
 
 pub loop-s-preserved : goal.loop-s-preserved
-loop-s-preserved c =     (omega arith, (omega arith, (omega arith, looped_more (states_loop (written_sizes c.args.block.now)) c.loop-s.invariant.1.1.1 (omega arith) c.state_lines-next.ensures.0)))
+loop-s-preserved c = (omega arith, (omega arith, (omega arith, looped_more (states_loop (written_sizes c.args.block.now)) c.loop-s.invariant.1.1.1 (omega arith) c.state_lines-next.ensures.0)))
 
 pub shape_of-text : goal.shape_of-text
 shape_of-text c = omega arith
 
 pub returns : goal.returns
-returns c =     (looped_all (states_loop (written_sizes c.args.block.now)) (rw c.states-states.ensures at c.loop-s.invariant.1.1.1) (omega arith), omega arith)
+returns c = (looped_all (states_loop (written_sizes c.args.block.now)) (rw c.states-states.ensures at c.loop-s.invariant.1.1.1) (omega arith), omega arith)
