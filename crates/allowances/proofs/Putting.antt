@@ -2,7 +2,7 @@
 -- pair is enough. Assumes nothing.
 use mathlib.Core.List.{List}
 use mathlib.Core.Logic.{◌↔◌, inr}
-use mathlib.Core.Path.{◌≡◌, refl, sym, ◌∙◌, ap, subst}
+use mathlib.Core.Path.{◌≡◌, refl, ◌∙◌, subst}
 use Prim.Native.Nat.{ℕ, ◌+◌, ◌≤◌, ◌<◌}
 use native.Mathlib.Omega.{arith}
 use lib.ListN.{set, length, length-set}
@@ -13,10 +13,10 @@ use Rattle.block.specs.Layout.{Block, Strategic, place_of}
 use Rattle.block.specs.Inner.Valid.{Valid}
 use Rattle.block.specs.Inner.OneRow.{OnlyFields, IsBound, SameAim}
 use Rattle.block.specs.declared.layout.Place.TheVariants.{Field}
-use Rattle.block.proofs.OneRow.{same_resources, same_states, same_rows, own_aim, row_same, valid_same}
+use Rattle.block.proofs.OneRow.{same_states, same_rows, own_aim, row_same, valid_same}
 use Rattle.game.specs.Rbatl.{Bounds, limit, unlimited}
 use Rattle.game.specs.Position.{number, full}
-use Rattle.game.specs.Model.{bound_of, bounds_by, bounds_of, arena_of, RowTrue, RowTrueWith, RowSet}
+use Rattle.game.specs.Model.{bound_of, bounds_by, arena_of, RowTrue, RowTrueWith, RowSet}
 use Rattle.game.proofs.Blocks.Passing.{valid_proper}
 use Rattle.game.proofs.Blocks.Formulas.{row_wins}
 use Rattle.game.proofs.Blocks.More.{with_more}

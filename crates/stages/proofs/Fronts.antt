@@ -1,5 +1,5 @@
 -- What is done after some moves, states and places of a stage, and after one more. Assumes nothing.
-use mathlib.Core.Bool.{Bool, true, false}
+use mathlib.Core.Bool.{Bool, false}
 use mathlib.Core.List.{List}
 use mathlib.Core.Logic.{◌↔◌, ⊎_elim}
 use mathlib.Core.Path.{◌≡◌, sym, ◌∙◌, subst}

@@ -1,9 +1,9 @@
 -- Before the first stage, and what is left to do in all. Assumes nothing.
-use mathlib.Core.Bool.{Bool, true, false, cond}
+use mathlib.Core.Bool.{Bool, true, false}
 use mathlib.Core.List.{List}
 use mathlib.Core.Logic.{inl, inr}
-use mathlib.Core.Path.{◌≡◌, refl, sym, ◌∙◌, ap, subst}
-use Prim.Native.Nat.{ℕ, zero, suc, ◌+◌, ◌*◌, ◌-◌, ◌/◌, ◌%◌, ◌^◌, ◌≤◌, ◌<◌}
+use mathlib.Core.Path.{◌≡◌, sym, ◌∙◌, ap, subst}
+use Prim.Native.Nat.{ℕ, suc, ◌+◌, ◌*◌, ◌/◌, ◌%◌, ◌^◌, ◌≤◌, ◌<◌}
 use native.Mathlib.Nat.{mul-add-div_right, div-eq_of_lt, mul-le-mul_right, suc-mul}
 use native.Mathlib.Omega.{arith}
 use Rattle.block.specs.Decide.{Bit}
@@ -20,9 +20,9 @@ use Rattle.ways.specs.Lines.{count_in, number_in}
 use Rattle.ways.specs.Rows.{Playable}
 use Rattle.ways.specs.declared.rows.Row.{Row}
 use Rattle.ways.proofs.Leading.{listed_small, number_inside}
-use Rattle.boards.specs.Boards.{nexts_words, to_in, won_in, Nexts}
-use Rattle.stages.specs.Stages.{hold, due_at, marked_at, Prepared, rank_of, To, Waits, TurnedTo}
-use Rattle.stages.specs.Solving.{FirstRank, FirstIn, Defended, Rests, Staged}
+use Rattle.boards.specs.Boards.{nexts_words, to_in, Nexts}
+use Rattle.stages.specs.Stages.{hold, marked_at, Prepared, rank_of, Waits, TurnedTo}
+use Rattle.stages.specs.Solving.{FirstRank, FirstIn, Rests, Staged}
 use Rattle.stages.proofs.Paths.{idle_to, next_some}
 
 -- the state that a number stands for, with c numbers for each

@@ -1,11 +1,11 @@
 -- Signed costs of a team's agents, and what they come to, as differences of what is taken and what is given. Assumes nothing.
-use mathlib.Core.Bool.{Bool, true, false, cond}
+use mathlib.Core.Bool.{true, false, cond}
 use mathlib.Core.Path.{◌≡◌, refl, sym, ◌∙◌, ap, ap₂, subst}
-use Prim.Native.Nat.{ℕ, suc, ◌+◌, ◌-◌, ◌≤◌, ◌<◌, min, max}
+use Prim.Native.Nat.{ℕ, ◌+◌, ◌-◌, ◌≤◌, ◌<◌, min, max}
 use native.Mathlib.Decide.{dec_lt}
 use native.Mathlib.Omega.{arith}
-use lib.Dec.{T, eqb, ltb}
-use lib.IntN.{ℤ, pos, negsuc, nat_abs, sub_ℕ, ◌+ℤ◌, ◌-ℤ◌}
+use lib.Dec.{T, ltb}
+use lib.IntN.{ℤ, pos, negsuc, nat_abs, sub_ℕ, ◌-ℤ◌}
 use lib.Signed.{lt_z, non_neg}
 use mir.Syntax.{w32}
 use mir.Val.{SFits, to_z, of_z}
@@ -13,7 +13,7 @@ use mir.ValLaws.{to_z-of_z}
 use borrow.Author.Tests.{ltb-true, lt-ltb, le-ltb, eq-eqb, ne_eqb}
 use Rattle.block.specs.Layout as L
 use Rattle.block.specs.Layout.{Block}
-use Rattle.block.proofs.Signed.{sub_same, sub_add, sub_less}
+use Rattle.block.proofs.Signed.{sub_add, sub_less}
 use Rattle.game.specs.Rbatl.{Bound, limit, unlimited, full_stock}
 use Rattle.game.specs.Position.{places, full, cost, charge}
 use Rattle.game.specs.Inner.Stocks.{taken, given, takes, gives}

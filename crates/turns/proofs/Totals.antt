@@ -11,7 +11,7 @@ use Rattle.block.specs.Inner.Valid.{Valid}
 use Rattle.block.proofs.Signed.{sub_add, sub_fits, sub_held, taken_given}
 use Rattle.game.specs.Rbatl.{cost_up_to, sum_up_to}
 use Rattle.game.specs.Position.{MoveOf}
-use Rattle.game.specs.Model.{bit, combine_of, structure_of}
+use Rattle.game.specs.Model.{bit, structure_of}
 use Rattle.game.proofs.Numbers.Decide.{eq?}
 use Rattle.game.proofs.Bridge.Costs.{combine_most}
 use Rattle.game.proofs.Blocks.Reading.{cost_member, cost_other, cost_small, charge_member, charge_other, charge_none}

@@ -2,20 +2,19 @@
 use mathlib.Core.Bool.{true}
 use mathlib.Core.List.{List}
 use mathlib.Core.Path.{◌≡◌, refl, sym, ◌∙◌, ap, subst}
-use Prim.Native.Nat.{ℕ, ◌+◌, ◌-◌, ◌/◌, ◌%◌, ◌≤◌, ◌<◌, min}
+use Prim.Native.Nat.{ℕ, ◌-◌, ◌≤◌, ◌<◌}
 use native.Mathlib.Omega.{arith}
 use Rattle.block.specs.Layout as L
 use Rattle.block.specs.Layout.{Block}
 use Rattle.block.specs.Inner.Valid.{Valid}
 use Rattle.game.specs.Rbatl.{Bound, limit, unlimited, full_stock}
 use Rattle.game.specs.Position.{Arena, Position, IsPosition, places, number, full, cost, charge, Affordable, outcome}
-use Rattle.game.specs.Inner.Stocks.{stocks_of, stock_places, takes, gives, offset, refill}
+use Rattle.game.specs.Inner.Stocks.{stocks_of, takes, gives}
 use Rattle.game.specs.Model.{arena_of}
 use Rattle.game.proofs.Blocks.Passing.{few_places}
 use Rattle.game.proofs.Bridge.Truth.{full_fits}
 use Rattle.game.proofs.Numbers.Stocks.{remaining_fits, taken_pays}
 use Rattle.ways.specs.Back.{Leads, Comes, ComesAt}
-use Rattle.ways.specs.Landing.{Leaves}
 use Rattle.ways.specs.Lines.{packed_in, count_in, number_in, taken_in, given_in}
 use Rattle.ways.specs.Listing.{Listed, Useful}
 use Rattle.ways.specs.Places.{PlacedAt}
@@ -23,7 +22,6 @@ use Rattle.ways.specs.Rows.{Playable}
 use Rattle.ways.specs.declared.rows.Row.{Row}
 use Rattle.ways.proofs.Offsets.{full_taken, last_place, gives_fit, left_stock}
 use Rattle.ways.proofs.Packing.{comes_at}
-use Rattle.ways.proofs.Placing.{stocks_below}
 
 full_most : (b : Bound) (s : ℕ) → s < places b → s ≤ full_stock b
 full_most (limit n) s l = omega arith

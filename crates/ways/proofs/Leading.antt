@@ -1,16 +1,16 @@
 -- Where a move lands, and where its replies lead from there. Assumes nothing.
-use mathlib.Core.Bool.{Bool, true, false, not}
+use mathlib.Core.Bool.{Bool, true, false}
 use mathlib.Core.List.{List}
 use mathlib.Core.Logic.{inl}
 use mathlib.Core.Path.{◌≡◌, refl, sym, ◌∙◌, ap, ap₂, subst}
-use Prim.Native.Nat.{ℕ, ◌+◌, ◌*◌, ◌-◌, ◌^◌, ◌≤◌, ◌<◌, min}
+use Prim.Native.Nat.{ℕ, ◌+◌, ◌*◌, ◌-◌, ◌≤◌, ◌<◌, min}
 use native.Mathlib.Nat.{mul-le-mul}
 use native.Mathlib.Omega.{arith}
 use Rattle.block.specs.Layout as L
 use Rattle.block.specs.Layout.{Block}
 use Rattle.block.specs.Inner.Valid.{Valid}
 use Rattle.game.specs.Rbatl.{full_stock, Pays}
-use Rattle.game.specs.Position.{Arena, Position, IsPosition, places, number, positions, full, cost, charge, opponents, MoveOf, Affordable, Allowed, Reply, outcome}
+use Rattle.game.specs.Position.{Arena, Position, IsPosition, places, number, full, cost, charge, opponents, MoveOf, Affordable, Allowed, outcome}
 use Rattle.game.specs.Inner.Stocks.{stocks_of, stock_places, takes, gives, offset, refill}
 use Rattle.game.specs.Model.{structure_of, coalition_of, arena_of}
 use Rattle.game.proofs.Blocks.Passing.{valid_proper, few_stocks, few_places}

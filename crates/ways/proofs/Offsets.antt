@@ -1,7 +1,7 @@
 -- Numbers of positions add up, so that the number of what a move leaves is found from two others: of what it takes, and of what it gives.
 -- Assumes nothing.
 use mathlib.Core.Path.{◌≡◌, refl, sym, ◌∙◌, ap}
-use Prim.Native.Nat.{ℕ, zero, suc, ◌+◌, ◌*◌, ◌-◌, ◌≤◌, ◌<◌, min}
+use Prim.Native.Nat.{ℕ, zero, suc, ◌+◌, ◌*◌, ◌-◌, ◌<◌, min}
 use native.Mathlib.Nat.{mul_assoc, suc-mul, le-mul_of_pos_right}
 use native.Mathlib.Omega.{arith}
 use Rattle.game.specs.Rbatl.{Bound, limit, unlimited, full_stock, Pays}

@@ -1,17 +1,16 @@
 -- Packed stocks have the stocks as digits, so that a place pays what a move takes exactly if no digit is too small. Assumes nothing.
 use mathlib.Core.List.{List}
 use mathlib.Core.Path.{◌≡◌, refl, sym, ◌∙◌, ap, ap₂, subst, subst₂}
-use Prim.Native.Nat.{ℕ, zero, suc, ◌+◌, ◌*◌, ◌-◌, ◌/◌, ◌%◌, ◌≤◌, ◌<◌, min}
+use Prim.Native.Nat.{ℕ, zero, suc, ◌+◌, ◌*◌, ◌/◌, ◌%◌, ◌≤◌, ◌<◌, min}
 use native.Mathlib.Nat.{mul-add-div_right, mul-add-mod_self_right, mod-eq_of_lt, mod-lt, div-eq_of_lt}
 use native.Mathlib.Omega.{arith}
-use Rattle.turns.specs.Buffers.{rank_in}
 use Rattle.ways.specs.Lines.{packed_in}
 use Rattle.block.specs.Layout as L
 use Rattle.block.specs.Layout.{Block}
 use Rattle.block.specs.Inner.Valid.{Valid}
-use Rattle.game.specs.Rbatl.{Bound, limit, unlimited, full_stock, Pays}
+use Rattle.game.specs.Rbatl.{Bound, limit, unlimited, full_stock}
 use Rattle.game.specs.Position.{Arena, Position, IsPosition, places, number, number_up_to, full, cost, charge, Affordable}
-use Rattle.game.specs.Inner.Stocks.{taken, stocks_of, takes, gives, offset, refill}
+use Rattle.game.specs.Inner.Stocks.{stocks_of, takes, offset}
 use Rattle.game.specs.Model.{bounds_of, arena_of}
 use Rattle.game.proofs.Numbers.Decide.{eq?, lt?}
 use Rattle.game.proofs.Numbers.Stocks.{taken_pays}

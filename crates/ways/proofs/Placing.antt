@@ -1,22 +1,12 @@
 -- Stock places and positions: each place of each state is that of a position, whose number they give. Assumes nothing.
-use mathlib.Core.List.{List}
-use mathlib.Core.Path.{◌≡◌, sym, ◌∙◌, ap, subst}
-use Prim.Native.Nat.{ℕ, zero, suc, ◌+◌, ◌*◌, ◌-◌, ◌/◌, ◌%◌, ◌≤◌, ◌<◌}
+use mathlib.Core.Path.{◌≡◌, sym, ◌∙◌, ap}
+use Prim.Native.Nat.{ℕ, zero, suc, ◌+◌, ◌*◌, ◌/◌, ◌%◌, ◌≤◌, ◌<◌}
 use native.Mathlib.Nat.{mul_assoc, suc-mul, mul-le-mul_right, mul-add-div_right, mul-add-mod_self_right, mod-eq_of_lt, div-eq_of_lt}
 use native.Mathlib.Omega.{arith}
-use lib.ListN.{get_or}
-use Rattle.block.specs.Layout as L
-use Rattle.block.specs.Layout.{Block}
-use Rattle.block.specs.Inner.Valid.{Valid}
-use Rattle.game.specs.Position.{Arena, Position, places, IsPosition, number, number_up_to, positions_up_to, positions, full, opponents, MoveOf, Affordable, Allowed, Reply, outcome}
-use Rattle.game.specs.Inner.Stocks.{stocks_of, stock_places_up_to, stock_places, offset}
-use Rattle.game.specs.Model.{structure_of, coalition_of, arena_of}
-use Rattle.turns.specs.Inner.Rules.{ReplyTo}
-use Rattle.game.proofs.Bridge.Plays.{outcome_fits}
-use Rattle.game.proofs.Bridge.Moves.{idle_move}
-use Rattle.game.proofs.Local.Same.{number_below, position_of, position_fits, position_number}
+use Rattle.game.specs.Position.{Arena, Position, places, IsPosition, number, number_up_to, positions_up_to, positions}
+use Rattle.game.specs.Inner.Stocks.{stocks_of, stock_places_up_to, stock_places}
+use Rattle.game.proofs.Local.Same.{position_of, position_fits, position_number}
 use Rattle.ways.proofs.Offsets.{state_and_stocks}
-use Rattle.game.proofs.Blocks.Passing.{valid_proper}
 use Rattle.ways.specs.Places.{PlacedAt}
 
 -- a position's stocks have a number below the number of stock places

@@ -1,5 +1,5 @@
 -- A move at a stock place, and the worst of its outcomes.
-use Rattle.std.specs.Prelude.{Bool, true, false, not, List, ◌≡◌, ℕ, ◌+◌, ◌*◌, ◌<◌}
+use Rattle.std.specs.Prelude.{Bool, false, not, List, ◌≡◌, ℕ, ◌+◌, ◌*◌, ◌<◌}
 use Rattle.block.specs.Layout as L
 use Rattle.block.specs.Layout.{Block}
 use Rattle.game.specs.Position.{Arena, Position, IsPosition, MoveOf, number, Affordable, outcome}

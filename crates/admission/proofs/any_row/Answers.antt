@@ -8,7 +8,6 @@ use Rattle.block.specs.Refusal.{◌when◌}
 use Rattle.block.specs.declared.refusal.Refusal.TheVariants.{RowChoice}
 use Rattle.block.proofs.Passing.{passing}
 use Rattle.block.proofs.Refusals.{turned_down, past, answered, refused, passed}
-use borrow.Author.Rules.{rules}
 use Rattle.admission.proofs.any_row.Goals as goal
 
 pub rows-requires : goal.rows-requires

@@ -1,6 +1,6 @@
 -- `no_position` looks at the state, and then for a stock that does not fit.
 use mathlib.Core.Path.{subst}
-use Prim.Native.Nat.{ℕ, ◌-◌, ◌≤◌, ◌<◌}
+use Prim.Native.Nat.{ℕ, ◌≤◌}
 use native.Mathlib.Omega.{arith}
 use lib.ListN.{get_or}
 use Rattle.block.specs.Inner.Tests.{Decides, holds, fails}

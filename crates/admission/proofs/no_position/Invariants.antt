@@ -1,14 +1,8 @@
 -- `no_position` looks at the state, and then for a stock that does not fit.
-use mathlib.Core.Path.{subst}
-use Prim.Native.Nat.{ℕ, ◌-◌, ◌≤◌, ◌<◌}
-use native.Mathlib.Omega.{arith}
+use Prim.Native.Nat.{ℕ, ◌≤◌, ◌<◌}
 use lib.ListN.{get_or}
-use Rattle.block.specs.Inner.Tests.{Decides, holds, fails}
-use Rattle.block.proofs.Decide as D
 use Rattle.game.specs.Position.{places}
 use Rattle.game.specs.Model.{bounds_of}
-use Rattle.admission.specs.Admission.{NoPosition, no_state, no_stock}
-use Rattle.game.proofs.Numbers.Decide.{none_more}
 use Rattle.admission.proofs.no_position.Given as goal
 
 abbrev pub invariant-loop-j : goal.invariant-loop-j

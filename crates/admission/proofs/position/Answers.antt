@@ -8,12 +8,11 @@ use Rattle.block.proofs.Decide as D
 use Rattle.block.proofs.Refusals.{turned_down, past, answered, refused, passed, none_holds}
 use Rattle.admission.proofs.Admitting.{row_admitted}
 use Rattle.admission.specs.Admission.{NoPosition}
-use borrow.Author.Rules.{rules}
 use Rattle.admission.proofs.position.Goals as goal
 
 pub no_position-requires : goal.no_position-requires
 no_position-requires c = let (valid, row) = row_admitted c.args.block.now c.args.i (none_holds (rw c.in-Value.is at c.row.ensures)) in
-     record { valid = valid; i_bound = (row.0, row.1, omega (arith, c.requires)) }
+    record { valid = valid; i_bound = (row.0, row.1, omega (arith, c.requires)) }
 
 pub returns-then-no_position : goal.returns-then-no_position
 returns-then-no_position c = passed (rw c.in-Value.is at c.row.ensures) (turned_down (D.truth c.no_position.ensures c.if-no_position.true))

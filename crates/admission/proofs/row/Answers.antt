@@ -8,12 +8,11 @@ use Rattle.block.specs.Refusal.{◌when◌}
 use Rattle.block.specs.declared.refusal.Refusal.TheVariants.{RowChoice}
 use Rattle.block.proofs.Refusals.{turned_down, past, answered, refused, passed, none_holds}
 use Rattle.admission.proofs.Admitting.{set_admitted}
-use borrow.Author.Rules.{rules}
 use Rattle.admission.proofs.row.Goals as goal
 
 pub kind-requires : goal.kind-requires
 kind-requires c = let (valid, inside) = set_admitted c.args.block.now c.args.i (none_holds (rw c.in-Value.is at c.any_row.ensures)) in
-     record { block_len = valid.sized.bytes; i_lt_max_rows = omega (arith, inside, valid.sized.rows_fit) }
+    record { block_len = valid.sized.bytes; i_lt_max_rows = omega (arith, inside, valid.sized.rows_fit) }
 
 pub returns-then-kind-lt-NEXT_KIND : goal.returns-then-kind-lt-NEXT_KIND
 returns-then-kind-lt-NEXT_KIND c = passed (rw c.in-Value.is at c.any_row.ensures) (turned_down (omega (arith, c.kind.ensures, c.if-kind-lt-NEXT_KIND.true)))

@@ -8,7 +8,6 @@ use Rattle.block.specs.Refusal.{◌when◌}
 use Rattle.block.specs.declared.refusal.Refusal.TheVariants.{Position}
 use Rattle.block.proofs.Refusals.{turned_down, past, answered, refused, passed, none_holds}
 use Rattle.admission.proofs.Admitting.{row_admitted}
-use borrow.Author.Rules.{rules}
 use Rattle.admission.proofs.state.Goals as goal
 
 pub states-requires : goal.states-requires

@@ -1,9 +1,7 @@
 -- `action_on` looks for a charge on a resource of the kind over the resources.
-use Prim.Native.Nat.{ℕ, ◌≤◌, ◌<◌, ◌-◌}
 use native.Mathlib.Omega.{arith}
 use borrow.Author.Count.{below_none, below_more}
 use Rattle.block.specs.Inner.Tests.{holds, fails}
-use Rattle.block.specs.Check.{ChargeOn}
 use Rattle.block.proofs.Decide as D
 use borrow.Author.Rules.{rules}
 use Rattle.charges.proofs.action_on.Goals as goal

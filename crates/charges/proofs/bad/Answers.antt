@@ -1,6 +1,4 @@
 -- `bad` decides number 13: it looks for charges on max resources, where there are any.
-use borrow.Author.Rules.{rules}
-use borrow.Author.Tests.{not-true}
 use Rattle.block.specs.Inner.Tests.{fails}
 use Rattle.block.proofs.Decide as D
 use Rattle.charges.proofs.bad.Goals as goal

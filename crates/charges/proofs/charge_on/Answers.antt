@@ -3,7 +3,6 @@ use native.Mathlib.Omega.{arith}
 use Rattle.block.specs.Inner.Tests.{fails}
 use Rattle.block.specs.Layout.{charge_byte}
 use Rattle.block.proofs.Decide as D
-use borrow.Author.Rules.{rules}
 use Rattle.charges.proofs.charge_on.Goals as goal
 
 pub returns-then-resource_kind-kind : goal.returns-then-resource_kind-kind

@@ -1,11 +1,7 @@
 -- `state_on` looks for such a charge over the agents.
-use Prim.Native.Nat.{ℕ, ◌≤◌, ◌<◌, ◌-◌}
 use native.Mathlib.Omega.{arith}
 use borrow.Author.Count.{below_none, below_more}
 use Rattle.block.specs.Inner.Tests.{holds, fails}
-use Rattle.block.specs.Decide.{Some}
-use Rattle.block.specs.Layout.{resources, count}
-use Rattle.block.specs.Check.{ChargeOn}
 use Rattle.block.proofs.Decide as D
 use borrow.Author.Rules.{rules}
 use Rattle.charges.proofs.state_on.Goals as goal

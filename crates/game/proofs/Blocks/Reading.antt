@@ -10,7 +10,7 @@ use borrow.Author.Tests.{eq-eqb, ne_eqb, lt-ltb, le-ltb}
 use Rattle.block.specs.Layout as L
 use Rattle.block.specs.Layout.{Block, digit, Strategic}
 use Rattle.block.specs.Inner.Valid.{Valid, RowFits}
-use Rattle.game.specs.Rbatl.{Bound, limit, unlimited, full_stock, cost_up_to, sum_up_to, move_cost, move_charge}
+use Rattle.game.specs.Rbatl.{Bound, limit, unlimited, cost_up_to, sum_up_to}
 use Rattle.game.specs.Position.{Position, MoveOf, Move, Reply, outcome}
 use Rattle.game.specs.Inner.Stocks.{taken, given}
 use Rattle.game.specs.Model.{bit, combine_of, structure_of, bound_of, coalition_of, bounds_by, bounds_of, arena_of}

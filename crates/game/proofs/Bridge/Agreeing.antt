@@ -6,7 +6,7 @@ use mathlib.Core.Path.{◌≡◌, refl, sym, ◌∙◌, ap, ap₂, subst}
 use Prim.Native.Nat.{ℕ, zero, suc, ◌+◌, ◌≤◌, ◌<◌}
 use native.Mathlib.Omega.{arith}
 use lib.Dec.{T}
-use Rattle.game.specs.Rbatl.{Bounds, Coalition, Computation, Pays, remaining, Formula, prop, not, or, next, always, until, Joint, Strategy, Structure, Available, IsMove, Outcome, cost_up_to, move_cost, sum_up_to, move_charge, IsStrategy, Consistent, prefix, stock_after, full_stock, Can, Sat}
+use Rattle.game.specs.Rbatl.{Bounds, Coalition, Computation, remaining, Formula, prop, not, or, next, always, until, Joint, Strategy, Structure, Available, IsMove, Outcome, cost_up_to, move_cost, sum_up_to, move_charge, IsStrategy, Consistent, prefix, stock_after, full_stock, Can, Sat}
 use Rattle.game.proofs.Bridge.Proper.{Proper}
 use Rattle.game.proofs.Bridge.Plays.{moves, stays_inside}
 

@@ -1,8 +1,7 @@
 -- More is never worse: with larger bounds the same strategy serves, since its stocks are nowhere smaller. Assumes nothing.
-use mathlib.Core.Path.{◌≡◌, subst₂}
-use Prim.Native.Nat.{ℕ, zero, suc, ◌+◌, ◌-◌, ◌≤◌, ◌<◌, min}
+use Prim.Native.Nat.{ℕ, zero, suc, ◌+◌, ◌-◌, ◌≤◌, ◌<◌}
 use native.Mathlib.Omega.{arith}
-use Rattle.game.specs.Rbatl.{Bound, limit, unlimited, Bounds, full_stock, Pays, remaining, Coalition, Computation, Strategy, Structure, prefix, Consistent, move_cost, move_charge, stock_after, Within, Can}
+use Rattle.game.specs.Rbatl.{Bound, limit, unlimited, Bounds, full_stock, Pays, remaining, Coalition, Computation, Strategy, Structure, stock_after, Within, Can}
 
 -- b is nowhere above b', where unlimited is the largest
 abbrev pub AtMost : Bound → Bound → Type 0

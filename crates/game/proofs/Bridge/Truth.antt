@@ -1,7 +1,7 @@
 -- Winning at a position is truth with bounds that serve for its stock, as the row's own do for a full one: the strategies are the same, and
 -- the plays are the computations. Assumes nothing.
 use mathlib.Core.Logic.{◌↔◌}
-use mathlib.Core.Path.{◌≡◌, sym, ap, subst}
+use mathlib.Core.Path.{sym, ap, subst}
 use Prim.Native.Nat.{ℕ, ◌<◌}
 use native.Mathlib.Omega.{arith}
 use Rattle.game.specs.Rbatl.{Bound, limit, unlimited, Bounds, full_stock, Strategy, IsStrategy, KeepsFrom, Within, Can, Computation}

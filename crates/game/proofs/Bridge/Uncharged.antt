@@ -4,8 +4,8 @@
 --     uncharged_sat        a formula is true by the one exactly where it is by the other
 -- Assumes nothing.
 use mathlib.Core.Logic.{◌↔◌, inl, inr}
-use mathlib.Core.Path.{◌≡◌, refl, sym, ◌∙◌, ap, subst}
-use Prim.Native.Nat.{ℕ, zero, suc, ◌+◌, ◌-◌, ◌≤◌, ◌<◌, min}
+use mathlib.Core.Path.{◌≡◌, refl, sym, ◌∙◌, subst}
+use Prim.Native.Nat.{ℕ, zero, suc, ◌+◌, ◌-◌, ◌<◌, min}
 use native.Mathlib.Omega.{arith}
 use Rattle.game.specs.Rbatl.{Bound, limit, unlimited, Bounds, Fits, full_stock, Pays, remaining, Coalition, Computation, Formula, prop, not, or, next, always, until, Strategy, Structure, Uncharged, prefix, IsStrategy, Consistent, move_cost, move_charge, stock_after, KeepsFrom, Within, spent, SpendsWithin, CanBy, Sat, SpendingSat}
 use Rattle.game.specs.Position.{Arena, Position, places, IsPosition}

@@ -5,7 +5,6 @@ use lib.ListN.{length}
 use Rattle.block.proofs.Refusals.{no_refusal, answered, refused, passed, none_holds, room_cleared}
 use Rattle.turns.proofs.Bytes.{cleared}
 use Rattle.lister.proofs.Calls.{states_admitted}
-use borrow.Author.Rules.{rules}
 use Rattle.lister.proofs.fill_states.Goals as goal
 
 pub list_row-n-requires : goal.list_row-n-requires
@@ -13,10 +12,10 @@ list_row-n-requires c = let (valid, inside) = states_admitted c.args.block.now c
 
 pub returns-in-Value : goal.returns-in-Value
 returns-in-Value c = record {
-      answer = passed (rw c.in-Value.is at c.turned_down.ensures) (answered c.list_row-n.ensures.0);
-      kept = tt;
-      room_after = room_cleared no_refusal (cleared c.list_row-n.new.room c.zeros.new.buffer (length c.args.room.now) c.zeros.ensures c.list_row-n.auto.room);
-    }
+  answer = passed (rw c.in-Value.is at c.turned_down.ensures) (answered c.list_row-n.ensures.0);
+  kept = tt;
+  room_after = room_cleared no_refusal (cleared c.list_row-n.new.room c.zeros.new.buffer (length c.args.room.now) c.zeros.ensures c.list_row-n.auto.room);
+}
 
 pub returns-in-Refused : goal.returns-in-Refused
 returns-in-Refused c = record {

@@ -2,7 +2,6 @@
 use mathlib.Core.Path.{sym, ◌∙◌, subst}
 use Prim.Native.Nat.{ℕ}
 use native.Mathlib.Omega.{arith}
-use borrow.Author.Rules.{rules}
 use lib.ListN.{length-replicate}
 use Rattle.game.specs.Model.{RowSet}
 use Rattle.game.proofs.Blocks.Tables.{set_small}
@@ -29,6 +28,6 @@ list_set-requires c = (set_small c.args.block.now c.requires.valid c.args.i c.wo
 
 pub returns : goal.returns
 returns c = (
-      set_states c.args.block.now c.args.i c.word_at-set.result c.list_set.new.list c.list_set.result (row_set c.before.before.before.before.before) c.list_set.ensures,
-      c.label_row.ensures.ways_len_unchanged.1 ∙ c.label_needed.ensures.ways_len_unchanged.1 ∙ c.requires.i_bound.2,
-    )
+  set_states c.args.block.now c.args.i c.word_at-set.result c.list_set.new.list c.list_set.result (row_set c.before.before.before.before.before) c.list_set.ensures,
+  c.label_row.ensures.ways_len_unchanged.1 ∙ c.label_needed.ensures.ways_len_unchanged.1 ∙ c.requires.i_bound.2,
+)

@@ -5,7 +5,6 @@ use native.Mathlib.Omega.{arith}
 use lib.ListN.{take}
 use lib.Seq.{length-take-le}
 use Rattle.lister.proofs.Calls.{front_fits}
-use borrow.Author.Rules.{rules}
 use Rattle.lister.proofs.states.Goals as goal
 
 pub slice_bounds-result-end : goal.slice_bounds-result-end

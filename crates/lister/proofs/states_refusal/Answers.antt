@@ -3,7 +3,6 @@ use mathlib.Core.List.{[]}
 use mathlib.Core.Path.{refl}
 use Rattle.block.proofs.Zeros.{cleared}
 use Rattle.block.proofs.Refusals.{no_refusal, answered, refused, passed, room_cleared}
-use borrow.Author.Rules.{rules}
 use Rattle.lister.proofs.states_refusal.Goals as goal
 
 pub returns-in-Value : goal.returns-in-Value

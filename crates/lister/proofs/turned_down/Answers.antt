@@ -1,6 +1,5 @@
 -- `turned_down` tries the lengths, and then the block and the row.
 use Rattle.block.proofs.Refusals.{turned_down, past}
-use borrow.Author.Rules.{rules}
 use Rattle.lister.proofs.turned_down.Goals as goal
 
 pub returns-then-list-ne-STATES_BYTES : goal.returns-then-list-ne-STATES_BYTES

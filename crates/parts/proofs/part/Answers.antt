@@ -1,12 +1,11 @@
 -- `part` looks the entry up.
 use mathlib.Core.Path.{◌≡◌, ◌∙◌, ap}
-use Prim.Native.Nat.{ℕ, ◌+◌, ◌*◌, ◌%◌, ◌<◌}
+use Prim.Native.Nat.{ℕ, ◌+◌, ◌*◌, ◌%◌}
 use native.Mathlib.Omega.{arith}
 use lib.ListN.{get_or}
-use borrow.Author.Rules.{rules}
 use Rattle.game.specs.Inner.Parts.{part_of}
 use Rattle.game.specs.Model.{bit}
-use Rattle.parts.proofs.Tables.{part_lowest, part_small}
+use Rattle.parts.proofs.Tables.{part_lowest}
 use Rattle.parts.proofs.part.Goals as goal
 
 -- the entry, as a team's and a joint action's lowest digits number it

@@ -1,7 +1,6 @@
 -- `failed` goes by the kind of the row.
 use mathlib.Core.Path.{◌≡◌, ap}
 use Prim.Native.Nat.{ℕ}
-use borrow.Author.Rules.{rules}
 use Rattle.block.specs.Decide.{Bit}
 use Rattle.block.specs.Inner.Tests.{fails}
 use Rattle.block.proofs.Decide as D

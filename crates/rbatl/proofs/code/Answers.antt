@@ -5,7 +5,6 @@ use lib.IntN.{pos, neg_ℤ}
 use mir.Syntax.{w32}
 use mir.Val.{SFits}
 use mir.Facts.{to_z-of_z}
-use borrow.Author.Rules.{rules}
 use Rattle.rbatl.specs.Answer.{Small, answer_code}
 use Rattle.rbatl.proofs.Values.{small, minus, small_minus}
 use Rattle.rbatl.proofs.code.Goals as goal

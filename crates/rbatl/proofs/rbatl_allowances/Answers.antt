@@ -1,7 +1,6 @@
 -- `rbatl_allowances` hands over the count of allowances, or the refusal.
 use native.Mathlib.Omega.{arith}
 use Rattle.rbatl.proofs.Values.{small_answer}
-use borrow.Author.Rules.{rules}
 use Rattle.rbatl.proofs.rbatl_allowances.Goals as goal
 
 pub code-requires : goal.code-requires

@@ -1,7 +1,6 @@
 -- `rbatl_check` hands over what the check answers.
 use native.Mathlib.Omega.{arith}
 use Rattle.rbatl.proofs.Values.{small_answer}
-use borrow.Author.Rules.{rules}
 use Rattle.rbatl.proofs.rbatl_check.Goals as goal
 
 pub code-requires : goal.code-requires

@@ -1,7 +1,6 @@
 -- `rbatl_label` hands over what labelling answers.
 use native.Mathlib.Omega.{arith}
 use Rattle.rbatl.proofs.Values.{small_answer}
-use borrow.Author.Rules.{rules}
 use Rattle.rbatl.proofs.rbatl_label.Goals as goal
 
 pub code-requires : goal.code-requires

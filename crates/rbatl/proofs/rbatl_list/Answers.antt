@@ -1,6 +1,5 @@
 -- `rbatl_list` hands over the length of the listing, or the refusal.
 use Rattle.rbatl.proofs.Values.{small_listing}
-use borrow.Author.Rules.{rules}
 use Rattle.rbatl.proofs.rbatl_list.Goals as goal
 
 pub code-requires : goal.code-requires

@@ -5,7 +5,6 @@ use mir.Facts.{to_z-of_z}
 use Rattle.text.specs.Text.{read_call}
 use Rattle.rbatl.specs.Answer.{Small, answer_code}
 use Rattle.rbatl.proofs.Values.{small_read}
-use borrow.Author.Rules.{rules}
 use Rattle.rbatl.proofs.rbatl_read.Goals as goal
 
 pub code-requires : goal.code-requires

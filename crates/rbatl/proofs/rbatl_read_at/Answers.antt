@@ -1,6 +1,5 @@
 -- `rbatl_read_at` hands over where reading stops.
 use Rattle.rbatl.proofs.Values.{small_stop}
-use borrow.Author.Rules.{rules}
 use Rattle.rbatl.proofs.rbatl_read_at.Goals as goal
 
 pub code-requires : goal.code-requires

@@ -4,7 +4,6 @@ use mathlib.Core.Path.{◌∙◌}
 use mir.Facts.{to_z-of_z}
 use native.Mathlib.Omega.{arith}
 use Rattle.rbatl.proofs.Values.{small_answer}
-use borrow.Author.Rules.{rules}
 use Rattle.rbatl.proofs.rbatl_reply.Goals as goal
 
 pub code-requires : goal.code-requires

@@ -1,7 +1,6 @@
 -- `rbatl_states` hands over the count of states, or the refusal.
 use native.Mathlib.Omega.{arith}
 use Rattle.rbatl.proofs.Values.{small_answer}
-use borrow.Author.Rules.{rules}
 use Rattle.rbatl.proofs.rbatl_states.Goals as goal
 
 pub code-requires : goal.code-requires

@@ -1,7 +1,6 @@
 -- `rbatl_states_refusal` hands over the refusal, or 0.
 use native.Mathlib.Omega.{arith}
 use Rattle.rbatl.proofs.Values.{small_answer}
-use borrow.Author.Rules.{rules}
 use Rattle.rbatl.proofs.rbatl_states_refusal.Goals as goal
 
 pub code-requires : goal.code-requires

@@ -1,7 +1,6 @@
 -- `rbatl_table` hands over what the table call answers.
 use native.Mathlib.Omega.{arith}
 use Rattle.rbatl.proofs.Values.{small_answer}
-use borrow.Author.Rules.{rules}
 use Rattle.rbatl.proofs.rbatl_table.Goals as goal
 
 pub code-requires : goal.code-requires

@@ -1,6 +1,5 @@
 -- `rbatl_write` hands over the length of the text, or the refusal.
 use Rattle.rbatl.proofs.Values.{small_answer}
-use borrow.Author.Rules.{rules}
 use Rattle.rbatl.proofs.rbatl_write.Goals as goal
 
 pub code-requires : goal.code-requires

@@ -5,7 +5,6 @@ use Rattle.turns.specs.Sizes.{room_bytes, moves_bytes}
 use Rattle.turns.proofs.Bytes.{cleared}
 use Rattle.report.specs.Call.{listing_bytes}
 use Rattle.report.proofs.Printing.{filled}
-use borrow.Author.Rules.{rules}
 use Rattle.report.proofs.list_job.Goals as goal
 
 pub returns : goal.returns

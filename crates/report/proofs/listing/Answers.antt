@@ -9,7 +9,6 @@ use Rattle.block.proofs.Refusals.{no_refusal, turned_down, past, room_left, room
 use Rattle.text.specs.Format.{accepted, refused}
 use Rattle.text.specs.Text.{blank, read_call}
 use Rattle.report.proofs.Printing.{Tells, outcome_told, read_valid, called}
-use borrow.Author.Rules.{rules}
 use Rattle.report.proofs.listing.Goals as goal
 use Rattle.report.proofs.listing.Lts as lts
 use Rattle.report.proofs.listing.Reads as reads
@@ -48,11 +47,11 @@ list_job-requires c = record { valid = read_valid c.args.text.now blank _ (accep
 
 pub returns-in-Value : goal.returns-in-Value
 returns-in-Value c = record {
-      answer = called c.args.text.now c.args.out.now c.args.ranks.now c.args.moves.now c.if-out-ne-LISTING_BYTES.false c.if-ranks-ne-ROOM_BYTES.false c.if-moves-ne-MOVES_BYTES.false (accepted c.read.new.block) c.list_job.new.out (Value c.list_job.result) (accepted_as c.before.before.before.before.before.before.before.before.before.before.before.before) (value c.list_job.ensures.listing_in);
-      kept = tt;
-      ranks_after = room_cleared no_refusal (c.list_job.ensures.ranks_after.0 ∙ ap (λ (n : ℕ). replicate n 0) (sym c.if-ranks-ne-ROOM_BYTES.false));
-      moves_after = room_cleared no_refusal (c.list_job.ensures.ranks_after.1 ∙ ap (λ (n : ℕ). replicate n 0) (sym c.if-moves-ne-MOVES_BYTES.false));
-    }
+  answer = called c.args.text.now c.args.out.now c.args.ranks.now c.args.moves.now c.if-out-ne-LISTING_BYTES.false c.if-ranks-ne-ROOM_BYTES.false c.if-moves-ne-MOVES_BYTES.false (accepted c.read.new.block) c.list_job.new.out (Value c.list_job.result) (accepted_as c.before.before.before.before.before.before.before.before.before.before.before.before) (value c.list_job.ensures.listing_in);
+  kept = tt;
+  ranks_after = room_cleared no_refusal (c.list_job.ensures.ranks_after.0 ∙ ap (λ (n : ℕ). replicate n 0) (sym c.if-ranks-ne-ROOM_BYTES.false));
+  moves_after = room_cleared no_refusal (c.list_job.ensures.ranks_after.1 ∙ ap (λ (n : ℕ). replicate n 0) (sym c.if-moves-ne-MOVES_BYTES.false));
+}
 
 pub returns-in-Refused : goal.returns-in-Refused
 returns-in-Refused c = let (stop, is) = subst (λ (a : Answer). Tells a c.read.new.block (read_call c.args.text.now blank)) c.in-Refused.is (came c.before.before.before.before.before.before.before.before.before.before) in

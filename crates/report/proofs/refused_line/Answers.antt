@@ -6,7 +6,6 @@ use Rattle.text.proofs.Adding.{added_front}
 use Rattle.report.specs.Call.{refused_bytes}
 use Rattle.printing.specs.Lines.{refused_line}
 use Rattle.report.proofs.Printing.{filled}
-use borrow.Author.Rules.{rules}
 use Rattle.report.proofs.refused_line.Goals as goal
 
 pub returns : goal.returns

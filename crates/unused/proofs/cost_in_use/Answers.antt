@@ -1,6 +1,5 @@
 -- `cost_in_use` tells whether a cost is that of an action, agent and resource that exist.
 use native.Mathlib.Omega.{arith}
-use borrow.Author.Tests.{not-true, not-false}
 use Rattle.block.specs.Inner.Tests.{fails}
 use Rattle.block.proofs.Decide as D
 use borrow.Author.Rules.{rules}
@@ -11,7 +10,7 @@ returns-then-not-agent_in_use c = fails (λ x. D.falsity c.agent_in_use.ensures 
 
 pub count-requires : goal.count-requires
 count-requires c = let u = D.truth c.agent_in_use.ensures c.if-not-agent_in_use.false in
-     record { block_len = search rules; s_lt_max_states = omega arith }
+    record { block_len = search rules; s_lt_max_states = omega arith }
 
 pub returns-then-k-count : goal.returns-then-k-count
 returns-then-k-count c = let u = D.truth c.agent_in_use.ensures c.if-not-agent_in_use.false in

@@ -6,7 +6,7 @@ use Rattle.unused.proofs.in_use.Goals as goal
 
 pub next_in_use-requires : goal.next_in_use-requires
 next_in_use-requires c = let place = rw c.in-Next.is at c.requires.in_layout in
-     record { sized = search rules; joint_lt_max_joint = place.1 }
+    record { sized = search rules; joint_lt_max_joint = place.1 }
 
 pub returns-in-Header : goal.returns-in-Header
 returns-in-Header c = rw c.in-Header.is (holds (rw c.in-Header.is at c.requires.in_layout))

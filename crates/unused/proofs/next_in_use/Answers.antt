@@ -2,7 +2,6 @@
 use native.Mathlib.Omega.{arith}
 use Rattle.block.specs.Inner.Tests.{fails}
 use Rattle.block.proofs.Decide as D
-use borrow.Author.Rules.{rules}
 use Rattle.unused.proofs.next_in_use.Goals as goal
 
 pub returns-then-s-states : goal.returns-then-s-states

@@ -4,7 +4,6 @@ use Rattle.block.specs.Inner.Tests.{fails}
 use Rattle.block.specs.Layout.{InUse}
 use Rattle.block.proofs.Decide as D
 use Rattle.block.proofs.Places.{one_place, used_in_layout}
-use borrow.Author.Rules.{rules}
 use Rattle.unused.proofs.place_bad.Goals as goal
 
 pub returns-then-byte_at-eq0 : goal.returns-then-byte_at-eq0

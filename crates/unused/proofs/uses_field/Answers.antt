@@ -4,7 +4,6 @@ use mathlib.Core.Logic.{inl, inr, ⊎_elim}
 use native.Mathlib.Omega.{arith}
 use Rattle.block.specs.Inner.Tests.{holds, fails}
 use Rattle.block.proofs.Decide as D
-use borrow.Author.Rules.{rules}
 use Rattle.unused.proofs.uses_field.Goals as goal
 
 pub returns-then-f-le-LEFT_BYTE : goal.returns-then-f-le-LEFT_BYTE

@@ -4,7 +4,6 @@ use native.Mathlib.Omega.{arith}
 use Rattle.block.specs.Layout.{byte_values, byte_at}
 use Rattle.block.proofs.Passing.{passing}
 use Rattle.writer.proofs.Calls.{another_length, not_passing, text_and_zeros}
-use borrow.Author.Rules.{rules}
 use Rattle.writer.proofs.write.Goals as goal
 
 pub returns-then-text-ne-TEXT_BYTES : goal.returns-then-text-ne-TEXT_BYTES

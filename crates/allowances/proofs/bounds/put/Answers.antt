@@ -1,15 +1,10 @@
 -- `put` stores the bounds of the resources that there are.
-use mathlib.Core.List.{List}
-use mathlib.Core.Path.{◌≡◌, sym, ◌∙◌, ap, subst}
-use Prim.Native.Nat.{ℕ, ◌+◌, ◌≤◌, ◌<◌}
+use mathlib.Core.Path.{◌≡◌, sym, subst}
 use native.Mathlib.Omega.{arith}
-use lib.ListN.{length, length-set}
-use Rattle.block.specs.Layout as L
+use lib.ListN.{length}
 use Rattle.block.specs.Layout.{Block}
-use Rattle.allowances.specs.Inner.Asked.{Put}
 use Rattle.allowances.specs.Inner.Pairs.{pair}
 use Rattle.allowances.proofs.Putting.{PutTo, put_none, put_next}
-use borrow.Author.Rules.{rules}
 use Rattle.allowances.proofs.bounds.put.Goals as goal
 use Rattle.allowances.proofs.bounds.put.Lts as lts
 use Rattle.allowances.proofs.bounds.put.Reads as reads

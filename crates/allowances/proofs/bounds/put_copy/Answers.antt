@@ -1,12 +1,5 @@
 -- `put_copy` copies the job and puts the bounds into the copy.
-use mathlib.Core.Path.{◌≡◌, sym, ◌∙◌, subst}
-use Prim.Native.Nat.{◌<◌}
-use Rattle.block.specs.Layout as L
-use Rattle.block.specs.Layout.{Block}
-use Rattle.block.specs.Inner.Valid.{Valid}
-use Rattle.block.proofs.Copies.{copied}
-use Rattle.allowances.specs.Inner.Asked.{Put}
-use borrow.Author.Rules.{rules}
+use mathlib.Core.Path.{◌∙◌}
 use Rattle.allowances.proofs.bounds.put_copy.Goals as goal
 
 pub put-requires : goal.put-requires

@@ -5,7 +5,6 @@ use lib.ListN.{length}
 use Rattle.block.proofs.Refusals.{no_refusal, answered, refused, passed, none_holds, room_cleared}
 use Rattle.turns.proofs.Bytes.{cleared}
 use Rattle.allowances.proofs.Calls.{allowances_admitted}
-use borrow.Author.Rules.{rules}
 use Rattle.allowances.proofs.call.allowances.Goals as goal
 
 pub find-n-requires : goal.find-n-requires
@@ -15,10 +14,10 @@ find-n-requires c =
 
 pub returns-in-Value : goal.returns-in-Value
 returns-in-Value c = record {
-      answer = passed (rw c.in-Value.is at c.turned_down.ensures) (answered c.find-n.ensures.0);
-      kept = tt;
-      room_after = room_cleared no_refusal (cleared c.find-n.new.room c.zeros.new.buffer (length c.args.room.now) c.zeros.ensures c.find-n.auto.room);
-    }
+  answer = passed (rw c.in-Value.is at c.turned_down.ensures) (answered c.find-n.ensures.0);
+  kept = tt;
+  room_after = room_cleared no_refusal (cleared c.find-n.new.room c.zeros.new.buffer (length c.args.room.now) c.zeros.ensures c.find-n.auto.room);
+}
 
 pub returns-in-Refused : goal.returns-in-Refused
 returns-in-Refused c = record {

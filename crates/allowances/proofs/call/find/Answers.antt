@@ -1,11 +1,9 @@
 -- `find` labels the rows below, and lists by trying other bounds.
-use mathlib.Core.List.{List}
 use mathlib.Core.Path.{◌∙◌, subst₂}
 use Prim.Native.Nat.{ℕ}
 use lib.ListN.{length-replicate}
 use Rattle.turns.proofs.Bytes.{cleared}
 use Rattle.allowances.specs.Allowances.{allowances_bytes, AllowancesIn}
-use borrow.Author.Rules.{rules}
 use Rattle.allowances.proofs.call.find.Goals as goal
 
 pub made_ready-ask-requires : goal.made_ready-ask-requires

@@ -1,6 +1,5 @@
 -- `turned_down` tries the lengths, and then the block, the row and the state.
 use Rattle.block.proofs.Refusals.{turned_down, past}
-use borrow.Author.Rules.{rules}
 use Rattle.allowances.proofs.call.turned_down.Goals as goal
 
 pub returns-then-list-ne-LIST_BYTES : goal.returns-then-list-ne-LIST_BYTES

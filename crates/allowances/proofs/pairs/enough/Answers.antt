@@ -1,8 +1,7 @@
 -- `enough` reads the one table where there is one, and else solves the row anew.
-use mathlib.Core.Path.{◌≡◌, refl}
+use mathlib.Core.Path.{◌≡◌}
 use Prim.Native.Nat.{ℕ}
 use native.Mathlib.Omega.{arith}
-use borrow.Author.Rules.{rules}
 use Rattle.allowances.proofs.pairs.enough.Goals as goal
 
 pub told-requires : goal.told-requires

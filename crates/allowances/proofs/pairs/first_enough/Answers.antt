@@ -1,14 +1,9 @@
 -- `first_enough` goes down from the end as far as numbers are enough; below one that is not, none is.
-use mathlib.Core.Path.{◌≡◌, sym, ◌∙◌, subst}
-use Prim.Native.Nat.{ℕ, ◌+◌, ◌-◌, ◌≤◌, ◌<◌}
+use mathlib.Core.Path.{sym, ◌∙◌}
+use Prim.Native.Nat.{◌-◌}
 use native.Mathlib.Omega.{arith}
-use lib.ListN.{length}
-use borrow.Author.Tests.{not-true, not-false}
-use Rattle.block.specs.Layout as L
 use Rattle.block.proofs.Decide as D
-use Rattle.allowances.specs.Inner.Pairs.{Enough}
 use Rattle.allowances.proofs.Putting.{enough_more}
-use Rattle.allowances.specs.Inner.Asked.{Lent}
 use Rattle.allowances.proofs.pairs.first_enough.Goals as goal
 
 pub loop-y-init : goal.loop-y-init
@@ -30,13 +25,16 @@ pub shape_of-ranks-then-not-enough : goal.shape_of-ranks-then-not-enough
 shape_of-ranks-then-not-enough c = c.enough.ensures.lent_2.2 ∙ sym c.requires.lent.2
 
 pub returns-then-not-enough : goal.returns-then-not-enough
-returns-then-not-enough c = record { first_enough = record {
-        found = c.loop-y.invariant.1;
-        none = λ v below from met.
-            D.falsity c.enough.ensures.decides c.if-not-enough.true
-            (enough_more c.requires.asking c.args.x v (c.loop-y.y - 1) c.requires.shows.0 (c.requires.shows.2 v from (omega (arith, c.loop-y.invariant.0))) (c.requires.shows.2 (c.loop-y.y - 1) (omega arith) (omega (arith, c.loop-y.invariant.0))) (omega arith) met);
-        range = c.loop-y.invariant.0;
-      }; lent_2 = c.enough.ensures.lent_2 }
+returns-then-not-enough c = record {
+  first_enough = record {
+    found = c.loop-y.invariant.1;
+    none = λ v below from met.
+        D.falsity c.enough.ensures.decides c.if-not-enough.true
+        (enough_more c.requires.asking c.args.x v (c.loop-y.y - 1) c.requires.shows.0 (c.requires.shows.2 v from (omega (arith, c.loop-y.invariant.0))) (c.requires.shows.2 (c.loop-y.y - 1) (omega arith) (omega (arith, c.loop-y.invariant.0))) (omega arith) met);
+    range = c.loop-y.invariant.0;
+  };
+  lent_2 = c.enough.ensures.lent_2;
+}
 
 pub overflow_sub-y-in-loop-y : goal.overflow_sub-y-in-loop-y
 overflow_sub-y-in-loop-y c = omega (arith, c.loop-y-test.true)

@@ -1,13 +1,6 @@
 -- `first_enough` goes down from the end as far as numbers are enough; below one that is not, none is.
-use mathlib.Core.Path.{◌≡◌, sym, ◌∙◌, subst}
-use Prim.Native.Nat.{ℕ, ◌+◌, ◌-◌, ◌≤◌, ◌<◌}
-use native.Mathlib.Omega.{arith}
-use lib.ListN.{length}
-use borrow.Author.Tests.{not-true, not-false}
-use Rattle.block.specs.Layout as L
-use Rattle.block.proofs.Decide as D
+use Prim.Native.Nat.{◌≤◌, ◌<◌}
 use Rattle.allowances.specs.Inner.Pairs.{Enough}
-use Rattle.allowances.proofs.Putting.{enough_more}
 use Rattle.allowances.specs.Inner.Asked.{Lent}
 use Rattle.allowances.proofs.pairs.first_enough.Given as goal
 

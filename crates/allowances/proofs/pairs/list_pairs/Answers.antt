@@ -1,13 +1,10 @@
 -- `list_pairs` goes over the first numbers, and lists with each the first second number that is enough and smaller than the last.
-use mathlib.Core.Logic.{⊎_elim}
-use mathlib.Core.Path.{◌≡◌, sym, ◌∙◌, ap}
-use Prim.Native.Nat.{ℕ, ◌-◌, ◌≤◌}
+use mathlib.Core.Path.{sym, ◌∙◌, ap}
+use Prim.Native.Nat.{ℕ}
 use native.Mathlib.Omega.{arith}
 use lib.ListN.{length, length-replicate}
-use Rattle.block.specs.Layout as L
 use Rattle.allowances.specs.Allowances.{allowances_bytes}
-use Rattle.allowances.proofs.Filling.{FilledTo, filled_none, filled_skip, filled_more, filled_as, filled_all}
-use Rattle.allowances.specs.Inner.Asked.{Lent}
+use Rattle.allowances.proofs.Filling.{filled_none, filled_skip, filled_more, filled_as, filled_all}
 use Rattle.allowances.proofs.pairs.list_pairs.Goals as goal
 use Rattle.allowances.proofs.pairs.list_pairs.Goals.{then-y-end, else-y-end}
 
@@ -37,18 +34,18 @@ loop-x-smaller c = omega (arith, c.loop-x-test.true)
 
 pub loop-x-preserved : goal.loop-x-preserved
 loop-x-preserved c = (
-      omega (arith, c.loop-x.invariant.0),
-      (
-        omega arith,
-        elim c.if-y-end.branch [
-          then-y-end w ↦
-            filled_as (filled_more c.loop-x.invariant.1.1 c.first_enough-y.ensures.first_enough w.if-y-end.true c.loop-x.invariant.0 (omega (arith, c.loop-x.invariant.1.1.long, c.loop-x.invariant.1.1.stairs.few, c.tried-xs.ensures.few))) (w.list-is ∙ w.store.ensures) w.n-is w.end-is
-          | else-y-end w ↦
-            filled_as (filled_skip c.loop-x.invariant.1.1 c.first_enough-y.ensures.first_enough (λ h. omega (arith, w.if-y-end.false))) w.list-is w.n-is w.end-is
-        ],
-      ),
-      c.first_enough-y.ensures.lent_2,
-    )
+  omega (arith, c.loop-x.invariant.0),
+  (
+    omega arith,
+    elim c.if-y-end.branch [
+      | then-y-end w ↦
+          filled_as (filled_more c.loop-x.invariant.1.1 c.first_enough-y.ensures.first_enough w.if-y-end.true c.loop-x.invariant.0 (omega (arith, c.loop-x.invariant.1.1.long, c.loop-x.invariant.1.1.stairs.few, c.tried-xs.ensures.few))) (w.list-is ∙ w.store.ensures) w.n-is w.end-is
+      | else-y-end w ↦
+          filled_as (filled_skip c.loop-x.invariant.1.1 c.first_enough-y.ensures.first_enough (λ h. omega (arith, w.if-y-end.false))) w.list-is w.n-is w.end-is
+    ],
+  ),
+  c.first_enough-y.ensures.lent_2,
+)
 
 pub shape_of-list : goal.shape_of-list
 shape_of-list c = c.loop-x.invariant.1.1.long ∙ sym (ap length c.requires.list_value ∙ length-replicate {A = ℕ} allowances_bytes 0)

@@ -1,12 +1,6 @@
 -- `list_pairs` goes over the first numbers, and lists with each the first second number that is enough and smaller than the last.
-use mathlib.Core.Logic.{⊎_elim}
-use mathlib.Core.Path.{◌≡◌, sym, ◌∙◌, ap}
-use Prim.Native.Nat.{ℕ, ◌-◌, ◌≤◌}
-use native.Mathlib.Omega.{arith}
-use lib.ListN.{length, length-replicate}
-use Rattle.block.specs.Layout as L
-use Rattle.allowances.specs.Allowances.{allowances_bytes}
-use Rattle.allowances.proofs.Filling.{FilledTo, filled_none, filled_skip, filled_more, filled_as, filled_all}
+use Prim.Native.Nat.{◌≤◌}
+use Rattle.allowances.proofs.Filling.{FilledTo}
 use Rattle.allowances.specs.Inner.Asked.{Lent}
 use Rattle.allowances.proofs.pairs.list_pairs.Given as goal
 

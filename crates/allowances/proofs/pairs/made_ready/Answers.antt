@@ -1,19 +1,15 @@
 -- `made_ready` puts the largest pair into the copy and, where nothing charges there, solves the row with it.
-use mathlib.Core.Bool.{Bool, true, not}
-use mathlib.Core.List.{List}
+use mathlib.Core.Bool.{Bool, true}
 use mathlib.Core.Path.{◌≡◌, refl, ◌∙◌}
-use Prim.Native.Nat.{ℕ, ◌-◌, ◌<◌}
+use Prim.Native.Nat.{ℕ, ◌-◌}
 use native.Mathlib.Omega.{arith}
-use borrow.Author.Tests.{not-true}
 use Rattle.block.specs.Layout as L
-use Rattle.block.specs.Inner.Valid.{Valid}
 use Rattle.block.proofs.Decide as D
 use Rattle.allowances.specs.Allowances.{Shows}
 use Rattle.allowances.specs.Inner.Asked.{Asking}
 use Rattle.allowances.specs.Inner.Pairs.{Spans}
 use Rattle.allowances.specs.declared.pairs.Asked.{Asked}
 use Rattle.allowances.proofs.Putting.{put_valid, put_row}
-use borrow.Author.Rules.{rules}
 use Rattle.allowances.proofs.pairs.made_ready.Goals as goal
 use Rattle.allowances.proofs.pairs.made_ready.Lts as lts
 use Rattle.allowances.proofs.pairs.made_ready.Reads as reads
@@ -55,7 +51,7 @@ any-once-requires c = let valid = put_valid (asking c.before.before.before.befor
 pub rank_row-requires : goal.rank_row-requires
 rank_row-requires c = let valid = put_valid (asking c.before.before.before.before.before.before.before.before.before.before.before.before.before.before.before.before.before true) (shows_last c.tried-xs.ensures) (shows_last c.tried-ys.ensures) c.put_copy.ensures.0 in
     let row = put_row (asking c.before.before.before.before.before.before.before.before.before.before.before.before.before.before.before.before.before true) (shows_last c.tried-xs.ensures) (shows_last c.tried-ys.ensures) c.put_copy.ensures.0 in
-     record { valid = valid; i_bound = (row.0, row.1, c.requires.copy_len.1, c.requires.copy_len.2) }
+    record { valid = valid; i_bound = (row.0, row.1, c.requires.copy_len.1, c.requires.copy_len.2) }
 
 pub returns-then-once : goal.returns-then-once
 returns-then-once c = (

@@ -1,5 +1,5 @@
 -- `solved` puts the pair into the copy, solves the row there and looks at the state's rank at full stock.
-use mathlib.Core.Path.{◌≡◌, sym, ◌∙◌, ap, subst₂}
+use mathlib.Core.Path.{◌∙◌, ap, subst₂}
 use Prim.Native.Nat.{ℕ, ◌+◌, ◌*◌, ◌<◌}
 use lib.ListN.{length}
 use native.Mathlib.Omega.{arith}
@@ -13,7 +13,6 @@ use Rattle.turns.specs.Buffers.{rank_in}
 use Rattle.rankings.specs.Kinds.{ClaimsBy}
 use Rattle.allowances.proofs.Pairing.{shows_byte}
 use Rattle.allowances.proofs.Putting.{put_valid, put_row, put_state, enough_told}
-use borrow.Author.Rules.{rules}
 use Rattle.allowances.proofs.pairs.solved.Goals as goal
 use Rattle.allowances.proofs.pairs.solved.Lts as lts
 use Rattle.allowances.proofs.pairs.solved.Reads as reads
@@ -27,16 +26,16 @@ put_copy-requires c = record { valid = c.requires.asking.valid; i_bound = (c.req
 
 pub rank_row-requires : goal.rank_row-requires
 rank_row-requires c = let row = put_row c.requires.asking c.requires.shows.0 c.requires.shows.1 c.put_copy.ensures.0 in
-     record { valid = put_valid c.requires.asking c.requires.shows.0 c.requires.shows.1 c.put_copy.ensures.0; i_bound = (row.0, row.1, c.requires.copy_len.1, c.requires.copy_len.2) }
+    record { valid = put_valid c.requires.asking c.requires.shows.0 c.requires.shows.1 c.put_copy.ensures.0; i_bound = (row.0, row.1, c.requires.copy_len.1, c.requires.copy_len.2) }
 
 pub full-p-requires : goal.full-p-requires
 full-p-requires c = let row = put_row c.requires.asking c.requires.shows.0 c.requires.shows.1 c.put_copy.ensures.0 in
-     record { valid = put_valid c.requires.asking c.requires.shows.0 c.requires.shows.1 c.put_copy.ensures.0; i_bound = (row.0, row.1, put_state c.requires.asking c.requires.shows.0 c.requires.shows.1 c.put_copy.ensures.0) }
+    record { valid = put_valid c.requires.asking c.requires.shows.0 c.requires.shows.1 c.put_copy.ensures.0; i_bound = (row.0, row.1, put_state c.requires.asking c.requires.shows.0 c.requires.shows.1 c.put_copy.ensures.0) }
 
 pub kind-requires : goal.kind-requires
 kind-requires c = let valid = put_valid c.requires.asking c.requires.shows.0 c.requires.shows.1 c.put_copy.ensures.0 in
     let row = put_row c.requires.asking c.requires.shows.0 c.requires.shows.1 c.put_copy.ensures.0 in
-     record { block_len = valid.sized.bytes; i_lt_max_rows = omega (arith, row.0, valid.sized.rows_fit) }
+    record { block_len = valid.sized.bytes; i_lt_max_rows = omega (arith, row.0, valid.sized.rows_fit) }
 
 -- the ranks are long enough
 ranks_long : (c : At-After-full-p) → 2 * c.full-p.result + 1 < length c.rank_row.new.ranks

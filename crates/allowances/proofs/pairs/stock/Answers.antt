@@ -1,7 +1,6 @@
 -- `stock` is 0 where the allowance is unlimited.
 use mathlib.Core.Path.{sym}
 use Rattle.game.proofs.Blocks.Reading.{if_unlimited, if_limited}
-use borrow.Author.Rules.{rules}
 use Rattle.allowances.proofs.pairs.stock.Goals as goal
 
 pub returns-then-n-eq-UNLIMITED : goal.returns-then-n-eq-UNLIMITED

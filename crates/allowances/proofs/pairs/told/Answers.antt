@@ -12,7 +12,6 @@ use Rattle.turns.specs.Buffers.{rank_in}
 use Rattle.rankings.specs.Kinds.{ClaimsBy}
 use Rattle.allowances.proofs.Pairing.{shows_byte}
 use Rattle.allowances.proofs.Tabling.{table_valid, table_row, spot, spot_fits, enough_tabled}
-use borrow.Author.Rules.{rules}
 use Rattle.allowances.proofs.pairs.told.Goals as goal
 use Rattle.allowances.proofs.pairs.told.Lts as lts
 use Rattle.allowances.proofs.pairs.told.Reads as reads
@@ -37,11 +36,11 @@ fits c = subst (IsPosition (arena_of c.args.copy.now c.args.ask.row)) (sym (plac
 pub number-p-requires : goal.number-p-requires
 number-p-requires c = let valid = table_valid c.requires.asking.0 c.requires.asking.1 in
     let row = table_row c.requires.asking.0 c.requires.asking.1 in
-     record { valid = valid; i_bound = (row.0, row.1, valid.sized.resources_fit.1); position = fits c.before }
+    record { valid = valid; i_bound = (row.0, row.1, valid.sized.resources_fit.1); position = fits c.before }
 
 pub kind-requires : goal.kind-requires
 kind-requires c = let valid = table_valid c.requires.asking.0 c.requires.asking.1 in
-     record { block_len = valid.sized.bytes; i_lt_max_rows = omega (arith, (table_row c.requires.asking.0 c.requires.asking.1).0, valid.sized.rows_fit) }
+    record { block_len = valid.sized.bytes; i_lt_max_rows = omega (arith, (table_row c.requires.asking.0 c.requires.asking.1).0, valid.sized.rows_fit) }
 
 pub rank_at-requires : goal.rank_at-requires
 rank_at-requires c = let row = table_row c.requires.asking.0 c.requires.asking.1 in

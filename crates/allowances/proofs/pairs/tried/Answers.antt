@@ -1,7 +1,6 @@
 -- `tried` looks whether the resource is there and limited.
 use native.Mathlib.Omega.{arith}
 use Rattle.allowances.proofs.Pairing.{spans_absent, spans_unlimited, spans_limited}
-use borrow.Author.Rules.{rules}
 use Rattle.allowances.proofs.pairs.tried.Goals as goal
 
 pub returns-then-resources-j : goal.returns-then-resources-j

@@ -1,12 +1,9 @@
 -- `leave` looks whether the refusal is 1.
-use mathlib.Core.List.{[], ◌∷◌}
 use mathlib.Core.Path.{◌≡◌}
-use types.Run.{miss}
 use Rattle.block.specs.declared.refusal.Answer.TheVariants.{Refused}
 use Rattle.block.specs.declared.refusal.Refusal.TheVariants.{Length}
 use Rattle.block.proofs.Refusals.{room_left, room_cleared}
 use Rattle.block.proofs.Zeros.{cleared}
-use borrow.Author.Rules.{rules}
 use Rattle.block.proofs.fill.leave.Goals as goal
 
 pub returns-in-Length : goal.returns-in-Length

@@ -1,9 +1,8 @@
 -- `zeros` stores zeros from a place on.
-use mathlib.Core.Path.{◌≡◌, refl}
-use Prim.Native.Nat.{◌-◌, ◌≤◌}
+use mathlib.Core.Path.{refl}
 use native.Mathlib.Omega.{arith}
-use lib.ListN.{length, length-set}
-use Rattle.block.proofs.Zeros.{Zeroed, zeroed_none, zeroed_more, zeroed_all}
+use lib.ListN.{length-set}
+use Rattle.block.proofs.Zeros.{zeroed_none, zeroed_more, zeroed_all}
 use Rattle.block.proofs.fill.zeros.Goals as goal
 
 pub loop-i-init : goal.loop-i-init

@@ -1,9 +1,8 @@
 -- `zeros` stores zeros from a place on.
-use mathlib.Core.Path.{◌≡◌, refl}
-use Prim.Native.Nat.{◌-◌, ◌≤◌}
-use native.Mathlib.Omega.{arith}
-use lib.ListN.{length, length-set}
-use Rattle.block.proofs.Zeros.{Zeroed, zeroed_none, zeroed_more, zeroed_all}
+use mathlib.Core.Path.{◌≡◌}
+use Prim.Native.Nat.{◌≤◌}
+use lib.ListN.{length}
+use Rattle.block.proofs.Zeros.{Zeroed}
 use Rattle.block.proofs.fill.zeros.Given as goal
 
 abbrev pub invariant-loop-i : goal.invariant-loop-i

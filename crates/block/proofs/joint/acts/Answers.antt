@@ -2,7 +2,6 @@
 use mathlib.Core.Logic.{inl, inr, ⊎_elim}
 use native.Mathlib.Omega.{arith}
 use Rattle.block.proofs.Decide as D
-use borrow.Author.Rules.{rules}
 use Rattle.block.proofs.joint.acts.Goals as goal
 
 pub returns-then-a-agents : goal.returns-then-a-agents

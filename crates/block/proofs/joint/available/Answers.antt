@@ -1,6 +1,5 @@
 -- `available` tells whether a joint action can be done: its three digits are tried one after the other.
 use lib.Dec.{lit<}
-use borrow.Author.Tests.{not-true, not-false}
 use Rattle.block.specs.Inner.Tests.{fails}
 use Rattle.block.proofs.Decide as D
 use Rattle.block.proofs.Digits.{each_agent}

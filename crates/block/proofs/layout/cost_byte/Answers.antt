@@ -1,5 +1,4 @@
 -- `cost_byte` reads the byte at its place.
-use borrow.Author.Rules.{rules}
 use Rattle.block.proofs.layout.cost_byte.Goals as goal
 
 pub returns : goal.returns

@@ -1,5 +1,4 @@
 -- `count` reads the byte at its place.
-use borrow.Author.Rules.{rules}
 use Rattle.block.proofs.layout.count.Goals as goal
 
 pub returns : goal.returns

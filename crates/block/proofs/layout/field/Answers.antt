@@ -1,5 +1,4 @@
 -- `field` reads the byte at its place.
-use borrow.Author.Rules.{rules}
 use Rattle.block.proofs.layout.field.Goals as goal
 
 pub returns : goal.returns

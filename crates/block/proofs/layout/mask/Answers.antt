@@ -1,5 +1,4 @@
 -- `mask` reads the byte at its place.
-use borrow.Author.Rules.{rules}
 use Rattle.block.proofs.layout.mask.Goals as goal
 
 pub returns : goal.returns

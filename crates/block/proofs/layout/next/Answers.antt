@@ -1,5 +1,4 @@
 -- `next` reads the byte at its place.
-use borrow.Author.Rules.{rules}
 use Rattle.block.proofs.layout.next.Goals as goal
 
 pub returns : goal.returns

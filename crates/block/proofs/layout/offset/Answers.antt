@@ -1,7 +1,6 @@
 -- `offset` gives a place its number, kind by kind.
 use mathlib.Core.Path.{refl}
 use native.Mathlib.Omega.{arith}
-use borrow.Author.Rules.{rules}
 use Rattle.block.proofs.layout.offset.Goals as goal
 
 pub mask_place-requires : goal.mask_place-requires

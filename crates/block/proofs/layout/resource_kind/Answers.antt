@@ -1,5 +1,4 @@
 -- `resource_kind` reads the byte at its place.
-use borrow.Author.Rules.{rules}
 use Rattle.block.proofs.layout.resource_kind.Goals as goal
 
 pub returns : goal.returns

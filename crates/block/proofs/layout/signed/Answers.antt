@@ -1,14 +1,13 @@
 -- `signed` takes 256 from the byte of a charge.
-use mathlib.Core.Path.{◌≡◌, refl, sym, ◌∙◌, ap, subst}
-use Prim.Native.Nat.{ℕ, ◌<◌, ◌≤◌, ◌-◌}
+use mathlib.Core.Path.{◌∙◌, ap}
+use Prim.Native.Nat.{◌<◌, ◌≤◌, ◌-◌}
 use native.Mathlib.Omega.{arith}
-use lib.IntN.{ℤ, sub_ℕ}
+use lib.IntN.{ℤ}
 use mir.Syntax.{w32}
-use mir.Val.{SFits, to_z, of_z}
-use borrow.Author.Rules.{rules}
+use mir.Val.{to_z, of_z}
 use borrow.Author.Tests.{lt-ltb, le-ltb}
 use Rattle.block.specs.Layout as L
-use Rattle.block.proofs.Signed.{sub_same, sub_fits, sub_held, small_held, less_held}
+use Rattle.block.proofs.Signed.{sub_same, sub_held, small_held, less_held}
 use Rattle.block.proofs.layout.signed.Goals as goal
 
 pub returns-then-c : goal.returns-then-c

@@ -1,7 +1,7 @@
 -- `next_states` gathers where the listed replies lead.
 use mathlib.Core.Bool.{true, false}
 use mathlib.Core.Path.{◌≡◌, sym, ◌∙◌, ap, subst, subst₂}
-use Prim.Native.Nat.{ℕ, ◌+◌, ◌-◌, ◌≤◌, ◌<◌}
+use Prim.Native.Nat.{ℕ, ◌+◌, ◌<◌}
 use native.Mathlib.Omega.{arith}
 use Rattle.block.specs.Layout as L
 use Rattle.ways.specs.Lines.{count_in, number_in}
@@ -68,9 +68,9 @@ loop-j-smaller c = omega (arith, c.loop-j-test.true)
 
 pub loop-j-preserved : goal.loop-j-preserved
 loop-j-preserved c = (
-      omega (arith, c.loop-j-test.true),
-      named_next (reply_next c.args.block.now c.args.ways.now c.args.s c.number-m.result) c.loop-j.invariant.1 (omega (arith, next c.before.before, c.requires.valid.sized.states_fit)) (sym (leads c.before.before)) c.with_bit-w.ensures,
-    )
+  omega (arith, c.loop-j-test.true),
+  named_next (reply_next c.args.block.now c.args.ways.now c.args.s c.number-m.result) c.loop-j.invariant.1 (omega (arith, next c.before.before, c.requires.valid.sized.states_fit)) (sym (leads c.before.before)) c.with_bit-w.ensures,
+)
 
 pub returns : goal.returns
 returns c = let all : c.loop-j.j ≡ count_in c.args.ways.now c.args.s false = omega (arith, c.loop-j.invariant.0, c.loop-j-test.false, c.count-n.ensures) in

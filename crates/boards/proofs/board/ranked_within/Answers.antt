@@ -1,12 +1,10 @@
 -- `ranked_within` gathers the states whose rank is in the range.
-use mathlib.Core.Logic.{⊎_elim}
 use mathlib.Core.Path.{◌≡◌, sym, subst}
-use Prim.Native.Nat.{ℕ, ◌+◌, ◌*◌, ◌-◌, ◌≤◌, ◌<◌}
+use Prim.Native.Nat.{ℕ, ◌+◌, ◌*◌, ◌≤◌, ◌<◌}
 use native.Mathlib.Omega.{arith}
 use Rattle.block.specs.Layout as L
 use Rattle.block.specs.Inner.Tests.{Decides}
 use Rattle.block.proofs.Decide as D
-use borrow.Author.Rules.{rules}
 use Rattle.ways.proofs.Leading.{number_inside}
 use Rattle.boards.proofs.Gathering.{Gathers, Below, Within, below_none, below_with, below_skip, below_ranked}
 use Rattle.boards.proofs.board.ranked_within.Goals as goal
@@ -56,12 +54,12 @@ loop-s-preserved c = let told = subst (λ (r : ℕ). Decides ((c.args.low ≤ r)
     let few : c.loop-s.s < 24 = omega (arith, state c.before.before.before.before, c.requires.valid.sized.states_fit) in (
       omega (arith, c.loop-s-test.true),
       elim c.if-between.branch [
-        then-between w ↦
-          subst (Gathers (Below (Within c.args.row.places c.args.ranks.now c.args.x c.args.low c.args.end) (c.loop-s.s + 1))) (sym w.w-is)
-          (below_with (Within c.args.row.places c.args.ranks.now c.args.x c.args.low c.args.end) c.loop-s.invariant.1 few (D.truth told w.if-between.true) w.with_bit-w.ensures)
+        | then-between w ↦
+            subst (Gathers (Below (Within c.args.row.places c.args.ranks.now c.args.x c.args.low c.args.end) (c.loop-s.s + 1))) (sym w.w-is)
+            (below_with (Within c.args.row.places c.args.ranks.now c.args.x c.args.low c.args.end) c.loop-s.invariant.1 few (D.truth told w.if-between.true) w.with_bit-w.ensures)
         | else-between w ↦
-          subst (Gathers (Below (Within c.args.row.places c.args.ranks.now c.args.x c.args.low c.args.end) (c.loop-s.s + 1))) (sym w.w-is)
-          (below_skip (Within c.args.row.places c.args.ranks.now c.args.x c.args.low c.args.end) c.loop-s.invariant.1 (D.falsity told w.if-between.false))
+            subst (Gathers (Below (Within c.args.row.places c.args.ranks.now c.args.x c.args.low c.args.end) (c.loop-s.s + 1))) (sym w.w-is)
+            (below_skip (Within c.args.row.places c.args.ranks.now c.args.x c.args.low c.args.end) c.loop-s.invariant.1 (D.falsity told w.if-between.false))
       ],
     )
 

@@ -1,14 +1,6 @@
 -- `ranked_within` gathers the states whose rank is in the range.
-use mathlib.Core.Logic.{⊎_elim}
-use mathlib.Core.Path.{◌≡◌, sym, subst}
-use Prim.Native.Nat.{ℕ, ◌+◌, ◌*◌, ◌-◌, ◌≤◌, ◌<◌}
-use native.Mathlib.Omega.{arith}
-use Rattle.block.specs.Layout as L
-use Rattle.block.specs.Inner.Tests.{Decides}
-use Rattle.block.proofs.Decide as D
-use borrow.Author.Rules.{rules}
-use Rattle.ways.proofs.Leading.{number_inside}
-use Rattle.boards.proofs.Gathering.{Gathers, Below, Within, below_none, below_with, below_skip, below_ranked}
+use Prim.Native.Nat.{◌-◌, ◌≤◌}
+use Rattle.boards.proofs.Gathering.{Gathers, Below, Within}
 use Rattle.boards.proofs.board.ranked_within.Given as goal
 
 abbrev pub invariant-loop-s : goal.invariant-loop-s

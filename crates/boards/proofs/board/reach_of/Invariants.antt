@@ -1,7 +1,6 @@
 -- `reach_of` takes the sets of one move after another together.
 use Prim.Native.Nat.{◌-◌, ◌≤◌}
-use native.Mathlib.Omega.{arith}
-use Rattle.boards.proofs.Words.{Joined, joined_none, joined_next}
+use Rattle.boards.proofs.Words.{Joined}
 use Rattle.boards.specs.Boards.{to_in}
 use Rattle.boards.proofs.board.reach_of.Given as goal
 

@@ -1,10 +1,9 @@
 -- `store_nexts` stores the words of one state after another.
-use mathlib.Core.Path.{◌≡◌, refl, ◌∙◌}
-use Prim.Native.Nat.{◌-◌, ◌≤◌, ◌<◌}
+use mathlib.Core.Path.{refl, ◌∙◌}
+use Prim.Native.Nat.{◌<◌}
 use native.Mathlib.Omega.{arith}
-use lib.ListN.{length}
 use Rattle.block.specs.Layout as L
-use Rattle.boards.proofs.Gathering.{NextsTo, nexts_next}
+use Rattle.boards.proofs.Gathering.{nexts_next}
 use Rattle.boards.proofs.board.store_nexts.Goals as goal
 use Rattle.boards.proofs.board.store_nexts.Lts as lts
 use Rattle.boards.proofs.board.store_nexts.Reads as reads
@@ -33,10 +32,10 @@ loop-s-smaller c = omega (arith, c.loop-s-test.true)
 
 pub loop-s-preserved : goal.loop-s-preserved
 loop-s-preserved c = (
-      omega (arith, c.loop-s-test.true),
-      nexts_next c.args.block.now c.args.row c.args.ways.now c.requires.playable.1 c.loop-s.s (state c.before.before.before.before.before) c.loop-s.board c.store_state.new.board c.store_state.ensures.by_index c.store_state.ensures.by_index_2.0 c.loop-s.invariant.1,
-      c.store_state.ensures.by_index_2.1 ∙ c.loop-s.invariant.2,
-    )
+  omega (arith, c.loop-s-test.true),
+  nexts_next c.args.block.now c.args.row c.args.ways.now c.requires.playable.1 c.loop-s.s (state c.before.before.before.before.before) c.loop-s.board c.store_state.new.board c.store_state.ensures.by_index c.store_state.ensures.by_index_2.0 c.loop-s.invariant.1,
+  c.store_state.ensures.by_index_2.1 ∙ c.loop-s.invariant.2,
+)
 
 pub shape_of-board : goal.shape_of-board
 shape_of-board c = c.loop-s.invariant.2

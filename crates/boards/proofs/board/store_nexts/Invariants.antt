@@ -1,10 +1,8 @@
 -- `store_nexts` stores the words of one state after another.
-use mathlib.Core.Path.{◌≡◌, refl, ◌∙◌}
-use Prim.Native.Nat.{◌-◌, ◌≤◌, ◌<◌}
-use native.Mathlib.Omega.{arith}
+use mathlib.Core.Path.{◌≡◌}
+use Prim.Native.Nat.{◌-◌, ◌≤◌}
 use lib.ListN.{length}
-use Rattle.block.specs.Layout as L
-use Rattle.boards.proofs.Gathering.{NextsTo, nexts_next}
+use Rattle.boards.proofs.Gathering.{NextsTo}
 use Rattle.boards.proofs.board.store_nexts.Given as goal
 
 abbrev pub invariant-loop-s : goal.invariant-loop-s

@@ -1,13 +1,10 @@
 -- `store_reaches` stores the word of one state after another.
 use mathlib.Core.Bool.{true}
-use mathlib.Core.Path.{◌≡◌, refl, ◌∙◌}
-use Prim.Native.Nat.{ℕ, ◌-◌, ◌≤◌, ◌<◌}
+use mathlib.Core.Path.{refl, ◌∙◌}
+use Prim.Native.Nat.{◌<◌}
 use native.Mathlib.Omega.{arith}
-use lib.ListN.{length}
 use Rattle.block.specs.Layout as L
-use Rattle.turns.specs.Buffers.{narrow_in}
-use Rattle.boards.specs.Boards.{nexts_words}
-use Rattle.boards.proofs.Gathering.{ReachesTo, reaches_next}
+use Rattle.boards.proofs.Gathering.{reaches_next}
 use Rattle.boards.proofs.board.store_reaches.Goals as goal
 use Rattle.boards.proofs.board.store_reaches.Lts as lts
 use Rattle.boards.proofs.board.store_reaches.Reads as reads
@@ -47,11 +44,11 @@ loop-s-smaller c = omega (arith, c.loop-s-test.true)
 
 pub loop-s-preserved : goal.loop-s-preserved
 loop-s-preserved c = (
-      omega (arith, c.loop-s-test.true),
-      reaches_next c.args.block.now c.requires.valid c.args.row c.args.ways.now c.requires.playable.1 c.loop-s.s (state c.before.before.before.before.before.before) c.loop-s.board c.set_narrow.new.sets _ c.reach_of-w.ensures.0 c.set_narrow.ensures c.loop-s.invariant.1,
-      (λ i less. c.set_narrow.ensures.others i (λ e. omega arith) ∙ c.loop-s.invariant.2 i less),
-      c.set_narrow.ensures.kept ∙ c.loop-s.invariant.3,
-    )
+  omega (arith, c.loop-s-test.true),
+  reaches_next c.args.block.now c.requires.valid c.args.row c.args.ways.now c.requires.playable.1 c.loop-s.s (state c.before.before.before.before.before.before) c.loop-s.board c.set_narrow.new.sets _ c.reach_of-w.ensures.0 c.set_narrow.ensures c.loop-s.invariant.1,
+  (λ i less. c.set_narrow.ensures.others i (λ e. omega arith) ∙ c.loop-s.invariant.2 i less),
+  c.set_narrow.ensures.kept ∙ c.loop-s.invariant.3,
+)
 
 pub shape_of-board : goal.shape_of-board
 shape_of-board c = c.loop-s.invariant.3

@@ -1,13 +1,10 @@
 -- `store_reaches` stores the word of one state after another.
-use mathlib.Core.Bool.{true}
-use mathlib.Core.Path.{◌≡◌, refl, ◌∙◌}
+use mathlib.Core.Path.{◌≡◌}
 use Prim.Native.Nat.{ℕ, ◌-◌, ◌≤◌, ◌<◌}
-use native.Mathlib.Omega.{arith}
 use lib.ListN.{length}
-use Rattle.block.specs.Layout as L
 use Rattle.turns.specs.Buffers.{narrow_in}
 use Rattle.boards.specs.Boards.{nexts_words}
-use Rattle.boards.proofs.Gathering.{ReachesTo, reaches_next}
+use Rattle.boards.proofs.Gathering.{ReachesTo}
 use Rattle.boards.proofs.board.store_reaches.Given as goal
 
 abbrev pub invariant-loop-s : goal.invariant-loop-s

@@ -1,10 +1,9 @@
 -- `store_state` stores one word after another.
 use mathlib.Core.Bool.{true}
 use mathlib.Core.List.{List}
-use mathlib.Core.Path.{◌≡◌, refl, sym, ◌∙◌, subst}
-use Prim.Native.Nat.{ℕ, ◌+◌, ◌*◌, ◌-◌, ◌≤◌, ◌<◌}
+use mathlib.Core.Path.{refl, sym, ◌∙◌, subst}
+use Prim.Native.Nat.{ℕ, ◌+◌, ◌*◌, ◌<◌}
 use native.Mathlib.Omega.{arith}
-use lib.ListN.{length}
 use Rattle.turns.proofs.Bytes.{one_more}
 use Rattle.ways.specs.Lines.{number_in}
 use Rattle.boards.specs.Boards.{to_in, Nexts}
@@ -46,14 +45,14 @@ loop-k-smaller c = omega (arith, c.loop-k-test.true)
 
 pub loop-k-preserved : goal.loop-k-preserved
 loop-k-preserved c = (
-      omega (arith, c.loop-k-test.true),
-      one_more (λ (l : List ℕ) (i : ℕ). to_in l c.args.s i) (λ (i w : ℕ). Nexts c.args.block.now c.args.row c.args.s (number_in c.args.ways.now c.args.s true i) w) c.loop-k.board c.set_narrow.new.sets
-          (λ i ne. c.set_narrow.ensures.others (64 * c.args.s + i) (λ e. ne (omega arith)))
-          (subst (Nexts c.args.block.now c.args.row c.args.s (number_in c.args.ways.now c.args.s true c.loop-k.k)) (sym c.set_narrow.ensures.stored) c.next_states-w.ensures.0)
-          c.loop-k.invariant.1,
-      (λ t i less small. c.set_narrow.ensures.others (64 * t + i) (λ e. omega arith) ∙ c.loop-k.invariant.2 t i less small),
-      c.set_narrow.ensures.kept ∙ c.loop-k.invariant.3,
-    )
+  omega (arith, c.loop-k-test.true),
+  one_more (λ (l : List ℕ) (i : ℕ). to_in l c.args.s i) (λ (i w : ℕ). Nexts c.args.block.now c.args.row c.args.s (number_in c.args.ways.now c.args.s true i) w) c.loop-k.board c.set_narrow.new.sets
+      (λ i ne. c.set_narrow.ensures.others (64 * c.args.s + i) (λ e. ne (omega arith)))
+      (subst (Nexts c.args.block.now c.args.row c.args.s (number_in c.args.ways.now c.args.s true c.loop-k.k)) (sym c.set_narrow.ensures.stored) c.next_states-w.ensures.0)
+      c.loop-k.invariant.1,
+  (λ t i less small. c.set_narrow.ensures.others (64 * t + i) (λ e. omega arith) ∙ c.loop-k.invariant.2 t i less small),
+  c.set_narrow.ensures.kept ∙ c.loop-k.invariant.3,
+)
 
 pub shape_of-board : goal.shape_of-board
 shape_of-board c = c.loop-k.invariant.3

@@ -1,11 +1,8 @@
 -- `store_state` stores one word after another.
 use mathlib.Core.Bool.{true}
-use mathlib.Core.List.{List}
-use mathlib.Core.Path.{◌≡◌, refl, sym, ◌∙◌, subst}
-use Prim.Native.Nat.{ℕ, ◌+◌, ◌*◌, ◌-◌, ◌≤◌, ◌<◌}
-use native.Mathlib.Omega.{arith}
+use mathlib.Core.Path.{◌≡◌}
+use Prim.Native.Nat.{ℕ, ◌-◌, ◌≤◌, ◌<◌}
 use lib.ListN.{length}
-use Rattle.turns.proofs.Bytes.{one_more}
 use Rattle.ways.specs.Lines.{number_in}
 use Rattle.boards.specs.Boards.{to_in, Nexts}
 use Rattle.boards.proofs.board.store_state.Given as goal

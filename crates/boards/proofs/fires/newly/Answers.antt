@@ -1,6 +1,4 @@
 -- `newly` asks of the fresh states first.
-use borrow.Author.Rules.{rules}
-use borrow.Author.Tests.{not-true, not-false}
 use Rattle.block.specs.Inner.Tests.{fails}
 use Rattle.block.proofs.Decide as D
 use Rattle.boards.proofs.fires.newly.Goals as goal

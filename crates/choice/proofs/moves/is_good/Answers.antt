@@ -3,7 +3,6 @@ use mathlib.Core.Bool.{true}
 use mathlib.Core.Path.{sym, ◌∙◌, subst}
 use Prim.Native.Nat.{ℕ}
 use native.Mathlib.Omega.{arith}
-use borrow.Author.Rules.{rules}
 use borrow.Author.Tests.{eq-eqb}
 use Rattle.block.specs.Inner.Tests.{fails}
 use Rattle.block.proofs.Decide as D
@@ -40,12 +39,17 @@ landed : (c : At-In-At) → Lands (arena_of c.args.block.now c.args.row.index) c
 landed c = rw c.in-At.is at c.lands.ensures
 
 pub aimed-requires : goal.aimed-requires
-aimed-requires c = let is = sym c.number.ensures in record { valid = c.requires.valid; sought = c.requires.sought; made = (
-            c.requires.state_bound.0,
-            subst (MoveOf (structure_of c.args.block.now) (coalition_of c.args.block.now c.args.row.index) c.args.spot.state) is (useful c.before.before.before.before.before.before.before).0.0,
-            omega (arith, (landed c.before.before).0, c.requires.sought.0.playable.places_are),
-          ); leads_into = λ soon. subst (λ (m : ℕ). LeadsInto c.args.block.now c.args.row.index c.args.spot.state m c.args.row.set) is
-              ((useful c.before.before.before.before.before.before.before).1 (c.requires.sought.0.into_is ∙ eq-eqb c.args.aim.kind 3 soon)) }
+aimed-requires c = let is = sym c.number.ensures in record {
+  valid = c.requires.valid;
+  sought = c.requires.sought;
+  made = (
+    c.requires.state_bound.0,
+    subst (MoveOf (structure_of c.args.block.now) (coalition_of c.args.block.now c.args.row.index) c.args.spot.state) is (useful c.before.before.before.before.before.before.before).0.0,
+    omega (arith, (landed c.before.before).0, c.requires.sought.0.playable.places_are),
+  );
+  leads_into = λ soon. subst (λ (m : ℕ). LeadsInto c.args.block.now c.args.row.index c.args.spot.state m c.args.row.set) is
+      ((useful c.before.before.before.before.before.before.before).1 (c.requires.sought.0.into_is ∙ eq-eqb c.args.aim.kind 3 soon));
+}
 
 pub returns-in-At : goal.returns-in-At
 returns-in-At c p placed = let m = number_in c.args.ways.now c.args.spot.state true c.args.k in

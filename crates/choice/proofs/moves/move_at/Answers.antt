@@ -1,9 +1,8 @@
 -- `move_at` tries the listed moves from the smallest on until one is good.
 use mathlib.Core.Bool.{true}
 use mathlib.Core.Path.{◌≡◌, sym, ◌∙◌, ap, subst}
-use Prim.Native.Nat.{ℕ, ◌+◌, ◌*◌, ◌-◌, ◌≤◌, ◌<◌}
+use Prim.Native.Nat.{◌+◌, ◌*◌, ◌<◌}
 use native.Mathlib.Omega.{arith}
-use borrow.Author.Tests.{not-true, not-false}
 use Rattle.block.proofs.Decide as D
 use Rattle.game.specs.Position.{Position, IsPosition, number}
 use Rattle.game.specs.Model.{arena_of}
@@ -98,9 +97,9 @@ loop-k-smaller c = omega (arith, c.loop-k-test.true)
 
 pub loop-k-preserved : goal.loop-k-preserved
 loop-k-preserved c = (
-      omega (arith, c.loop-k-test.true),
-      λ p here. none_more (λ j. GoodBy c.args.block.now c.args.row c.args.ranks.now c.args.kind c.rank_at-own.result p (number_in c.args.ways.now c.args.spot.state true j)) c.loop-k.k (c.loop-k.invariant.1 p here) (D.falsity (c.is_good.ensures p here) c.if-is_good.false),
-    )
+  omega (arith, c.loop-k-test.true),
+  λ p here. none_more (λ j. GoodBy c.args.block.now c.args.row c.args.ranks.now c.args.kind c.rank_at-own.result p (number_in c.args.ways.now c.args.spot.state true j)) c.loop-k.k (c.loop-k.invariant.1 p here) (D.falsity (c.is_good.ensures p here) c.if-is_good.false),
+)
 
 pub returns : goal.returns
 returns c right ranked p fits is = let here = placed c.before.before.before.before.before.before.before p fits is in

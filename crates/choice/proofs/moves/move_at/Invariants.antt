@@ -1,21 +1,11 @@
 -- `move_at` tries the listed moves from the smallest on until one is good.
 use mathlib.Core.Bool.{true}
-use mathlib.Core.Path.{◌≡◌, sym, ◌∙◌, ap, subst}
-use Prim.Native.Nat.{ℕ, ◌+◌, ◌*◌, ◌-◌, ◌≤◌, ◌<◌}
-use native.Mathlib.Omega.{arith}
-use borrow.Author.Tests.{not-true, not-false}
-use Rattle.block.proofs.Decide as D
-use Rattle.game.specs.Position.{Position, IsPosition, number}
+use Prim.Native.Nat.{ℕ, ◌-◌, ◌≤◌, ◌<◌}
+use Rattle.game.specs.Position.{Position}
 use Rattle.game.specs.Model.{arena_of}
-use Rattle.turns.specs.Buffers.{rank_in}
-use Rattle.ways.specs.Lines.{count_in, number_in}
+use Rattle.ways.specs.Lines.{number_in}
 use Rattle.ways.specs.Places.{PlacedAt}
-use Rattle.ways.proofs.Leading.{number_inside}
 use Rattle.choice.specs.Choices.{GoodBy}
-use Rattle.choice.specs.Tables.{MoveFor}
-use Rattle.choice.proofs.Moving.{spot_placed, move_lost, move_met, first_found, some_listed}
-use Rattle.choice.proofs.Searching.{joint_number}
-use Rattle.game.proofs.Numbers.Decide.{none_more}
 use Rattle.choice.proofs.moves.move_at.Given as goal
 
 abbrev pub invariant-loop-k : goal.invariant-loop-k

@@ -1,13 +1,11 @@
 -- `first_paid` looks for a listed move that the place pays.
 use mathlib.Core.Bool.{true}
 use mathlib.Core.Path.{refl}
-use Prim.Native.Nat.{ℕ, ◌-◌, ◌≤◌, ◌<◌}
+use Prim.Native.Nat.{◌<◌}
 use native.Mathlib.Omega.{arith}
-use borrow.Author.Rules.{rules}
-use Rattle.game.specs.Position.{Position, Affordable}
+use Rattle.game.specs.Position.{Affordable}
 use Rattle.game.specs.Model.{arena_of}
 use Rattle.ways.specs.Lines.{count_in, number_in}
-use Rattle.ways.specs.Places.{PlacedAt}
 use Rattle.ways.proofs.Leading.{paid_at, lands_nowhere}
 use Rattle.game.proofs.Numbers.Decide.{none_more}
 use Rattle.choice.proofs.next.first_paid.Goals as goal
@@ -53,7 +51,7 @@ loop-k-preserved c = let G = arena_of c.args.block.now c.args.row.index in
 
 pub returns : goal.returns
 returns c = record {
-      within = omega (arith, c.count-n.ensures);
-      paid = λ small. absurd (omega (arith, c.count-n.ensures));
-      before = λ j less. c.loop-k.invariant.1 j (omega (arith, c.loop-k-test.false));
-    }
+  within = omega (arith, c.count-n.ensures);
+  paid = λ small. absurd (omega (arith, c.count-n.ensures));
+  before = λ j less. c.loop-k.invariant.1 j (omega (arith, c.loop-k-test.false));
+}

@@ -1,15 +1,10 @@
 -- `first_paid` looks for a listed move that the place pays.
 use mathlib.Core.Bool.{true}
-use mathlib.Core.Path.{refl}
 use Prim.Native.Nat.{ℕ, ◌-◌, ◌≤◌, ◌<◌}
-use native.Mathlib.Omega.{arith}
-use borrow.Author.Rules.{rules}
 use Rattle.game.specs.Position.{Position, Affordable}
 use Rattle.game.specs.Model.{arena_of}
-use Rattle.ways.specs.Lines.{count_in, number_in}
+use Rattle.ways.specs.Lines.{number_in}
 use Rattle.ways.specs.Places.{PlacedAt}
-use Rattle.ways.proofs.Leading.{paid_at, lands_nowhere}
-use Rattle.game.proofs.Numbers.Decide.{none_more}
 use Rattle.choice.proofs.next.first_paid.Given as goal
 
 abbrev pub invariant-loop-k : goal.invariant-loop-k

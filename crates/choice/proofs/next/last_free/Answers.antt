@@ -1,11 +1,10 @@
 -- `last_free` looks at the last listed move, if there is one.
 use mathlib.Core.Path.{sym, ◌∙◌, ap}
-use Prim.Native.Nat.{ℕ, ◌-◌, ◌<◌}
+use Prim.Native.Nat.{ℕ, ◌-◌}
 use native.Mathlib.Omega.{arith}
-use borrow.Author.Rules.{rules}
 use Rattle.block.specs.Inner.Tests.{fails}
 use Rattle.block.proofs.Decide as D
-use Rattle.ways.specs.Lines.{count_in, taken_in}
+use Rattle.ways.specs.Lines.{taken_in}
 use Rattle.choice.proofs.next.last_free.Goals as goal
 
 pub returns-then-n-eq0 : goal.returns-then-n-eq0

@@ -1,13 +1,10 @@
 -- `next_places` stores one rank after another.
-use mathlib.Core.Path.{◌≡◌, refl, ◌∙◌}
-use Prim.Native.Nat.{◌+◌, ◌*◌, ◌-◌, ◌≤◌, ◌<◌}
+use mathlib.Core.Path.{refl, ◌∙◌}
+use Prim.Native.Nat.{◌+◌, ◌*◌, ◌<◌}
 use native.Mathlib.Omega.{arith}
-use lib.ListN.{length}
 use mathlib.Core.Bool.{true}
 use Rattle.block.proofs.Decide as D
-use Rattle.turns.specs.Buffers.{rank_in}
 use Rattle.ways.proofs.Leading.{number_inside}
-use Rattle.choice.specs.Filling.{FilledTo, NextRight}
 use Rattle.choice.proofs.Filling.{places_first, places_next, places_all}
 use Rattle.choice.proofs.next.next_places.Goals as goal
 use Rattle.choice.proofs.next.next_places.Lts as lts

@@ -44,12 +44,12 @@ returns-then-first_paid-count c = let small : c.first_paid.result < count_in c.a
 
 pub returns : goal.returns
 returns c = (
-      λ p fits is.
-          let here = placed c.before.before.before.before.before.before.before p fits is in
-          inr (
-            refl,
-            none_answers c.args.block.now c.requires.valid c.args.row c.requires.playable.0 c.requires.playable.1 c.args.spot.state c.args.spot.place p here c.args.ways.now c.requires.playable.2 c.requires.state_bound.0
-                (λ j small. c.first_paid.ensures.before j (omega (arith, c.if-first_paid-count.false, c.count.ensures)) p here),
-          ),
-      omega arith,
-    )
+  λ p fits is.
+      let here = placed c.before.before.before.before.before.before.before p fits is in
+      inr (
+        refl,
+        none_answers c.args.block.now c.requires.valid c.args.row c.requires.playable.0 c.requires.playable.1 c.args.spot.state c.args.spot.place p here c.args.ways.now c.requires.playable.2 c.requires.state_bound.0
+            (λ j small. c.first_paid.ensures.before j (omega (arith, c.if-first_paid-count.false, c.count.ensures)) p here),
+      ),
+  omega arith,
+)

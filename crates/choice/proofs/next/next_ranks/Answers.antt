@@ -1,6 +1,5 @@
 -- `next_ranks` fills the ranks from zeros on.
 use mathlib.Core.Path.{◌∙◌}
-use borrow.Author.Rules.{rules}
 use Rattle.choice.specs.Filling.{NextRight}
 use Rattle.choice.proofs.Filling.{words_none, next_all}
 use Rattle.choice.proofs.next.next_ranks.Goals as goal

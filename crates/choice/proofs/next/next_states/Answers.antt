@@ -1,9 +1,7 @@
 -- `next_states` fills one state after another.
 use mathlib.Core.Path.{◌≡◌, refl, ◌∙◌, subst}
-use Prim.Native.Nat.{ℕ, ◌*◌, ◌-◌, ◌≤◌}
+use Prim.Native.Nat.{ℕ, ◌*◌}
 use native.Mathlib.Omega.{arith}
-use borrow.Author.Rules.{rules}
-use lib.ListN.{length}
 use Rattle.block.specs.Layout as L
 use Rattle.turns.specs.Buffers.{rank_in}
 use Rattle.choice.specs.Filling.{FilledTo, NextRight}
@@ -30,4 +28,4 @@ shape_of-ranks c = c.loop-s.invariant.2
 
 pub returns : goal.returns
 returns c = let all : c.loop-s.s ≡ L.states c.args.block.now = omega (arith, c.loop-s-test.false, c.loop-s.invariant.0, c.states-n.ensures) in
-     record { filled_to_2 = subst (λ (n : ℕ). FilledTo rank_in (NextRight c.args.block.now c.args.row.index c.args.row.set) (n * c.args.row.places) c.loop-s.ranks) all c.loop-s.invariant.1; ranks_len_unchanged = c.loop-s.invariant.2 }
+    record { filled_to_2 = subst (λ (n : ℕ). FilledTo rank_in (NextRight c.args.block.now c.args.row.index c.args.row.set) (n * c.args.row.places) c.loop-s.ranks) all c.loop-s.invariant.1; ranks_len_unchanged = c.loop-s.invariant.2 }

@@ -1,13 +1,9 @@
 -- `next_states` fills one state after another.
-use mathlib.Core.Path.{◌≡◌, refl, ◌∙◌, subst}
-use Prim.Native.Nat.{ℕ, ◌*◌, ◌-◌, ◌≤◌}
-use native.Mathlib.Omega.{arith}
-use borrow.Author.Rules.{rules}
+use mathlib.Core.Path.{◌≡◌}
+use Prim.Native.Nat.{◌*◌, ◌-◌, ◌≤◌}
 use lib.ListN.{length}
-use Rattle.block.specs.Layout as L
 use Rattle.turns.specs.Buffers.{rank_in}
 use Rattle.choice.specs.Filling.{FilledTo, NextRight}
-use Rattle.choice.proofs.Filling.{states_first}
 use Rattle.choice.proofs.next.next_states.Given as goal
 
 abbrev pub invariant-loop-s : goal.invariant-loop-s

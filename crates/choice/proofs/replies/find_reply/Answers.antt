@@ -1,7 +1,7 @@
 -- `find_reply` tries the listed replies from the smallest on until one counters.
 use mathlib.Core.Bool.{false}
 use mathlib.Core.Path.{◌≡◌, sym, ◌∙◌, ap, subst, transport}
-use Prim.Native.Nat.{ℕ, ◌+◌, ◌*◌, ◌-◌, ◌≤◌, ◌<◌}
+use Prim.Native.Nat.{ℕ, ◌+◌, ◌*◌, ◌<◌}
 use native.Mathlib.Omega.{arith}
 use Rattle.block.specs.Layout as L
 use Rattle.block.proofs.Decide as D
@@ -135,15 +135,15 @@ loop-k-smaller c = omega (arith, c.loop-k-test.true)
 
 pub loop-k-preserved : goal.loop-k-preserved
 loop-k-preserved c = (
-      omega (arith, c.loop-k-test.true),
-      none_more (λ j. CounterBy c.args.aim.kind c.args.row.set c.args.aim.own (L.next c.args.block.now c.args.step.state (c.args.step.number + number_in c.args.ways.now c.args.step.state false j)) (rank_in c.args.ranks.now (L.next c.args.block.now c.args.step.state (c.args.step.number + number_in c.args.ways.now c.args.step.state false j) * c.args.row.places + c.args.step.place))) c.loop-k.k c.loop-k.invariant.1
-          (λ aim. D.falsity c.counters.ensures c.if-counters.false (transport (sym (tested c.before.before)) aim)),
-    )
+  omega (arith, c.loop-k-test.true),
+  none_more (λ j. CounterBy c.args.aim.kind c.args.row.set c.args.aim.own (L.next c.args.block.now c.args.step.state (c.args.step.number + number_in c.args.ways.now c.args.step.state false j)) (rank_in c.args.ranks.now (L.next c.args.block.now c.args.step.state (c.args.step.number + number_in c.args.ways.now c.args.step.state false j) * c.args.row.places + c.args.step.place))) c.loop-k.k c.loop-k.invariant.1
+      (λ aim. D.falsity c.counters.ensures c.if-counters.false (transport (sym (tested c.before.before)) aim)),
+)
 
 pub returns : goal.returns
 returns c = (
-      λ p fits is_state leaves k counter. absurd (line_none (ReplyTo c.args.block.now c.args.row.index c.args.step.state) (Counters c.before.before p is_state leaves)
-          ((c.requires.playable.1.states c.args.step.state c.requires.made.0).lines false) (λ m counters _. listed c.before.before p is_state leaves m counters)
-          (λ j small. none_so_far c.before.before p is_state leaves j (omega (arith, c.loop-k-test.false, c.count-n.ensures)) small) k counter),
-      omega arith,
-    )
+  λ p fits is_state leaves k counter. absurd (line_none (ReplyTo c.args.block.now c.args.row.index c.args.step.state) (Counters c.before.before p is_state leaves)
+      ((c.requires.playable.1.states c.args.step.state c.requires.made.0).lines false) (λ m counters _. listed c.before.before p is_state leaves m counters)
+      (λ j small. none_so_far c.before.before p is_state leaves j (omega (arith, c.loop-k-test.false, c.count-n.ensures)) small) k counter),
+  omega arith,
+)

@@ -12,17 +12,17 @@ failed-requires c = omega (arith, c.requires.made.0.0, c.requires.valid.sized.st
 
 pub returns-then-failed : goal.returns-then-failed
 returns-then-failed c = (
-      λ p fits is_state leaves allowed own_is. reply_failed c.args.block.now c.requires.valid c.args.row c.requires.playable.0 c.args.ranks.now c.kind-kind.result c.args.own c.args.step.state c.args.step.number c.args.step.place c.requires.made.0 p is_state leaves
-          fits c.kind-kind.ensures own_is c.args.right c.requires.made.1 c.requires.fact allowed (D.truth c.failed.ensures c.if-failed.true),
-      omega arith,
-    )
+  λ p fits is_state leaves allowed own_is. reply_failed c.args.block.now c.requires.valid c.args.row c.requires.playable.0 c.args.ranks.now c.kind-kind.result c.args.own c.args.step.state c.args.step.number c.args.step.place c.requires.made.0 p is_state leaves
+      fits c.kind-kind.ensures own_is c.args.right c.requires.made.1 c.requires.fact allowed (D.truth c.failed.ensures c.if-failed.true),
+  omega arith,
+)
 
 pub find_reply-requires : goal.find_reply-requires
 find_reply-requires c = record { valid = c.requires.valid; playable = c.requires.playable; made = c.requires.made.0 }
 
 pub returns : goal.returns
 returns c = (
-      λ p fits is_state leaves allowed own_is. reply_found c.args.block.now c.requires.valid c.args.row c.requires.playable.0 c.args.ranks.now c.kind-kind.result c.args.own c.args.step.state c.args.step.number c.args.step.place c.requires.made.0 p is_state leaves
-          fits c.kind-kind.ensures own_is c.args.right c.requires.made.1 c.requires.fact allowed (D.falsity c.failed.ensures c.if-failed.false) c.find_reply.result (c.find_reply.ensures.0 p fits is_state leaves),
-      c.find_reply.ensures.1,
-    )
+  λ p fits is_state leaves allowed own_is. reply_found c.args.block.now c.requires.valid c.args.row c.requires.playable.0 c.args.ranks.now c.kind-kind.result c.args.own c.args.step.state c.args.step.number c.args.step.place c.requires.made.0 p is_state leaves
+      fits c.kind-kind.ensures own_is c.args.right c.requires.made.1 c.requires.fact allowed (D.falsity c.failed.ensures c.if-failed.false) c.find_reply.result (c.find_reply.ensures.0 p fits is_state leaves),
+  c.find_reply.ensures.1,
+)

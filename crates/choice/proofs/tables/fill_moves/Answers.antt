@@ -1,6 +1,5 @@
 -- `fill_moves` fills the moves from zeros on.
 use mathlib.Core.Path.{sym, ◌∙◌, subst}
-use borrow.Author.Rules.{rules}
 use Rattle.choice.specs.Choices.{Sought}
 use Rattle.choice.specs.Filling.{MoveRight}
 use Rattle.choice.proofs.Filling.{bytes_none, moves_all}

@@ -1,10 +1,8 @@
 -- `fill_places` stores one move after another.
-use mathlib.Core.Path.{◌≡◌, refl, ◌∙◌}
-use Prim.Native.Nat.{◌+◌, ◌*◌, ◌-◌, ◌≤◌, ◌<◌}
+use mathlib.Core.Path.{refl, ◌∙◌}
+use Prim.Native.Nat.{◌+◌, ◌*◌, ◌<◌}
 use native.Mathlib.Omega.{arith}
-use lib.ListN.{length}
 use Rattle.ways.proofs.Leading.{number_inside}
-use Rattle.choice.specs.Filling.{byte_in, FilledTo, MoveRight}
 use Rattle.choice.proofs.Filling.{byte_stored, places_first, places_next, places_all}
 use Rattle.choice.proofs.tables.fill_places.Goals as goal
 use Rattle.choice.proofs.tables.fill_places.Lts as lts

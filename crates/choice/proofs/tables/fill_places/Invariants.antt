@@ -1,11 +1,8 @@
 -- `fill_places` stores one move after another.
-use mathlib.Core.Path.{◌≡◌, refl, ◌∙◌}
-use Prim.Native.Nat.{◌+◌, ◌*◌, ◌-◌, ◌≤◌, ◌<◌}
-use native.Mathlib.Omega.{arith}
+use mathlib.Core.Path.{◌≡◌}
+use Prim.Native.Nat.{◌+◌, ◌*◌, ◌-◌, ◌≤◌}
 use lib.ListN.{length}
-use Rattle.ways.proofs.Leading.{number_inside}
 use Rattle.choice.specs.Filling.{byte_in, FilledTo, MoveRight}
-use Rattle.choice.proofs.Filling.{byte_stored, places_first, places_next, places_all}
 use Rattle.choice.proofs.tables.fill_places.Given as goal
 
 abbrev pub invariant-loop-x : goal.invariant-loop-x

@@ -1,12 +1,8 @@
 -- `fill_states` fills one state after another.
-use mathlib.Core.Path.{◌≡◌, refl, ◌∙◌, subst}
-use Prim.Native.Nat.{ℕ, ◌*◌, ◌-◌, ◌≤◌}
-use native.Mathlib.Omega.{arith}
-use borrow.Author.Rules.{rules}
+use mathlib.Core.Path.{◌≡◌}
+use Prim.Native.Nat.{◌*◌, ◌-◌, ◌≤◌}
 use lib.ListN.{length}
-use Rattle.block.specs.Layout as L
 use Rattle.choice.specs.Filling.{byte_in, FilledTo, MoveRight}
-use Rattle.choice.proofs.Filling.{states_first}
 use Rattle.choice.proofs.tables.fill_states.Given as goal
 
 abbrev pub invariant-loop-s : goal.invariant-loop-s

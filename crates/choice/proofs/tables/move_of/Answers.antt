@@ -1,6 +1,5 @@
 -- `move_of` goes by the kind.
 use mathlib.Core.Path.{subst}
-use borrow.Author.Rules.{rules}
 use Rattle.choice.specs.Choices.{Sought}
 use Rattle.choice.proofs.tables.move_of.Goals as goal
 

@@ -1,13 +1,8 @@
 -- `bad` decides number 4: it looks over the states.
-use Prim.Native.Nat.{ℕ, ◌≤◌, ◌<◌, ◌-◌}
-use native.Mathlib.Omega.{arith}
-use borrow.Author.Count.{below_none, below_more}
-use Rattle.block.specs.Inner.Tests.{holds, fails}
+use Prim.Native.Nat.{ℕ, ◌≤◌, ◌<◌}
 use Rattle.block.specs.Decide.{Some}
 use Rattle.block.specs.Layout.{max_joint}
 use Rattle.block.specs.Check.{BadNext}
-use Rattle.block.proofs.Decide as D
-use borrow.Author.Rules.{rules}
 use Rattle.conditions.proofs.nexts.bad.Given as goal
 
 abbrev pub invariant-loop-s : goal.invariant-loop-s

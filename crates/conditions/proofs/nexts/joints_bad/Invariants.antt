@@ -1,12 +1,7 @@
 -- `joints_bad` looks for a bad next state over the joint actions.
-use Prim.Native.Nat.{ℕ, ◌≤◌, ◌<◌, ◌-◌}
-use native.Mathlib.Omega.{arith}
-use borrow.Author.Count.{below_none, below_more}
+use Prim.Native.Nat.{ℕ, ◌≤◌, ◌<◌}
 use Rattle.block.specs.Layout.{max_joint}
-use Rattle.block.specs.Inner.Tests.{holds, fails}
 use Rattle.block.specs.Check.{BadNext}
-use Rattle.block.proofs.Decide as D
-use borrow.Author.Rules.{rules}
 use Rattle.conditions.proofs.nexts.joints_bad.Given as goal
 
 abbrev pub invariant-loop-joint : goal.invariant-loop-joint

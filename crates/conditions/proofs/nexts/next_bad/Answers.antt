@@ -2,7 +2,6 @@
 use native.Mathlib.Omega.{arith}
 use Rattle.block.specs.Inner.Tests.{fails}
 use Rattle.block.proofs.Decide as D
-use borrow.Author.Rules.{rules}
 use Rattle.conditions.proofs.nexts.next_bad.Goals as goal
 
 pub returns-then-available : goal.returns-then-available

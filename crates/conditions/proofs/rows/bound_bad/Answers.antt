@@ -3,7 +3,6 @@ use native.Mathlib.Omega.{arith}
 use Rattle.block.specs.Layout.{unlimited}
 use Rattle.block.specs.Inner.Tests.{fails}
 use Rattle.block.proofs.Decide as D
-use borrow.Author.Rules.{rules}
 use Rattle.conditions.proofs.rows.bound_bad.Goals as goal
 
 pub returns-then-n-le-MAX_UNITS : goal.returns-then-n-le-MAX_UNITS

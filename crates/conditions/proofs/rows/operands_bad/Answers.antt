@@ -4,7 +4,6 @@ use native.Mathlib.Omega.{arith}
 use Rattle.block.specs.Inner.Tests.{holds, fails}
 use Rattle.block.specs.Check.{prop_range, left_range, right_range}
 use Rattle.block.proofs.Decide as D
-use borrow.Author.Rules.{rules}
 use Rattle.conditions.proofs.rows.operands_bad.Goals as goal
 
 pub returns-then-k-eq-PROP_KIND : goal.returns-then-k-eq-PROP_KIND

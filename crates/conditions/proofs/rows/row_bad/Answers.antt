@@ -3,7 +3,6 @@ use native.Mathlib.Omega.{arith}
 use Rattle.block.specs.Inner.Tests.{holds, fails}
 use Rattle.block.specs.Check.{kind_unknown, operands, coalition}
 use Rattle.block.proofs.Decide as D
-use borrow.Author.Rules.{rules}
 use Rattle.conditions.proofs.rows.row_bad.Goals as goal
 
 pub returns-then-kind-gt-UNTIL_KIND : goal.returns-then-kind-gt-UNTIL_KIND

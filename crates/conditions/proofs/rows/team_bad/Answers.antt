@@ -2,7 +2,6 @@
 use Rattle.block.specs.Inner.Tests.{holds}
 use Rattle.block.specs.Check.{team_empty, team_absent, bound_range}
 use Rattle.block.proofs.Decide as D
-use borrow.Author.Rules.{rules}
 use Rattle.conditions.proofs.rows.team_bad.Goals as goal
 
 pub returns-then-t-eq0 : goal.returns-then-t-eq0

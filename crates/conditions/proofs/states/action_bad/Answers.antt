@@ -1,9 +1,7 @@
 -- `action_bad` looks for a bad cost over the resources.
-use Prim.Native.Nat.{ℕ, ◌≤◌, ◌<◌, ◌-◌}
 use native.Mathlib.Omega.{arith}
 use borrow.Author.Count.{below_none, below_more}
 use Rattle.block.specs.Inner.Tests.{holds, fails}
-use Rattle.block.specs.Check.{BadCost}
 use Rattle.block.proofs.Decide as D
 use borrow.Author.Rules.{rules}
 use Rattle.conditions.proofs.states.action_bad.Goals as goal

@@ -1,14 +1,12 @@
 -- `actions_bad` tries an agent's count and looks for a bad cost over its actions.
-use Prim.Native.Nat.{ℕ, ◌≤◌, ◌<◌, ◌-◌}
+use Prim.Native.Nat.{ℕ, ◌≤◌, ◌<◌}
 use mathlib.Core.Bool.{Bool, false}
 use mathlib.Core.Path.{◌≡◌}
 use mathlib.Core.Logic.{inl, inr, ⊎_elim}
 use native.Mathlib.Omega.{arith}
 use borrow.Author.Count.{below_none, below_more}
-use Rattle.block.specs.Decide.{Outside, Some}
+use Rattle.block.specs.Decide.{Outside}
 use Rattle.block.specs.Inner.Tests.{Decides, holds, fails}
-use Rattle.block.specs.Layout.{resources}
-use Rattle.block.specs.Check.{BadCost}
 use Rattle.block.proofs.Decide as D
 use borrow.Author.Rules.{rules}
 use Rattle.conditions.proofs.states.actions_bad.Goals as goal
@@ -24,7 +22,7 @@ loop-k-init c = (search rules, below_none _)
 
 pub action_bad-requires : goal.action_bad-requires
 action_bad-requires c = let few = four c.outside.ensures c.if-outside.false in
-     record { sized = search rules; s_lt_max_states = omega arith }
+    record { sized = search rules; s_lt_max_states = omega arith }
 
 pub returns-then-action_bad : goal.returns-then-action_bad
 returns-then-action_bad c = holds (inr (c.loop-k.k, rw (← c.count-n.ensures) c.loop-k-test.true, D.truth c.action_bad.ensures c.if-action_bad.true))

@@ -1,11 +1,6 @@
 -- `agents_bad` looks for bad actions over the agents.
-use Prim.Native.Nat.{ℕ, ◌≤◌, ◌<◌, ◌-◌}
-use native.Mathlib.Omega.{arith}
-use borrow.Author.Count.{below_none, below_more}
-use Rattle.block.specs.Inner.Tests.{holds, fails}
+use Prim.Native.Nat.{ℕ, ◌≤◌, ◌<◌}
 use Rattle.block.specs.Check.{BadActions}
-use Rattle.block.proofs.Decide as D
-use borrow.Author.Rules.{rules}
 use Rattle.conditions.proofs.states.agents_bad.Given as goal
 
 abbrev pub invariant-loop-a : goal.invariant-loop-a

@@ -3,7 +3,6 @@ use mathlib.Core.Logic.{inl, inr, ⊎_elim}
 use native.Mathlib.Omega.{arith}
 use Rattle.block.specs.Inner.Tests.{fails}
 use Rattle.block.proofs.Decide as D
-use borrow.Author.Rules.{rules}
 use Rattle.conditions.proofs.states.cost_bad.Goals as goal
 
 pub returns-then-k-eq0 : goal.returns-then-k-eq0

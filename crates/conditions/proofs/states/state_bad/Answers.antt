@@ -2,7 +2,6 @@
 use mathlib.Core.Logic.{inl, inr, ⊎_elim}
 use Rattle.block.specs.Inner.Tests.{holds}
 use Rattle.block.proofs.Decide as D
-use borrow.Author.Rules.{rules}
 use Rattle.conditions.proofs.states.state_bad.Goals as goal
 
 pub returns-then-bit_from : goal.returns-then-bit_from

@@ -1,5 +1,4 @@
 -- `coalition_at` makes the row ready and finds the move.
-use borrow.Author.Rules.{rules}
 use mathlib.Core.Path.{sym, ◌∙◌}
 use Rattle.lookup.proofs.coalition.coalition_at.Goals as goal
 

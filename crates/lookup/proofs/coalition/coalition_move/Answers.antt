@@ -8,7 +8,6 @@ use Rattle.game.proofs.Blocks.Rowwise.{row_demanded}
 use Rattle.turns.proofs.Bytes.{cleared}
 use Rattle.lookup.specs.Calls.{side_rules}
 use Rattle.admission.proofs.Admitting.{position_admitted}
-use borrow.Author.Rules.{rules}
 use Rattle.lookup.proofs.coalition.coalition_move.Goals as goal
 
 pub returns-then-room-ne-ROOM_BYTES : goal.returns-then-room-ne-ROOM_BYTES
@@ -16,17 +15,23 @@ returns-then-room-ne-ROOM_BYTES c = record { move_call = record { answer = turne
 
 pub coalition_at-answer-requires : goal.coalition_at-answer-requires
 coalition_at-answer-requires c = let (valid, (row, fits)) = position_admitted c.args.block.now c.args.i c.args.s _ (none_holds (rw c.in-Value.is at c.position.ensures)) in
-     record { valid = valid; i_bound = (row.0, row.1, omega (arith, valid.sized.resources_fit), omega (arith, c.if-room-ne-ROOM_BYTES.false)); position = fits }
+    record { valid = valid; i_bound = (row.0, row.1, omega (arith, valid.sized.resources_fit), omega (arith, c.if-room-ne-ROOM_BYTES.false)); position = fits }
 
 pub returns-in-Value : goal.returns-in-Value
 returns-in-Value c = let told = rw c.in-Value.is at c.position.ensures in
-     record { move_call = record {
+    record {
+      move_call = record {
         answer = past (λ h. h c.if-room-ne-ROOM_BYTES.false) (passed told c.coalition_at-answer.ensures.answers);
         room_after = room_cleared (not_length c.coalition_at-answer.ensures.answers (omega arith, tt)) (cleared c.coalition_at-answer.new.room c.zeros.new.buffer (length c.args.room.now) c.zeros.ensures c.coalition_at-answer.ensures.room_len_unchanged);
-      }; demand3 = row_demanded c.args.block.now c.args.i }
+      };
+      demand3 = row_demanded c.args.block.now c.args.i;
+    }
 
 pub returns-in-Refused : goal.returns-in-Refused
-returns-in-Refused c = let p = position c.args.s (c.args.stock0 ∷ c.args.stock1 ∷ []) in record { move_call = record {
-        answer = past (λ h. h c.if-room-ne-ROOM_BYTES.false) (refused (side_rules c.args.block.now c.args.i p) (rw c.in-Refused.is at c.position.ensures));
-        room_after = c.leave.ensures;
-      }; demand3 = row_demanded c.args.block.now c.args.i }
+returns-in-Refused c = let p = position c.args.s (c.args.stock0 ∷ c.args.stock1 ∷ []) in record {
+  move_call = record {
+    answer = past (λ h. h c.if-room-ne-ROOM_BYTES.false) (refused (side_rules c.args.block.now c.args.i p) (rw c.in-Refused.is at c.position.ensures));
+    room_after = c.leave.ensures;
+  };
+  demand3 = row_demanded c.args.block.now c.args.i;
+}

@@ -1,7 +1,6 @@
 -- `opponents_at` makes the row ready first.
 use mathlib.Core.Path.{sym, ◌∙◌}
 use native.Mathlib.Omega.{arith}
-use borrow.Author.Rules.{rules}
 use Rattle.game.specs.Position.{position}
 use Rattle.game.specs.Model.{arena_of}
 use Rattle.ways.proofs.Placing.{stocks_below}

@@ -8,7 +8,6 @@ use Rattle.game.proofs.Blocks.Rowwise.{row_demanded}
 use Rattle.turns.proofs.Bytes.{cleared}
 use Rattle.lookup.specs.Calls.{answer_rules}
 use Rattle.admission.proofs.Admitting.{position_admitted}
-use borrow.Author.Rules.{rules}
 use Rattle.lookup.proofs.opponents.reply.Goals as goal
 
 pub returns-then-room-ne-ROOM_BYTES : goal.returns-then-room-ne-ROOM_BYTES
@@ -16,17 +15,23 @@ returns-then-room-ne-ROOM_BYTES c = record { reply_call = record { answer = turn
 
 pub opponents_at-answer-requires : goal.opponents_at-answer-requires
 opponents_at-answer-requires c = let (valid, (row, fits)) = position_admitted c.args.block.now c.args.i c.args.s _ (none_holds (rw c.in-Value.is at c.position.ensures)) in
-     record { valid = valid; i_bound = (row.0, row.1, omega (arith, valid.sized.resources_fit), omega (arith, c.if-room-ne-ROOM_BYTES.false)); position = fits }
+    record { valid = valid; i_bound = (row.0, row.1, omega (arith, valid.sized.resources_fit), omega (arith, c.if-room-ne-ROOM_BYTES.false)); position = fits }
 
 pub returns-in-Value : goal.returns-in-Value
 returns-in-Value c = let told = rw c.in-Value.is at c.position.ensures in
-     record { reply_call = record {
+    record {
+      reply_call = record {
         answer = past (λ h. h c.if-room-ne-ROOM_BYTES.false) (passed told c.opponents_at-answer.ensures.answers);
         room_after = room_cleared (not_length c.opponents_at-answer.ensures.answers (omega arith, (omega arith, tt))) (cleared c.opponents_at-answer.new.room c.zeros.new.buffer (length c.args.room.now) c.zeros.ensures c.opponents_at-answer.ensures.room_len_unchanged);
-      }; demand3 = row_demanded c.args.block.now c.args.i }
+      };
+      demand3 = row_demanded c.args.block.now c.args.i;
+    }
 
 pub returns-in-Refused : goal.returns-in-Refused
-returns-in-Refused c = let p = position c.args.s (c.args.stock0 ∷ c.args.stock1 ∷ []) in record { reply_call = record {
-        answer = past (λ h. h c.if-room-ne-ROOM_BYTES.false) (refused (answer_rules c.args.block.now c.args.i p c.args.m) (rw c.in-Refused.is at c.position.ensures));
-        room_after = c.leave.ensures;
-      }; demand3 = row_demanded c.args.block.now c.args.i }
+returns-in-Refused c = let p = position c.args.s (c.args.stock0 ∷ c.args.stock1 ∷ []) in record {
+  reply_call = record {
+    answer = past (λ h. h c.if-room-ne-ROOM_BYTES.false) (refused (answer_rules c.args.block.now c.args.i p c.args.m) (rw c.in-Refused.is at c.position.ensures));
+    room_after = c.leave.ensures;
+  };
+  demand3 = row_demanded c.args.block.now c.args.i;
+}

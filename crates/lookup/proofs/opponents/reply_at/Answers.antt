@@ -2,7 +2,6 @@
 use mathlib.Core.Path.{◌≡◌, sym, ◌∙◌, ap, subst, subst₂}
 use Prim.Native.Nat.{ℕ, ◌+◌, ◌*◌, ◌<◌}
 use native.Mathlib.Omega.{arith}
-use borrow.Author.Rules.{rules}
 use Rattle.block.specs.Layout as L
 use Rattle.block.proofs.Decide as D
 use Rattle.block.proofs.Refusals.{turned_down, past, answered}
@@ -80,10 +79,15 @@ unclaimed : (c : At-Else-claims) → ClaimsBy (L.kind c.args.block.now c.args.i)
 unclaimed c claim = D.falsity c.claims.ensures c.if-claims.false (subst (λ (k : ℕ). ClaimsBy k c.rank_at-own.result) (sym c.kind.ensures) claim)
 
 pub reply_to-r-requires : goal.reply_to-r-requires
-reply_to-r-requires c = let (move, lands) = made c.before in record { valid = c.requires.valid; playable = (c.row_of-row.ensures.0, c.list_row.ensures, c.requires.i_bound.3); made = (
-            (c.requires.state_bound.0, move, omega (arith, lands.0, c.row_of-row.ensures.0.places_are)),
-            subst₂ (λ (i left : ℕ). RanksOf c.args.block.now i left c.args.ready.right c.args.ranks.now) (sym c.row_of-row.ensures.1) (sym c.row_of-row.ensures.3) c.requires.prepared.ranks_of,
-          ); fact = λ claim. unclaimed c.before.before.before.before.before.before.before (subst (λ (i : ℕ). ClaimsBy (L.kind c.args.block.now i) c.rank_at-own.result) c.row_of-row.ensures.1 claim) }
+reply_to-r-requires c = let (move, lands) = made c.before in record {
+  valid = c.requires.valid;
+  playable = (c.row_of-row.ensures.0, c.list_row.ensures, c.requires.i_bound.3);
+  made = (
+    (c.requires.state_bound.0, move, omega (arith, lands.0, c.row_of-row.ensures.0.places_are)),
+    subst₂ (λ (i left : ℕ). RanksOf c.args.block.now i left c.args.ready.right c.args.ranks.now) (sym c.row_of-row.ensures.1) (sym c.row_of-row.ensures.3) c.requires.prepared.ranks_of,
+  );
+  fact = λ claim. unclaimed c.before.before.before.before.before.before.before (subst (λ (i : ℕ). ClaimsBy (L.kind c.args.block.now i) c.rank_at-own.result) c.row_of-row.ensures.1 claim);
+}
 
 -- at a position of row i
 module _ (c : At-Else-claims) (p : Position) (placed : PlacedAt (arena_of c.args.block.now c.args.i) c.args.spot.state c.args.spot.place p) where

@@ -1,7 +1,6 @@
 -- `spot_move` finds the move that goes with the ranks.
 use mathlib.Core.Path.{sym, ◌∙◌, ap, subst}
 use native.Mathlib.Omega.{arith}
-use borrow.Author.Rules.{rules}
 use Rattle.block.specs.Layout as L
 use Rattle.choice.specs.Choices.{Sought}
 use Rattle.lookup.proofs.Answering.{spot_moves}

@@ -7,7 +7,6 @@ use Rattle.game.proofs.Blocks.Rowwise.{row_demanded}
 use Rattle.turns.proofs.Bytes.{cleared}
 use Rattle.rehearsal.specs.Rehearsal.{play_rules}
 use Rattle.rehearsal.proofs.Calls.{rehearsal_admitted}
-use borrow.Author.Rules.{rules}
 use Rattle.rehearsal.proofs.call.rehearse.Goals as goal
 
 pub rehearse_row-answer-requires : goal.rehearse_row-answer-requires
@@ -16,16 +15,22 @@ rehearse_row-answer-requires c =
     record { valid = valid; i_bound = inside; script_len_bound = long }
 
 pub returns-in-Value : goal.returns-in-Value
-returns-in-Value c = record { rehearsal_call = record {
-        answer = passed (rw c.in-Value.is at c.turned_down.ensures) c.rehearse_row-answer.ensures.answers;
-        kept = c.rehearse_row-answer.ensures.kept.0;
-        room_after = room_cleared (not_length c.rehearse_row-answer.ensures.answers (omega arith, (omega arith, tt)))
-            (cleared c.rehearse_row-answer.new.room c.zeros.new.buffer (length c.args.room.now) c.zeros.ensures c.rehearse_row-answer.ensures.kept.1);
-      }; demand3 = row_demanded c.args.block.now c.args.i }
+returns-in-Value c = record {
+  rehearsal_call = record {
+    answer = passed (rw c.in-Value.is at c.turned_down.ensures) c.rehearse_row-answer.ensures.answers;
+    kept = c.rehearse_row-answer.ensures.kept.0;
+    room_after = room_cleared (not_length c.rehearse_row-answer.ensures.answers (omega arith, (omega arith, tt)))
+        (cleared c.rehearse_row-answer.new.room c.zeros.new.buffer (length c.args.room.now) c.zeros.ensures c.rehearse_row-answer.ensures.kept.1);
+  };
+  demand3 = row_demanded c.args.block.now c.args.i;
+}
 
 pub returns-in-Refused : goal.returns-in-Refused
-returns-in-Refused c = record { rehearsal_call = record {
-        answer = refused (play_rules c.args.block.now c.args.i c.args.s c.args.script.now) (rw c.in-Refused.is at c.turned_down.ensures);
-        kept = refl;
-        room_after = c.leave.ensures;
-      }; demand3 = row_demanded c.args.block.now c.args.i }
+returns-in-Refused c = record {
+  rehearsal_call = record {
+    answer = refused (play_rules c.args.block.now c.args.i c.args.s c.args.script.now) (rw c.in-Refused.is at c.turned_down.ensures);
+    kept = refl;
+    room_after = c.leave.ensures;
+  };
+  demand3 = row_demanded c.args.block.now c.args.i;
+}

@@ -3,8 +3,6 @@ use mathlib.Core.List.{List}
 use mathlib.Core.Path.{◌≡◌, refl, sym, ◌∙◌, ap, subst₂}
 use Prim.Native.Nat.{ℕ, ◌+◌, ◌*◌, ◌<◌}
 use native.Mathlib.Omega.{arith}
-use borrow.Author.Rules.{rules}
-use borrow.Author.Tests.{not-true, not-false}
 use Rattle.block.proofs.Decide as D
 use Rattle.block.proofs.Refusals.{turned_down, past, answered}
 use Rattle.game.specs.Position.{Arena, IsPosition, number, full}
@@ -114,13 +112,16 @@ returns-in-After c = let (P, end, _) = ends c.before.before.before.before.before
     let X = ready_table c.prepare-ready.ensures.valid c.prepare-ready.ensures.inside c.prepare-ready.ensures.strategic c.prepare-ready.ensures.prepared in
     let decided = ready_decided c.prepare-ready.ensures.valid c.prepare-ready.ensures.inside c.prepare-ready.ensures.strategic c.prepare-ready.ensures.prepared in
     let (moves, finished, position, long) = c.store.ensures in
-     record { answers = past (λ loses. loses wins)
+    record {
+      answers = past (λ loses. loses wins)
           (past (all_available (G c.before.before.before.before.before.before.before.before.before.before.before.before.before.before.before.before.before.before.before.before.before.before.before.before.before.before) proper (t c.before.before.before.before.before.before.before.before.before.before.before.before.before.before.before.before.before.before.before.before.before.before.before.before.before.before) X decided c.args.script.now (full (G c.before.before.before.before.before.before.before.before.before.before.before.before.before.before.before.before.before.before.before.before.before.before.before.before.before.before) c.args.s) P c.in-After.moves c.in-After.finished end)
           (answered (
             refl,
             reported (G c.before.before.before.before.before.before.before.before.before.before.before.before.before.before.before.before.before.before.before.before.before.before.before.before.before.before) proper (t c.before.before.before.before.before.before.before.before.before.before.before.before.before.before.before.before.before.before.before.before.before.before.before.before.before.before) X decided c.args.script.now (full (G c.before.before.before.before.before.before.before.before.before.before.before.before.before.before.before.before.before.before.before.before.before.before.before.before.before.before) c.args.s) (first_fits c.before.before.before.before.before.before.before.before.before.before.before.before.before.before.before.before.before.before.before.before.before.before.before.before.before.before) wins P c.in-After.moves c.in-After.finished end
                 c.store.new.report moves finished (position ∙ last_number_lem c.before.before.before.before.before.before.before.before) long,
-          ))); kept = (tt, c.prepare-ready.ensures.long ∙ sym c.requires.script_len_bound.2) }
+          )));
+      kept = (tt, c.prepare-ready.ensures.long ∙ sym c.requires.script_len_bound.2);
+    }
 
 pub returns-in-NoReply : goal.returns-in-NoReply
 returns-in-NoReply c = record { answers = past (λ loses. loses (wins_here c.before.before.before.before)) (turned_down (rw c.in-NoReply.is at c.play.ensures)); kept = (refl, c.prepare-ready.ensures.long ∙ sym c.requires.script_len_bound.2) }

@@ -3,7 +3,6 @@ use mathlib.Core.Path.{◌≡◌, ◌∙◌, ap₂}
 use Prim.Native.Nat.{ℕ, ◌+◌, ◌*◌, ◌≤◌}
 use native.Mathlib.Omega.{arith}
 use lib.ListN.{get_or, length}
-use borrow.Author.Rules.{rules}
 use Rattle.turns.proofs.Bytes.{with_pair, pair_stored, pair_other, pair_length}
 use Rattle.rehearsal.proofs.call.store.Goals as goal
 

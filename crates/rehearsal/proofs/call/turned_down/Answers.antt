@@ -1,7 +1,6 @@
 -- `turned_down` tries the lengths, and then the block, the row and the state.
 use native.Mathlib.Omega.{arith}
 use Rattle.block.proofs.Refusals.{turned_down, past}
-use borrow.Author.Rules.{rules}
 use Rattle.rehearsal.proofs.call.turned_down.Goals as goal
 
 pub returns-then-script-gt-SCRIPT_BYTES : goal.returns-then-script-gt-SCRIPT_BYTES

@@ -1,7 +1,6 @@
 -- `is_finished` goes by the kind of the row.
 use mathlib.Core.Path.{◌≡◌, ap}
 use Prim.Native.Nat.{ℕ}
-use borrow.Author.Rules.{rules}
 use Rattle.block.specs.Decide.{Bit}
 use Rattle.block.proofs.Decide as D
 use Rattle.rankings.proofs.ByKind.{decides_as, until_stands}

@@ -1,10 +1,9 @@
 -- `play` takes one turn for each byte of the script, as long as the row is unfinished.
 use mathlib.Core.Logic.{◌↔◌}
 use mathlib.Core.Path.{◌≡◌, refl, sym, subst}
-use Prim.Native.Nat.{ℕ, ◌-◌, ◌≤◌, ◌<◌}
+use Prim.Native.Nat.{ℕ, ◌<◌}
 use native.Mathlib.Omega.{arith}
 use lib.ListN.{get_or, length}
-use borrow.Author.Rules.{rules}
 use Rattle.block.specs.Layout as L
 use Rattle.block.proofs.Decide as D
 use Rattle.game.specs.Position.{Arena, full}
@@ -114,10 +113,10 @@ loop-n-smaller c = omega (arith, c.loop-n-test.true)
 
 pub loop-n-preserved : goal.loop-n-preserved
 loop-n-preserved c = (
-      omega (arith, c.loop-n-test.true),
-      stands_next (G c.before.before.before.before.before.before.before.before) (valid_proper c.args.block.now c.requires.made_ready.valid) (t c.before.before.before.before.before.before.before.before) c.args.script.now (full (G c.before.before.before.before.before.before.before.before) c.args.s) c.loop-n.n c.loop-n.spot.state c.loop-n.spot.place (stands c.before.before.before.before.before.before.before.before) (goes_on c.before.before)
-          c.in-To.next (rw c.in-To.is at (turned c.before.before)),
-    )
+  omega (arith, c.loop-n-test.true),
+  stands_next (G c.before.before.before.before.before.before.before.before) (valid_proper c.args.block.now c.requires.made_ready.valid) (t c.before.before.before.before.before.before.before.before) c.args.script.now (full (G c.before.before.before.before.before.before.before.before) c.args.s) c.loop-n.n c.loop-n.spot.state c.loop-n.spot.place (stands c.before.before.before.before.before.before.before.before) (goes_on c.before.before)
+      c.in-To.next (rw c.in-To.is at (turned c.before.before)),
+)
 
 pub is_finished-requires-2 : goal.is_finished-requires-2
 is_finished-requires-2 c = state_small c.before.before

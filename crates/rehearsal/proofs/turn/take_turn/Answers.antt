@@ -3,7 +3,6 @@ use mathlib.Core.Bool.{false}
 use mathlib.Core.Path.{sym, subst}
 use Prim.Native.Nat.{ℕ, ◌+◌, ◌<◌}
 use native.Mathlib.Omega.{arith}
-use borrow.Author.Rules.{rules}
 use Rattle.game.specs.Position.{Position}
 use Rattle.game.specs.Model.{arena_of, objective_of}
 use Rattle.turns.specs.Inner.Rules.{ReplyTo}

@@ -5,7 +5,6 @@ use Rattle.game.specs.Model.{arena_of}
 use Rattle.game.specs.Position.{full}
 use Rattle.game.proofs.Bridge.Truth.{full_fits}
 use Rattle.game.proofs.Blocks.Passing.{number_few}
-use borrow.Author.Rules.{rules}
 use Rattle.report.proofs.plans.plan_at.Goals as goal
 use Rattle.report.proofs.plans.plan_at.Lts as lts
 use Rattle.report.proofs.plans.plan_at.Reads as reads

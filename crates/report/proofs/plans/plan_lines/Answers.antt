@@ -1,10 +1,10 @@
 -- `plan_lines` writes the line of the lowest state above those written.
-use Prim.Native.Nat.{◌+◌, ◌-◌, ◌^◌, ◌<◌}
+use Prim.Native.Nat.{◌+◌, ◌^◌, ◌<◌}
 use native.Mathlib.Nat.{div-le_self}
 use native.Mathlib.Omega.{arith}
 use Rattle.block.specs.Layout as L
 use Rattle.turns.specs.Buffers.{table_in}
-use Rattle.report.proofs.Planning.{Planned, planned_none, state_inside, planned_next, planned_all}
+use Rattle.report.proofs.Planning.{planned_none, state_inside, planned_next, planned_all}
 use Rattle.report.proofs.plans.plan_lines.Goals as goal
 use Rattle.report.proofs.plans.plan_lines.Lts as lts
 use Rattle.report.proofs.plans.plan_lines.Reads as reads

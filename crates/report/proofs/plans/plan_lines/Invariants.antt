@@ -1,10 +1,8 @@
 -- `plan_lines` writes the line of the lowest state above those written.
-use Prim.Native.Nat.{◌+◌, ◌-◌, ◌^◌, ◌<◌}
-use native.Mathlib.Nat.{div-le_self}
-use native.Mathlib.Omega.{arith}
+use Prim.Native.Nat.{◌-◌}
 use Rattle.block.specs.Layout as L
 use Rattle.turns.specs.Buffers.{table_in}
-use Rattle.report.proofs.Planning.{Planned, planned_none, state_inside, planned_next, planned_all}
+use Rattle.report.proofs.Planning.{Planned}
 use Rattle.report.proofs.plans.plan_lines.Given as goal
 
 abbrev pub invariant-loop-from : goal.invariant-loop-from

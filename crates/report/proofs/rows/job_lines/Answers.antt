@@ -1,15 +1,9 @@
 -- `job_lines` writes the first line and then the lines of each row.
 use mathlib.Core.Path.{◌≡◌, refl, sym, ◌∙◌}
-use Prim.Native.Nat.{◌-◌, ◌≤◌}
 use native.Mathlib.Omega.{arith}
-use lib.ListN.{length}
 use Rattle.block.specs.Layout as L
-use Rattle.turns.specs.Sizes.{sets_bytes, room_bytes, moves_bytes}
-use Rattle.solver.specs.Inner.Labels.{LowerSets}
 use Rattle.solver.proofs.Labelling.{lower_more}
-use Rattle.report.specs.Call.{listing_bytes}
-use borrow.Author.Rules.{rules}
-use Rattle.report.proofs.Jobwise.{Rowed, rowed_none, rowed_next, rowed_all}
+use Rattle.report.proofs.Jobwise.{rowed_none, rowed_next, rowed_all}
 use Rattle.report.proofs.rows.job_lines.Goals as goal
 
 pub list_line-next-requires : goal.list_line-next-requires
@@ -29,9 +23,9 @@ loop-i-smaller c = omega (arith, c.loop-i-test.true)
 
 pub loop-i-preserved : goal.loop-i-preserved
 loop-i-preserved c = let (lines, (listed, added)) = c.row_lines-next.ensures.by_index.0 in (
-      (omega (arith, c.loop-i-test.true), c.row_lines-next.ensures.row_labelled.long ∙ c.loop-i.invariant.0.1, c.row_lines-next.ensures.ranks_len.0, c.row_lines-next.ensures.ranks_len.1, c.row_lines-next.auto.out ∙ c.loop-i.invariant.0.4),
-      (lower_more c.args.block.now c.loop-i.i c.loop-i.sets c.row_lines-next.new.sets c.loop-i.invariant.1.0 c.row_lines-next.ensures.row_labelled, rowed_next c.args.block.now c.loop-i.out c.loop-i.next c.loop-i.i c.loop-i.invariant.1.1 lines c.row_lines-next.new.out c.row_lines-next.result listed added c.row_lines-next.ensures.by_index.1),
-    )
+  (omega (arith, c.loop-i-test.true), c.row_lines-next.ensures.row_labelled.long ∙ c.loop-i.invariant.0.1, c.row_lines-next.ensures.ranks_len.0, c.row_lines-next.ensures.ranks_len.1, c.row_lines-next.auto.out ∙ c.loop-i.invariant.0.4),
+  (lower_more c.args.block.now c.loop-i.i c.loop-i.sets c.row_lines-next.new.sets c.loop-i.invariant.1.0 c.row_lines-next.ensures.row_labelled, rowed_next c.args.block.now c.loop-i.out c.loop-i.next c.loop-i.i c.loop-i.invariant.1.1 lines c.row_lines-next.new.out c.row_lines-next.result listed added c.row_lines-next.ensures.by_index.1),
+)
 
 pub shape_of-out : goal.shape_of-out
 shape_of-out c = c.loop-i.invariant.0.4 ∙ sym c.requires.out_len.0

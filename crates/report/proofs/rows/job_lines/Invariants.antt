@@ -1,15 +1,11 @@
 -- `job_lines` writes the first line and then the lines of each row.
-use mathlib.Core.Path.{◌≡◌, refl, sym, ◌∙◌}
+use mathlib.Core.Path.{◌≡◌}
 use Prim.Native.Nat.{◌-◌, ◌≤◌}
-use native.Mathlib.Omega.{arith}
 use lib.ListN.{length}
-use Rattle.block.specs.Layout as L
 use Rattle.turns.specs.Sizes.{sets_bytes, room_bytes, moves_bytes}
 use Rattle.solver.specs.Inner.Labels.{LowerSets}
-use Rattle.solver.proofs.Labelling.{lower_more}
 use Rattle.report.specs.Call.{listing_bytes}
-use borrow.Author.Rules.{rules}
-use Rattle.report.proofs.Jobwise.{Rowed, rowed_none, rowed_next, rowed_all}
+use Rattle.report.proofs.Jobwise.{Rowed}
 use Rattle.report.proofs.rows.job_lines.Given as goal
 
 abbrev pub invariant-loop-i : goal.invariant-loop-i

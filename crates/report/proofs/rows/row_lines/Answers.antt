@@ -13,7 +13,6 @@ use Rattle.solver.proofs.Needing.{lower_named}
 use Rattle.printing.specs.Lines.{set_line}
 use Rattle.report.specs.Listing.{plan_lines}
 use Rattle.report.proofs.Rowwise.{set_inside, plain_listed, strategic_listed}
-use borrow.Author.Rules.{rules}
 use Rattle.report.proofs.rows.row_lines.Goals as goal
 use Rattle.report.proofs.rows.row_lines.Lts as lts
 use Rattle.report.proofs.rows.row_lines.Reads as reads
@@ -43,7 +42,7 @@ set_line-plans-requires c = (omega (arith, c.requires.sets_len.3), (omega (arith
 
 pub returns-then-kind-lt-NEXT_KIND : goal.returns-then-kind-lt-NEXT_KIND
 returns-then-kind-lt-NEXT_KIND c = let low : L.kind c.args.block.now c.args.i < L.next_kind = omega (arith, c.if-kind-lt-NEXT_KIND.true, c.kind.ensures) in
-     record { row_labelled = c.label_row.ensures.row_labelled; ranks_len = (c.label_row.ensures.ways_len_unchanged.1 ∙ c.requires.sets_len.1, c.requires.sets_len.2); by_index = ((set_line c.args.i c.word_at-set.result, (plain_listed c.args.block.now c.args.i c.word_at-set.result (told c.before.before.before.before.before.before.before) low, c.set_line-plans.ensures.0)), omega (arith, c.set_line-plans.ensures.1)) }
+    record { row_labelled = c.label_row.ensures.row_labelled; ranks_len = (c.label_row.ensures.ways_len_unchanged.1 ∙ c.requires.sets_len.1, c.requires.sets_len.2); by_index = ((set_line c.args.i c.word_at-set.result, (plain_listed c.args.block.now c.args.i c.word_at-set.result (told c.before.before.before.before.before.before.before) low, c.set_line-plans.ensures.0)), omega (arith, c.set_line-plans.ensures.1)) }
 
 pub row_table-requires : goal.row_table-requires
 row_table-requires c = record { valid = c.requires.valid.0; i_bound = (c.requires.valid.1, strategic c.before.before.before); sets_len = (c.label_row.ensures.row_labelled.long ∙ c.requires.sets_len.0, c.label_row.ensures.ways_len_unchanged.0 ∙ length-replicate {A = ℕ} 6704 0, c.label_row.ensures.ways_len_unchanged.1 ∙ c.requires.sets_len.1, c.requires.sets_len.2); ranked = c.label_row.ensures.ranked }
@@ -53,13 +52,17 @@ plan_lines-requires c = record { valid = c.requires.valid.0; i_bound = (c.requir
 
 pub returns : goal.returns
 returns c = let X = table_in c.label_row.new.ranks c.row_table.new.moves in
-     record { row_labelled = c.label_row.ensures.row_labelled; ranks_len = c.row_table.ensures.long; by_index = (
+    record {
+      row_labelled = c.label_row.ensures.row_labelled;
+      ranks_len = c.row_table.ensures.long;
+      by_index = (
+        (
+          set_line c.args.i c.word_at-set.result ++ plan_lines c.args.block.now c.args.i c.word_at-set.result X,
           (
-            set_line c.args.i c.word_at-set.result ++ plan_lines c.args.block.now c.args.i c.word_at-set.result X,
-            (
-              strategic_listed c.args.block.now c.args.i c.word_at-set.result (told c.before.before.before.before.before.before.before.before.before.before.before.before.before.before.before.before.before) X (strategic c.before.before.before.before.before.before.before.before.before.before.before).0 c.row_table.ensures.decided,
-              adds_then (set_line c.args.i c.word_at-set.result) (plan_lines c.args.block.now c.args.i c.word_at-set.result X) c.args.out.now c.set_line-plans.new.out c.plan_lines.new.out c.args.at c.set_line-plans.result c.plan_lines.result c.set_line-plans.ensures.0 c.plan_lines.ensures.0,
-            ),
+            strategic_listed c.args.block.now c.args.i c.word_at-set.result (told c.before.before.before.before.before.before.before.before.before.before.before.before.before.before.before.before.before) X (strategic c.before.before.before.before.before.before.before.before.before.before.before).0 c.row_table.ensures.decided,
+            adds_then (set_line c.args.i c.word_at-set.result) (plan_lines c.args.block.now c.args.i c.word_at-set.result X) c.args.out.now c.set_line-plans.new.out c.plan_lines.new.out c.args.at c.set_line-plans.result c.plan_lines.result c.set_line-plans.ensures.0 c.plan_lines.ensures.0,
           ),
-          omega (arith, c.set_line-plans.ensures.1, c.plan_lines.ensures.1),
-        ) }
+        ),
+        omega (arith, c.set_line-plans.ensures.1, c.plan_lines.ensures.1),
+      );
+    }

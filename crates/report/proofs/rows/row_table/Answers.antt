@@ -7,7 +7,6 @@ use Rattle.turns.specs.Buffers.{word_in}
 use Rattle.choice.specs.Tables.{RanksOf, MovesOf}
 use Rattle.solver.specs.Inner.Labels.{Prepared}
 use Rattle.solver.proofs.Tabling.{row_table}
-use borrow.Author.Rules.{rules}
 use Rattle.report.proofs.rows.row_table.Goals as goal
 use Rattle.report.proofs.rows.row_table.Lts as lts
 use Rattle.report.proofs.rows.row_table.Reads as reads

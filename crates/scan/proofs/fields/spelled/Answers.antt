@@ -1,11 +1,9 @@
 -- `spelled` reads a field by its spellings and stores its byte where it may stand there.
 use mathlib.Core.Path.{sym, ◌∙◌}
 use lib.ListN.{drop}
-use borrow.Author.Tests.{not-true, not-false}
 use Rattle.text.proofs.Search.{search_inv}
 use Rattle.spellings.specs.Inner.Spelled.{spelling_of}
 use Rattle.scan.proofs.Reading.{value_next, value_refused, value_missing}
-use borrow.Author.Rules.{rules}
 use Rattle.scan.proofs.fields.spelled.Goals as goal
 
 pub returns-then-not-allowed : goal.returns-then-not-allowed
@@ -17,8 +15,8 @@ byte_of-v-requires c = (search_inv _ _ _ _ _ (rw c.in-Found.is at c.spelling_at.
 
 pub returns-else-not-allowed : goal.returns-else-not-allowed
 returns-else-not-allowed c = let there = rw c.in-Found.is at c.spelling_at.ensures.text_value in
-     record { by_index = λ k. value_next (spelling_of c.args.what) c.args.x k c.args.job.now (drop c.args.at c.args.text.now) _ _ _ _ there (sym c.allowed.ensures ∙ c.if-not-allowed.false) (sym c.byte_of-v.ensures.0) c.put.ensures; inside_with = (c.byte_of-v.ensures.1, rw c.in-Found.is at c.spelling_at.ensures.inside_numeral) }
+    record { by_index = λ k. value_next (spelling_of c.args.what) c.args.x k c.args.job.now (drop c.args.at c.args.text.now) _ _ _ _ there (sym c.allowed.ensures ∙ c.if-not-allowed.false) (sym c.byte_of-v.ensures.0) c.put.ensures; inside_with = (c.byte_of-v.ensures.1, rw c.in-Found.is at c.spelling_at.ensures.inside_numeral) }
 
 pub returns-in-Missing : goal.returns-in-Missing
 returns-in-Missing c = let there = rw c.in-Missing.is at c.spelling_at.ensures.text_value in
-     record { by_index = λ k. value_missing (spelling_of c.args.what) c.args.x k c.args.job.now (drop c.args.at c.args.text.now) there; inside_with = c.requires.at_in_bounds }
+    record { by_index = λ k. value_missing (spelling_of c.args.what) c.args.x k c.args.job.now (drop c.args.at c.args.text.now) there; inside_with = c.requires.at_in_bounds }

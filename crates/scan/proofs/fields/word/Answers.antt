@@ -3,7 +3,6 @@ use mathlib.Core.Path.{sym, ap}
 use lib.ListN.{drop}
 use Rattle.text.specs.Numeral.{Found}
 use Rattle.text.specs.Format.{on_found, read}
-use borrow.Author.Rules.{rules}
 use Rattle.scan.proofs.fields.word.Goals as goal
 
 pub returns-in-Found : goal.returns-in-Found

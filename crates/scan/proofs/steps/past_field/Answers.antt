@@ -1,5 +1,4 @@
 -- `past_field` goes past a number and stores it.
-use borrow.Author.Rules.{rules}
 use Rattle.scan.proofs.steps.past_field.Goals as goal
 
 pub returns : goal.returns

@@ -1,6 +1,5 @@
 -- `past_index` goes past a known number, from a step.
 use mathlib.Core.Path.{refl}
-use borrow.Author.Rules.{rules}
 use Rattle.scan.proofs.steps.past_index.Goals as goal
 
 pub index-requires : goal.index-requires

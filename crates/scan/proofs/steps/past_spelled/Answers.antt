@@ -1,5 +1,4 @@
 -- `past_spelled` goes past a field with spellings of its own and stores it.
-use borrow.Author.Rules.{rules}
 use Rattle.scan.proofs.steps.past_spelled.Goals as goal
 
 pub returns : goal.returns

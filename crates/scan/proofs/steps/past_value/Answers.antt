@@ -1,5 +1,4 @@
 -- `past_value` drops the value.
-use borrow.Author.Rules.{rules}
 use Rattle.scan.proofs.steps.past_value.Goals as goal
 
 pub returns-in-At : goal.returns-in-At

@@ -1,6 +1,5 @@
 -- `past_word` goes past a word, from a step.
 use mathlib.Core.Path.{refl}
-use borrow.Author.Rules.{rules}
 use Rattle.scan.proofs.steps.past_word.Goals as goal
 
 pub word-requires : goal.word-requires

@@ -2,7 +2,6 @@
 use mathlib.Core.Path.{refl, ◌∙◌}
 use Rattle.text.specs.Format.{read}
 use Rattle.scan.proofs.Reading.{with_law, past_inside}
-use borrow.Author.Rules.{rules}
 use Rattle.scan.proofs.steps.spelled_at.Goals as goal
 
 pub spelled-requires : goal.spelled-requires

@@ -2,7 +2,6 @@
 use mathlib.Core.Path.{refl, ◌∙◌}
 use Rattle.text.specs.Format.{read}
 use Rattle.scan.proofs.Reading.{with_law, past_inside}
-use borrow.Author.Rules.{rules}
 use Rattle.scan.proofs.steps.value_at.Goals as goal
 
 pub field-requires : goal.field-requires

@@ -11,7 +11,6 @@ use Rattle.turns.specs.Buffers.{word_in}
 use Rattle.turns.proofs.Bytes.{cleared, zero_word}
 use Rattle.solver.proofs.Calls.{sets_in}
 use Rattle.solver.proofs.Needing.{all_ones, all_closed}
-use borrow.Author.Rules.{rules}
 use Rattle.solver.proofs.label.label.Goals as goal
 
 pub returns-then-sets-ne-SETS_BYTES : goal.returns-then-sets-ne-SETS_BYTES
@@ -26,7 +25,7 @@ rows-n-requires c = (passing {b = c.args.block.now} (rw c.in-Value.is at c.check
 pub label_rows-requires : goal.label_rows-requires
 label_rows-requires c = let valid = passing {b = c.args.block.now} (rw c.in-Value.is at c.check.ensures) in
     let few : c.rows-n.result ≤ L.rows c.args.block.now = omega (arith, c.rows-n.ensures) in
-     record { valid = valid; n_bound = (few, omega (arith, c.zeros.auto.buffer, c.if-sets-ne-SETS_BYTES.false), length-replicate {A = ℕ} 6704 0, omega (arith, c.if-room-ne-ROOM_BYTES.false)); closed = all_closed c.args.block.now valid c.rows-n.result few }
+    record { valid = valid; n_bound = (few, omega (arith, c.zeros.auto.buffer, c.if-sets-ne-SETS_BYTES.false), length-replicate {A = ℕ} 6704 0, omega (arith, c.if-room-ne-ROOM_BYTES.false)); closed = all_closed c.args.block.now valid c.rows-n.result few }
 
 pub returns-in-Value : goal.returns-in-Value
 returns-in-Value c = let first = cleared c.args.sets.now c.zeros.new.buffer 128 c.zeros.ensures c.if-sets-ne-SETS_BYTES.false in

@@ -1,6 +1,5 @@
 -- `label_needed` labels the rows of the word that `needed` gives.
 use native.Mathlib.Omega.{arith}
-use borrow.Author.Rules.{rules}
 use Rattle.solver.proofs.Needing.{needed_closed, needed_labelled}
 use Rattle.solver.proofs.label.label_needed.Goals as goal
 

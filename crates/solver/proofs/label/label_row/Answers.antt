@@ -1,10 +1,9 @@
 -- `label_row` ranks a strategic row and stores the word of the states in which the row is true.
-use mathlib.Core.Logic.{inl, inr, ⊎_elim}
+use mathlib.Core.Logic.{inl, inr}
 use mathlib.Core.Path.{◌≡◌, refl, sym, ◌∙◌, ap, subst}
 use Prim.Native.Nat.{ℕ, ◌<◌}
 use native.Mathlib.Omega.{arith}
 use lib.ListN.{length}
-use borrow.Author.Rules.{rules}
 use Rattle.block.specs.Layout as L
 use Rattle.game.specs.Model.{RowSet}
 use Rattle.choice.specs.Tables.{RanksOf}
@@ -25,18 +24,18 @@ rank_row-requires c = record { valid = c.requires.valid; i_bound = (c.requires.i
 -- the ranks keep their length
 long : (c : At-Joined-kind-ge-NEXT_KIND) → length c.if-kind-ge-NEXT_KIND.ranks ≡ length c.args.ranks.now
 long c = elim c.if-kind-ge-NEXT_KIND.branch [
-  then-kind-ge-NEXT_KIND w ↦
-    ap length w.ranks-is ∙ w.rank_row.ensures.ranks_len_unchanged
+  | then-kind-ge-NEXT_KIND w ↦
+      ap length w.ranks-is ∙ w.rank_row.ensures.ranks_len_unchanged
   | else-kind-ge-NEXT_KIND w ↦
-    ap length w.ranks-is
+      ap length w.ranks-is
 ]
 
 ways_long : (c : At-Joined-kind-ge-NEXT_KIND) → length c.if-kind-ge-NEXT_KIND.ways ≡ length c.args.ways.now
 ways_long c = elim c.if-kind-ge-NEXT_KIND.branch [
-  then-kind-ge-NEXT_KIND w ↦
-    ap length w.ways-is ∙ w.rank_row.ensures.row_ranked.listed.long ∙ sym c.requires.i_bound.2
+  | then-kind-ge-NEXT_KIND w ↦
+      ap length w.ways-is ∙ w.rank_row.ensures.row_ranked.listed.long ∙ sym c.requires.i_bound.2
   | else-kind-ge-NEXT_KIND w ↦
-    ap length w.ways-is
+      ap length w.ways-is
 ]
 
 pub row_word-w-requires : goal.row_word-w-requires
@@ -52,10 +51,10 @@ shape_of-ranks c = long c.before.before.before.before.before.before
 ranked : (c : At-Joined-kind-ge-NEXT_KIND) → L.Strategic (L.kind c.args.block.now c.args.i) → RanksOf c.args.block.now c.args.i c.left_set-left.result c.right_set-right.result c.if-kind-ge-NEXT_KIND.ranks
 ranked c strategic =
     elim c.if-kind-ge-NEXT_KIND.branch [
-      then-kind-ge-NEXT_KIND w ↦
-        subst (RanksOf c.args.block.now c.args.i c.left_set-left.result c.right_set-right.result) (sym w.ranks-is) w.rank_row.ensures.row_ranked.ranks_of
+      | then-kind-ge-NEXT_KIND w ↦
+          subst (RanksOf c.args.block.now c.args.i c.left_set-left.result c.right_set-right.result) (sym w.ranks-is) w.rank_row.ensures.row_ranked.ranks_of
       | else-kind-ge-NEXT_KIND w ↦
-        absurd (omega (arith, c.kind.ensures, w.if-kind-ge-NEXT_KIND.false, strategic))
+          absurd (omega (arith, c.kind.ensures, w.if-kind-ge-NEXT_KIND.false, strategic))
     ]
 
 -- the words that the row names, as sets
@@ -71,15 +70,20 @@ right_told c uses =
 plain : (c : At-Joined-kind-ge-NEXT_KIND) → (L.Strategic (L.kind c.args.block.now c.args.i) → ⊥) → c.if-kind-ge-NEXT_KIND.ranks ≡ c.args.ranks.now
 plain c other =
     elim c.if-kind-ge-NEXT_KIND.branch [
-      then-kind-ge-NEXT_KIND w ↦
-        absurd (other (omega (arith, c.kind.ensures, w.if-kind-ge-NEXT_KIND.true), (c.requires.valid.row_fits c.args.i c.requires.i_bound.0).known))
+      | then-kind-ge-NEXT_KIND w ↦
+          absurd (other (omega (arith, c.kind.ensures, w.if-kind-ge-NEXT_KIND.true), (c.requires.valid.row_fits c.args.i c.requires.i_bound.0).known))
       | else-kind-ge-NEXT_KIND w ↦
-        w.ranks-is
+          w.ranks-is
     ]
 
 pub returns : goal.returns
-returns c = let set : RowSet c.args.block.now c.args.i c.row_word-w.result = row_labelled c.args.block.now c.requires.valid c.args.i c.requires.i_bound.0 c.left_set-left.result c.right_set-right.result (left_told c.before.before.before.before.before.before) (right_told c.before.before.before.before.before.before) c.if-kind-ge-NEXT_KIND.ranks c.row_word-w.result c.row_word-w.ensures (ranked c.before.before.before.before.before.before) in record { row_labelled = record { set = subst (RowSet c.args.block.now c.args.i) (sym c.set_word.ensures.stored) set; others = c.set_word.ensures.others; long = c.set_word.ensures.kept }; ranked = λ strategic.
-            let uses : L.prop_kind < L.kind c.args.block.now c.args.i = omega (arith, strategic.0) in
-            let lower = (c.requires.valid.row_fits c.args.i c.requires.i_bound.0).left_lower uses in
-            let same = c.left_set-left.ensures.value uses ∙ sym (c.set_word.ensures.others (L.left c.args.block.now c.args.i) (λ e. omega arith)) in
-            (c.right_set-right.result, subst (λ (w : ℕ). Prepared c.args.block.now c.args.i w c.right_set-right.result c.if-kind-ge-NEXT_KIND.ranks) same (record { left_set = left_told c.before.before.before.before.before.before; right_set = right_told c.before.before.before.before.before.before; ranks_of = ranked c.before.before.before.before.before.before strategic })); ranks_unchanged = plain c.before.before.before.before.before.before; ways_len_unchanged = (ways_long c.before.before.before.before.before.before, long c.before.before.before.before.before.before) }
+returns c = let set : RowSet c.args.block.now c.args.i c.row_word-w.result = row_labelled c.args.block.now c.requires.valid c.args.i c.requires.i_bound.0 c.left_set-left.result c.right_set-right.result (left_told c.before.before.before.before.before.before) (right_told c.before.before.before.before.before.before) c.if-kind-ge-NEXT_KIND.ranks c.row_word-w.result c.row_word-w.ensures (ranked c.before.before.before.before.before.before) in record {
+  row_labelled = record { set = subst (RowSet c.args.block.now c.args.i) (sym c.set_word.ensures.stored) set; others = c.set_word.ensures.others; long = c.set_word.ensures.kept };
+  ranked = λ strategic.
+      let uses : L.prop_kind < L.kind c.args.block.now c.args.i = omega (arith, strategic.0) in
+      let lower = (c.requires.valid.row_fits c.args.i c.requires.i_bound.0).left_lower uses in
+      let same = c.left_set-left.ensures.value uses ∙ sym (c.set_word.ensures.others (L.left c.args.block.now c.args.i) (λ e. omega arith)) in
+      (c.right_set-right.result, subst (λ (w : ℕ). Prepared c.args.block.now c.args.i w c.right_set-right.result c.if-kind-ge-NEXT_KIND.ranks) same (record { left_set = left_told c.before.before.before.before.before.before; right_set = right_told c.before.before.before.before.before.before; ranks_of = ranked c.before.before.before.before.before.before strategic }));
+  ranks_unchanged = plain c.before.before.before.before.before.before;
+  ways_len_unchanged = (ways_long c.before.before.before.before.before.before, long c.before.before.before.before.before.before);
+}

@@ -1,7 +1,6 @@
 -- `label_rows` labels one row of the word after another.
-use mathlib.Core.Logic.{⊎_elim}
 use mathlib.Core.Path.{◌≡◌, refl, sym, ◌∙◌, ap, subst}
-use Prim.Native.Nat.{ℕ, ◌+◌, ◌-◌, ◌≤◌, ◌<◌}
+use Prim.Native.Nat.{ℕ, ◌+◌, ◌<◌}
 use native.Mathlib.Omega.{arith}
 use lib.ListN.{length}
 use Rattle.block.specs.Layout as L
@@ -21,7 +20,7 @@ pub label_row-requires : goal.label_row-requires
 label_row-requires c = let small : c.loop-i.i < c.args.n = c.loop-i-test.true in
     let has = D.truth c.has_bit.ensures c.if-has_bit.true in
     let inside : c.loop-i.i < L.rows c.args.block.now = omega (arith, small, c.requires.n_bound.0) in
-     record { valid = c.requires.valid; i_bound = (inside, omega (arith, c.requires.n_bound.1, c.loop-i.invariant.2.long), c.loop-i.invariant.1.0 ∙ c.requires.n_bound.2, c.loop-i.invariant.1.1 ∙ c.requires.n_bound.3); named_sets = λ j named. c.loop-i.invariant.2.each j (names_lower c.args.block.now c.requires.valid inside named, c.requires.closed c.loop-i.i j (small, has) named) }
+    record { valid = c.requires.valid; i_bound = (inside, omega (arith, c.requires.n_bound.1, c.loop-i.invariant.2.long), c.loop-i.invariant.1.0 ∙ c.requires.n_bound.2, c.loop-i.invariant.1.1 ∙ c.requires.n_bound.3); named_sets = λ j named. c.loop-i.invariant.2.each j (names_lower c.args.block.now c.requires.valid inside named, c.requires.closed c.loop-i.i j (small, has) named) }
 
 pub overflow_step-i : goal.overflow_step-i
 overflow_step-i c = omega arith
@@ -33,10 +32,10 @@ pub loop-i-preserved : goal.loop-i-preserved
 loop-i-preserved c = let before : c.loop-i.i < c.args.n = c.loop-i-test.true in
     let labelled = RowsLabelled c.args.block.now (InWord (c.loop-i.i + 1) c.args.word) c.args.sets.now in
     elim c.if-has_bit.branch [
-      then-has_bit w ↦
-        (omega arith, (ap length w.ways-is ∙ w.label_row.ensures.ways_len_unchanged.0 ∙ c.loop-i.invariant.1.0, ap length w.ranks-is ∙ w.label_row.ensures.ways_len_unchanged.1 ∙ c.loop-i.invariant.1.1), subst labelled (sym w.sets-is) (labelled_with c.args.block.now c.args.word c.loop-i.i c.loop-i.invariant.2 w.label_row.ensures.row_labelled (D.truth c.has_bit.ensures w.if-has_bit.true)))
+      | then-has_bit w ↦
+          (omega arith, (ap length w.ways-is ∙ w.label_row.ensures.ways_len_unchanged.0 ∙ c.loop-i.invariant.1.0, ap length w.ranks-is ∙ w.label_row.ensures.ways_len_unchanged.1 ∙ c.loop-i.invariant.1.1), subst labelled (sym w.sets-is) (labelled_with c.args.block.now c.args.word c.loop-i.i c.loop-i.invariant.2 w.label_row.ensures.row_labelled (D.truth c.has_bit.ensures w.if-has_bit.true)))
       | else-has_bit w ↦
-        (omega arith, (ap length w.ways-is ∙ c.loop-i.invariant.1.0, ap length w.ranks-is ∙ c.loop-i.invariant.1.1), subst labelled (sym w.sets-is) (labelled_skip c.args.block.now c.args.word c.loop-i.i c.loop-i.invariant.2 (D.falsity c.has_bit.ensures w.if-has_bit.false)))
+          (omega arith, (ap length w.ways-is ∙ c.loop-i.invariant.1.0, ap length w.ranks-is ∙ c.loop-i.invariant.1.1), subst labelled (sym w.sets-is) (labelled_skip c.args.block.now c.args.word c.loop-i.i c.loop-i.invariant.2 (D.falsity c.has_bit.ensures w.if-has_bit.false)))
     ]
 
 pub shape_of-sets : goal.shape_of-sets
@@ -50,4 +49,4 @@ shape_of-ranks c = c.loop-i.invariant.1.1
 
 pub returns : goal.returns
 returns c = let done : c.loop-i.i ≡ c.args.n = omega (arith, c.loop-i.invariant.0, c.loop-i-test.false) in
-     record { rows_labelled = subst (λ (n : ℕ). RowsLabelled c.args.block.now (InWord n c.args.word) c.args.sets.now c.loop-i.sets) done c.loop-i.invariant.2; ways_len_unchanged = c.loop-i.invariant.1 }
+    record { rows_labelled = subst (λ (n : ℕ). RowsLabelled c.args.block.now (InWord n c.args.word) c.args.sets.now c.loop-i.sets) done c.loop-i.invariant.2; ways_len_unchanged = c.loop-i.invariant.1 }

@@ -1,13 +1,8 @@
 -- `label_rows` labels one row of the word after another.
-use mathlib.Core.Logic.{⊎_elim}
-use mathlib.Core.Path.{◌≡◌, refl, sym, ◌∙◌, ap, subst}
-use Prim.Native.Nat.{ℕ, ◌+◌, ◌-◌, ◌≤◌, ◌<◌}
-use native.Mathlib.Omega.{arith}
+use mathlib.Core.Path.{◌≡◌}
+use Prim.Native.Nat.{◌-◌, ◌≤◌}
 use lib.ListN.{length}
-use Rattle.block.specs.Layout as L
-use Rattle.block.proofs.Decide as D
 use Rattle.solver.specs.Inner.Labels.{InWord, RowsLabelled}
-use Rattle.solver.proofs.Needing.{names_lower, labelled_with, labelled_skip}
 use Rattle.solver.proofs.label.label_rows.Given as goal
 
 abbrev pub invariant-loop-i : goal.invariant-loop-i

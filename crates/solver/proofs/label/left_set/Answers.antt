@@ -1,7 +1,6 @@
 -- `left_set` reads the word of a lower row.
 use mathlib.Core.Path.{refl, ◌∙◌, ap}
 use native.Mathlib.Omega.{arith}
-use borrow.Author.Rules.{rules}
 use Rattle.turns.specs.Buffers.{word_in}
 use Rattle.solver.proofs.label.left_set.Goals as goal
 

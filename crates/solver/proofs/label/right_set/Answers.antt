@@ -1,7 +1,6 @@
 -- `right_set` reads the word of a lower row.
 use mathlib.Core.Path.{refl, ◌∙◌, ap}
 use native.Mathlib.Omega.{arith}
-use borrow.Author.Rules.{rules}
 use Rattle.block.proofs.Decide as D
 use Rattle.turns.specs.Buffers.{word_in}
 use Rattle.solver.proofs.label.right_set.Goals as goal

@@ -1,7 +1,6 @@
 -- `names_right` looks at the kind.
 use mathlib.Core.Path.{subst}
 use Prim.Native.Nat.{ℕ}
-use borrow.Author.Rules.{rules}
 use Rattle.block.specs.Inner.Tests.{Decides}
 use Rattle.block.specs.Layout.{Binary}
 use Rattle.solver.proofs.needs.names_right.Goals as goal

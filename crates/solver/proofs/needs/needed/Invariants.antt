@@ -1,9 +1,5 @@
 -- `needed` adds, from row i downwards, what each needed row names.
-use mathlib.Core.Path.{◌≡◌, subst}
-use Prim.Native.Nat.{ℕ, ◌+◌, ◌-◌, ◌<◌}
-use native.Mathlib.Omega.{arith}
-use Rattle.block.proofs.Decide as D
-use Rattle.solver.proofs.Needing.{NeedsFrom, needs_first, needs_with, needs_skip, needs_all}
+use Rattle.solver.proofs.Needing.{NeedsFrom}
 use Rattle.solver.proofs.needs.needed.Given as goal
 
 abbrev pub invariant-loop-j : goal.invariant-loop-j

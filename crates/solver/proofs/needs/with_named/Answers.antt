@@ -3,7 +3,6 @@ use mathlib.Core.Logic.{inl, inr, ⊎_elim}
 use mathlib.Core.Path.{◌≡◌, sym, ◌∙◌}
 use Prim.Native.Nat.{◌<◌}
 use native.Mathlib.Omega.{arith}
-use borrow.Author.Rules.{rules}
 use Rattle.block.specs.Layout as L
 use Rattle.block.proofs.Decide as D
 use Rattle.solver.proofs.needs.with_named.Goals as goal
@@ -35,9 +34,9 @@ right_small c = omega (arith, c.right.ensures, (c.requires.valid.row_fits c.args
 
 pub returns-then-kind-eq-PROP_KIND : goal.returns-then-kind-eq-PROP_KIND
 returns-then-kind-eq-PROP_KIND c = let prop : L.kind c.args.block.now c.args.i ≡ 0 = sym c.kind.ensures ∙ c.if-kind-eq-PROP_KIND.true in (
-      c.requires.i_bound.1,
-      λ j. ((λ one. inl one), ⊎_elim (λ one. one) (⊎_elim (λ (above, _). absurd (omega arith)) (λ (has, _). absurd (⊎_elim (λ e. omega (arith, e, prop)) (λ e. omega (arith, e, prop)) has)))),
-    )
+  c.requires.i_bound.1,
+  λ j. ((λ one. inl one), ⊎_elim (λ one. one) (⊎_elim (λ (above, _). absurd (omega arith)) (λ (has, _). absurd (⊎_elim (λ e. omega (arith, e, prop)) (λ e. omega (arith, e, prop)) has)))),
+)
 
 pub with_bit-v-requires : goal.with_bit-v-requires
 with_bit-v-requires c = (left_small c.before, c.requires.i_bound.1)
@@ -47,18 +46,18 @@ with_bit-requires c = (right_small c.before, c.with_bit-v.ensures.0 32 (left_sma
 
 pub returns-then-names_right : goal.returns-then-names_right
 returns-then-names_right c = (
-      c.with_bit.ensures.0 32 (right_small c.before.before) (c.with_bit-v.ensures.0 32 (left_small c.before.before.before.before.before.before) c.requires.i_bound.1),
-      λ j. (
-        (λ one. ⊎_elim (λ h. ⊎_elim (λ h. inl h) (λ e. inr (inl (uses c.before.before.before.before.before.before, e ∙ c.left.ensures))) ((c.with_bit-v.ensures.1 j).0 h)) (λ e. inr (inr (binary c.before.before.before, e ∙ c.right.ensures))) ((c.with_bit.ensures.1 j).0 one)),
-        ⊎_elim (λ h. (c.with_bit.ensures.1 j).1 (inl ((c.with_bit-v.ensures.1 j).1 (inl h)))) (⊎_elim (λ (_, e). (c.with_bit.ensures.1 j).1 (inl ((c.with_bit-v.ensures.1 j).1 (inr (e ∙ sym c.left.ensures))))) (λ (_, e). (c.with_bit.ensures.1 j).1 (inr (e ∙ sym c.right.ensures)))),
-      ),
-    )
+  c.with_bit.ensures.0 32 (right_small c.before.before) (c.with_bit-v.ensures.0 32 (left_small c.before.before.before.before.before.before) c.requires.i_bound.1),
+  λ j. (
+    (λ one. ⊎_elim (λ h. ⊎_elim (λ h. inl h) (λ e. inr (inl (uses c.before.before.before.before.before.before, e ∙ c.left.ensures))) ((c.with_bit-v.ensures.1 j).0 h)) (λ e. inr (inr (binary c.before.before.before, e ∙ c.right.ensures))) ((c.with_bit.ensures.1 j).0 one)),
+    ⊎_elim (λ h. (c.with_bit.ensures.1 j).1 (inl ((c.with_bit-v.ensures.1 j).1 (inl h)))) (⊎_elim (λ (_, e). (c.with_bit.ensures.1 j).1 (inl ((c.with_bit-v.ensures.1 j).1 (inr (e ∙ sym c.left.ensures))))) (λ (_, e). (c.with_bit.ensures.1 j).1 (inr (e ∙ sym c.right.ensures)))),
+  ),
+)
 
 pub returns : goal.returns
 returns c = (
-      c.with_bit-v.ensures.0 32 (left_small c.before.before.before.before) c.requires.i_bound.1,
-      λ j. (
-        (λ one. ⊎_elim (λ h. inl h) (λ e. inr (inl (uses c.before.before.before.before, e ∙ c.left.ensures))) ((c.with_bit-v.ensures.1 j).0 one)),
-        ⊎_elim (λ h. (c.with_bit-v.ensures.1 j).1 (inl h)) (⊎_elim (λ (_, e). (c.with_bit-v.ensures.1 j).1 (inr (e ∙ sym c.left.ensures))) (λ (has, _). absurd (D.falsity c.names_right.ensures c.if-names_right.false has))),
-      ),
-    )
+  c.with_bit-v.ensures.0 32 (left_small c.before.before.before.before) c.requires.i_bound.1,
+  λ j. (
+    (λ one. ⊎_elim (λ h. inl h) (λ e. inr (inl (uses c.before.before.before.before, e ∙ c.left.ensures))) ((c.with_bit-v.ensures.1 j).0 one)),
+    ⊎_elim (λ h. (c.with_bit-v.ensures.1 j).1 (inl h)) (⊎_elim (λ (_, e). (c.with_bit-v.ensures.1 j).1 (inr (e ∙ sym c.left.ensures))) (λ (has, _). absurd (D.falsity c.names_right.ensures c.if-names_right.false has))),
+  ),
+)

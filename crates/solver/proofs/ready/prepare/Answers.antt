@@ -1,7 +1,6 @@
 -- `prepare` labels the rows that it needs, lists the row and ranks it.
 use mathlib.Core.Path.{sym, ◌∙◌, subst}
 use Prim.Native.Nat.{ℕ}
-use borrow.Author.Rules.{rules}
 use Rattle.solver.specs.Inner.Labels.{Prepared}
 use Rattle.solver.specs.Inner.Rows.{RowRanked}
 use Rattle.solver.proofs.ready.prepare.Goals as goal

@@ -1,10 +1,7 @@
 -- `complement` takes each state that is not in the set.
-use mathlib.Core.Logic.{⊎_elim}
 use mathlib.Core.Path.{◌≡◌, sym, subst}
-use Prim.Native.Nat.{ℕ, ◌+◌, ◌-◌, ◌≤◌}
+use Prim.Native.Nat.{ℕ, ◌+◌}
 use native.Mathlib.Omega.{arith}
-use borrow.Author.Tests.{not-true, not-false}
-use Rattle.block.specs.Decide.{Bit}
 use Rattle.block.specs.Layout as L
 use Rattle.block.proofs.Decide as D
 use Rattle.solver.proofs.Words.{SaysBelow, longer, says_none, says_with, says_skip, says_all}
@@ -32,14 +29,14 @@ loop-s-smaller c = omega arith
 
 pub loop-s-preserved : goal.loop-s-preserved
 loop-s-preserved c = (
-      omega (arith, c.loop-s-test.true),
-      elim c.if-not-has_bit.branch [
-        then-not-has_bit w ↦
-          subst (SaysBelow (Misses c.args.set) (c.loop-s.s + 1)) (sym w.w-is) (says_with (Misses c.args.set) c.loop-s.s c.loop-s.w w.with_bit-w.result c.loop-s.invariant.1 (D.falsity c.has_bit.ensures w.if-not-has_bit.true) w.with_bit-w.ensures)
-        | else-not-has_bit w ↦
-          subst (SaysBelow (Misses c.args.set) (c.loop-s.s + 1)) (sym w.w-is) (says_skip (Misses c.args.set) c.loop-s.s c.loop-s.w c.loop-s.invariant.1 (λ misses. misses (D.truth c.has_bit.ensures w.if-not-has_bit.false)))
-      ],
-    )
+  omega (arith, c.loop-s-test.true),
+  elim c.if-not-has_bit.branch [
+    | then-not-has_bit w ↦
+        subst (SaysBelow (Misses c.args.set) (c.loop-s.s + 1)) (sym w.w-is) (says_with (Misses c.args.set) c.loop-s.s c.loop-s.w w.with_bit-w.result c.loop-s.invariant.1 (D.falsity c.has_bit.ensures w.if-not-has_bit.true) w.with_bit-w.ensures)
+    | else-not-has_bit w ↦
+        subst (SaysBelow (Misses c.args.set) (c.loop-s.s + 1)) (sym w.w-is) (says_skip (Misses c.args.set) c.loop-s.s c.loop-s.w c.loop-s.invariant.1 (λ misses. misses (D.truth c.has_bit.ensures w.if-not-has_bit.false)))
+  ],
+)
 
 pub returns : goal.returns
 returns c = let all : c.loop-s.s ≡ L.states c.args.block.now = omega (arith, c.loop-s.invariant.0, c.loop-s-test.false, c.states-n.ensures) in

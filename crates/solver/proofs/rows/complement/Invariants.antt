@@ -1,13 +1,7 @@
 -- `complement` takes each state that is not in the set.
-use mathlib.Core.Logic.{⊎_elim}
-use mathlib.Core.Path.{◌≡◌, sym, subst}
-use Prim.Native.Nat.{ℕ, ◌+◌, ◌-◌, ◌≤◌}
-use native.Mathlib.Omega.{arith}
-use borrow.Author.Tests.{not-true, not-false}
+use Prim.Native.Nat.{ℕ, ◌-◌, ◌≤◌}
 use Rattle.block.specs.Decide.{Bit}
-use Rattle.block.specs.Layout as L
-use Rattle.block.proofs.Decide as D
-use Rattle.solver.proofs.Words.{SaysBelow, longer, says_none, says_with, says_skip, says_all}
+use Rattle.solver.proofs.Words.{SaysBelow}
 use Rattle.solver.proofs.rows.complement.Given as goal
 
 abbrev pub Misses : ℕ → ℕ → Type 0

@@ -1,7 +1,6 @@
 -- `rank_listed` goes by the kind of the row.
 use mathlib.Core.Bool.{true, false}
 use mathlib.Core.Path.{◌≡◌, sym, ◌∙◌}
-use borrow.Author.Rules.{rules}
 use borrow.Author.Tests.{eq-eqb, ne_eqb}
 use Rattle.block.specs.Layout as L
 use Rattle.solver.proofs.Ranking.{next_ranked, until_ranked, always_ranked}

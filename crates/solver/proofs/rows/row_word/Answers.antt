@@ -1,7 +1,6 @@
 -- `row_word` takes each state in which the row is true.
-use mathlib.Core.Logic.{⊎_elim}
 use mathlib.Core.Path.{◌≡◌, sym, subst}
-use Prim.Native.Nat.{ℕ, ◌+◌, ◌-◌, ◌≤◌}
+use Prim.Native.Nat.{ℕ, ◌+◌}
 use native.Mathlib.Omega.{arith}
 use Rattle.block.specs.Layout as L
 use Rattle.block.proofs.Decide as D
@@ -29,16 +28,15 @@ pub loop-s-smaller : goal.loop-s-smaller
 loop-s-smaller c = omega arith
 
 pub loop-s-preserved : goal.loop-s-preserved
-loop-s-preserved c = let Q = TrueBy c.args.block.now c.args.i c.args.left c.args.right c.args.ranks.now in
-    (
-      omega (arith, c.loop-s-test.true),
-      elim c.if-true_at.branch [
-        then-true_at w ↦
-          subst (SaysBelow Q (c.loop-s.s + 1)) (sym w.w-is) (says_with Q c.loop-s.s c.loop-s.w w.with_bit-w.result c.loop-s.invariant.1 (D.truth c.true_at.ensures w.if-true_at.true) w.with_bit-w.ensures)
-        | else-true_at w ↦
-          subst (SaysBelow Q (c.loop-s.s + 1)) (sym w.w-is) (says_skip Q c.loop-s.s c.loop-s.w c.loop-s.invariant.1 (D.falsity c.true_at.ensures w.if-true_at.false))
-      ],
-    )
+loop-s-preserved c = let Q = TrueBy c.args.block.now c.args.i c.args.left c.args.right c.args.ranks.now in (
+  omega (arith, c.loop-s-test.true),
+  elim c.if-true_at.branch [
+    | then-true_at w ↦
+        subst (SaysBelow Q (c.loop-s.s + 1)) (sym w.w-is) (says_with Q c.loop-s.s c.loop-s.w w.with_bit-w.result c.loop-s.invariant.1 (D.truth c.true_at.ensures w.if-true_at.true) w.with_bit-w.ensures)
+    | else-true_at w ↦
+        subst (SaysBelow Q (c.loop-s.s + 1)) (sym w.w-is) (says_skip Q c.loop-s.s c.loop-s.w c.loop-s.invariant.1 (D.falsity c.true_at.ensures w.if-true_at.false))
+  ],
+)
 
 pub returns : goal.returns
 returns c = let Q = TrueBy c.args.block.now c.args.i c.args.left c.args.right c.args.ranks.now in

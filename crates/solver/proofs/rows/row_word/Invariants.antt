@@ -1,12 +1,7 @@
 -- `row_word` takes each state in which the row is true.
-use mathlib.Core.Logic.{⊎_elim}
-use mathlib.Core.Path.{◌≡◌, sym, subst}
-use Prim.Native.Nat.{ℕ, ◌+◌, ◌-◌, ◌≤◌}
-use native.Mathlib.Omega.{arith}
-use Rattle.block.specs.Layout as L
-use Rattle.block.proofs.Decide as D
+use Prim.Native.Nat.{◌-◌, ◌≤◌}
 use Rattle.solver.specs.Inner.Rows.{TrueBy}
-use Rattle.solver.proofs.Words.{SaysBelow, longer, says_none, says_with, says_skip, says_all}
+use Rattle.solver.proofs.Words.{SaysBelow}
 use Rattle.solver.proofs.rows.row_word.Given as goal
 
 abbrev pub invariant-loop-s : goal.invariant-loop-s

@@ -5,7 +5,6 @@ use native.Mathlib.Omega.{arith}
 use lib.ListN.{length-replicate}
 use Rattle.choice.specs.Tables.{RanksOf, MovesOf}
 use Rattle.solver.proofs.Tabling.{row_table}
-use borrow.Author.Rules.{rules}
 use Rattle.solver.proofs.table.fill_table.Goals as goal
 
 pub prepare-ready-requires : goal.prepare-ready-requires

@@ -1,7 +1,6 @@
 -- `bound_at` tries a number, then inf, then nothing, as the search does.
 use mathlib.Core.Path.{sym}
 use Rattle.spellings.proofs.Searches.{bound_search}
-use borrow.Author.Rules.{rules}
 use Rattle.spellings.proofs.bounds.bound_at.Goals as goal
 
 pub returns : goal.returns

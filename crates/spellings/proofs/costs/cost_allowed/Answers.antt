@@ -2,7 +2,6 @@
 use native.Mathlib.Omega.{arith}
 use borrow.Author.Tests.{lt-ltb, le-ltb}
 use Rattle.text.specs.Job.{cost_units, cost_limit}
-use borrow.Author.Rules.{rules}
 use Rattle.spellings.proofs.costs.cost_allowed.Goals as goal
 
 pub returns-then-cost_limit-cost_units : goal.returns-then-cost_limit-cost_units

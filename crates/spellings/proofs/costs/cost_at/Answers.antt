@@ -1,7 +1,6 @@
 -- `cost_at` finds a number in edition 1, and a number or a charge in edition 2.
 use mathlib.Core.Path.{◌∙◌}
 use Rattle.tokens.proofs.ChargesAt.{plain_search}
-use borrow.Author.Rules.{rules}
 use Rattle.spellings.proofs.costs.cost_at.Goals as goal
 
 pub returns-in-First : goal.returns-in-First

@@ -2,7 +2,6 @@
 use mathlib.Core.Path.{sym}
 use native.Mathlib.Omega.{arith}
 use Rattle.text.proofs.Costs.{is_number, is_charge}
-use borrow.Author.Rules.{rules}
 use Rattle.spellings.proofs.costs.cost_byte.Goals as goal
 
 pub returns-then-o-lt-NUMBERS : goal.returns-then-o-lt-NUMBERS

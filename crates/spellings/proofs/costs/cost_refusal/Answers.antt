@@ -2,7 +2,6 @@
 use native.Mathlib.Omega.{arith}
 use borrow.Author.Tests.{lt-ltb, le-ltb}
 use Rattle.text.specs.Job.{cost_units, cost_limit}
-use borrow.Author.Rules.{rules}
 use Rattle.spellings.proofs.costs.cost_refusal.Goals as goal
 
 pub returns-then-cost_units-cost_limit : goal.returns-then-cost_units-cost_limit

@@ -1,7 +1,6 @@
 -- `cost_units` is the number, or that after the minus.
 use mathlib.Core.Path.{sym}
 use Rattle.text.proofs.Costs.{is_number, is_charge}
-use borrow.Author.Rules.{rules}
 use Rattle.spellings.proofs.costs.cost_units.Goals as goal
 
 pub returns-then-o-lt-NUMBERS : goal.returns-then-o-lt-NUMBERS

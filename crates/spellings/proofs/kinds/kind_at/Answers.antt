@@ -1,7 +1,6 @@
 -- `kind_at` tries the words of the rows one after the other, as the search does.
 use mathlib.Core.Path.{sym}
 use Rattle.spellings.proofs.Searches.{kind_search}
-use borrow.Author.Rules.{rules}
 use Rattle.spellings.proofs.kinds.kind_at.Goals as goal
 
 pub returns : goal.returns

@@ -1,6 +1,5 @@
 -- `resource_at` finds a word in edition 2, and nothing to read in edition 1.
 use Rattle.spellings.proofs.Searches.{silent_search}
-use borrow.Author.Rules.{rules}
 use Rattle.spellings.proofs.kinds.resource_at.Goals as goal
 
 pub returns-in-First : goal.returns-in-First

@@ -2,7 +2,6 @@
 use mathlib.Core.Path.{sym}
 use borrow.Author.Tests.{eq-eqb, ne_eqb}
 use Rattle.spellings.proofs.Searches.{resource_search}
-use borrow.Author.Rules.{rules}
 use Rattle.spellings.proofs.kinds.resource_word.Goals as goal
 
 pub returns-then-left-eq0 : goal.returns-then-left-eq0

@@ -1,5 +1,4 @@
 -- `allowed` asks the leaf of the field.
-use borrow.Author.Rules.{rules}
 use Rattle.spellings.proofs.spelled.allowed.Goals as goal
 
 pub returns-in-Bound : goal.returns-in-Bound

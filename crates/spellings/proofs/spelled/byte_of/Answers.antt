@@ -8,7 +8,6 @@ use Rattle.text.specs.declared.sizes.Edition.TheVariants.{First, Second}
 use Rattle.text.specs.Numeral.{numbers}
 use Rattle.text.specs.Job.{by_edition}
 use Rattle.text.proofs.Costs.{spellings_few}
-use borrow.Author.Rules.{rules}
 use Rattle.spellings.proofs.spelled.byte_of.Goals as goal
 
 resource_few : (e : Edition) → by_edition e (suc sum_kind) (suc max_kind) ≤ numbers

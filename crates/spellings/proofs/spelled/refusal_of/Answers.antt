@@ -1,5 +1,4 @@
 -- `refusal_of` asks the leaf of the field.
-use borrow.Author.Rules.{rules}
 use Rattle.spellings.proofs.spelled.refusal_of.Goals as goal
 
 pub returns-in-Cost : goal.returns-in-Cost

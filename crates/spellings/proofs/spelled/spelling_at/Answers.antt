@@ -1,5 +1,4 @@
 -- `spelling_at` asks the leaf of the field.
-use borrow.Author.Rules.{rules}
 use Rattle.spellings.proofs.spelled.spelling_at.Goals as goal
 
 pub returns-in-Bound : goal.returns-in-Bound

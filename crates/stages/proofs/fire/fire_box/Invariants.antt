@@ -1,12 +1,7 @@
 -- `fire_box` goes through one line of places after another.
-use mathlib.Core.Logic.{◌⊎◌, inl, inr}
-use mathlib.Core.Path.{◌≡◌, ◌∙◌, ap}
+use mathlib.Core.Path.{◌≡◌}
 use Prim.Native.Nat.{ℕ, ◌+◌, ◌*◌, ◌-◌, ◌≤◌, ◌<◌}
-use native.Mathlib.Nat.{mul-le-mul, suc-mul}
-use native.Mathlib.Omega.{arith}
-use Rattle.game.proofs.Numbers.Decide.{eq?}
-use Rattle.stages.proofs.Evolving.{lent_still}
-use Rattle.stages.proofs.Carrying.{Carried, carried_none, carried_both}
+use Rattle.stages.proofs.Carrying.{Carried}
 use Rattle.stages.proofs.fire.fire_box.Given as goal
 
 -- the places of the lines before a

@@ -1,10 +1,7 @@
 -- `fire_move` goes back to the one place of a move that gives nothing, and through the spans for any other.
-use mathlib.Core.Bool.{true}
 use mathlib.Core.Path.{◌≡◌, sym, ◌∙◌, ap, subst}
 use Prim.Native.Nat.{ℕ, ◌+◌, ◌<◌}
 use native.Mathlib.Omega.{arith}
-use borrow.Author.Rules.{rules}
-use Rattle.ways.specs.Lines.{taken_in}
 use Rattle.ways.proofs.Leading.{few, listed_small}
 use Rattle.stages.specs.Stages.{rank_of, To, Past}
 use Rattle.stages.proofs.Carrying.{to_spent}
@@ -49,15 +46,15 @@ touch-requires c = record { valid = c.requires.valid; lent = c.requires.lent; st
 
 pub returns-then-x-fire : goal.returns-then-x-fire
 returns-then-x-fire c = (
-      c.touch.ensures.0,
-      λ x place to.
-          let e = from c.before.before.before.before.before.before.before.before.before.before.before x place to in
-          subst (λ (z : ℕ). Past c.args.block.now c.args.fire.row c.args.ways.now c.args.board.now c.args.fire.most c.args.fire.index (rank_of c.args.fire.row c.touch.new.ranks c.args.fire.state z)) (sym e)
-          (c.touch.ensures.1 (subst (λ (z : ℕ). To c.args.block.now c.args.fire.row c.args.ways.now c.args.board.now c.args.fire.state z c.args.fire.index c.args.fire.place) e to)),
-    )
+  c.touch.ensures.0,
+  λ x place to.
+      let e = from c.before.before.before.before.before.before.before.before.before.before.before x place to in
+      subst (λ (z : ℕ). Past c.args.block.now c.args.fire.row c.args.ways.now c.args.board.now c.args.fire.most c.args.fire.index (rank_of c.args.fire.row c.touch.new.ranks c.args.fire.state z)) (sym e)
+      (c.touch.ensures.1 (subst (λ (z : ℕ). To c.args.block.now c.args.fire.row c.args.ways.now c.args.board.now c.args.fire.state z c.args.fire.index c.args.fire.place) e to)),
+)
 
 pub returns-else-x-fire : goal.returns-else-x-fire
 returns-else-x-fire c = (
-      evolved_none c.args.block.now c.args.fire.row c.args.ways.now c.args.board.now c.args.fire.most c.args.fire.safe c.args.fire.stage c.args.ranks.now c.args.flags.now,
-      λ x place to. absurd (omega (arith, from c.before.before.before.before x place to, c.if-x-fire.false)),
-    )
+  evolved_none c.args.block.now c.args.fire.row c.args.ways.now c.args.board.now c.args.fire.most c.args.fire.safe c.args.fire.stage c.args.ranks.now c.args.flags.now,
+  λ x place to. absurd (omega (arith, from c.before.before.before.before x place to, c.if-x-fire.false)),
+)

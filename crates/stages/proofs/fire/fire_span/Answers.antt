@@ -1,8 +1,8 @@
 -- `fire_span` touches one place of the span after another.
 use mathlib.Core.List.{List}
-use mathlib.Core.Logic.{◌⊎◌, inl, inr, ⊎_elim}
+use mathlib.Core.Logic.{◌⊎◌, inl, inr}
 use mathlib.Core.Path.{◌≡◌, sym, subst₂}
-use Prim.Native.Nat.{ℕ, ◌+◌, ◌-◌, ◌≤◌, ◌<◌}
+use Prim.Native.Nat.{ℕ, ◌+◌, ◌≤◌, ◌<◌}
 use native.Mathlib.Omega.{arith}
 use Rattle.game.proofs.Numbers.Decide.{eq?}
 use Rattle.stages.proofs.Evolving.{lent_still}
@@ -29,13 +29,13 @@ pub loop-x-preserved : goal.loop-x-preserved
 loop-x-preserved c = let After : List ℕ → List ℕ → Type 0 = λ ranks flags.
     Carried c.args.block.now c.args.fire.row c.args.ways.now c.args.board.now c.args.fire.most c.args.fire.safe c.args.fire.stage c.args.fire.state c.args.fire.index c.args.fire.place (λ z. (c.args.span.first ≤ z) × (z < c.loop-x.x + 1)) c.args.ranks.now c.args.flags.now ranks flags in
     elim c.if-x-fire.branch [
-      then-x-fire w ↦
-        let here = carried_one c.args.block.now c.args.fire.row c.args.ways.now c.args.board.now c.args.fire.most c.args.fire.safe c.args.fire.stage c.args.fire.state c.args.fire.index c.args.fire.place c.loop-x.x w.touch.ensures.0 w.touch.ensures.1 in
-    subst₂ After (sym w.ranks-is) (sym w.flags-is)
-    (carried_both c.args.block.now c.args.fire.row c.args.ways.now c.args.board.now c.args.fire.most c.args.fire.safe c.args.fire.stage c.args.fire.state c.args.fire.index c.args.fire.place c.requires.valid.1.playable c.requires.lent.small c.requires.state_bound.0 c.requires.state_bound.3 (λ z _ (from, below). split c.args.span.first c.loop-x.x z from below (eq? z c.loop-x.x)) c.loop-x.invariant here)
+      | then-x-fire w ↦
+          let here = carried_one c.args.block.now c.args.fire.row c.args.ways.now c.args.board.now c.args.fire.most c.args.fire.safe c.args.fire.stage c.args.fire.state c.args.fire.index c.args.fire.place c.loop-x.x w.touch.ensures.0 w.touch.ensures.1 in
+          subst₂ After (sym w.ranks-is) (sym w.flags-is)
+          (carried_both c.args.block.now c.args.fire.row c.args.ways.now c.args.board.now c.args.fire.most c.args.fire.safe c.args.fire.stage c.args.fire.state c.args.fire.index c.args.fire.place c.requires.valid.1.playable c.requires.lent.small c.requires.state_bound.0 c.requires.state_bound.3 (λ z _ (from, below). split c.args.span.first c.loop-x.x z from below (eq? z c.loop-x.x)) c.loop-x.invariant here)
       | else-x-fire w ↦
-        subst₂ After (sym w.ranks-is) (sym w.flags-is)
-    (carried_narrow c.args.block.now c.args.fire.row c.args.ways.now c.args.board.now c.args.fire.most c.args.fire.safe c.args.fire.stage c.args.fire.state c.args.fire.index c.args.fire.place (λ z place (from, below). (from, omega (arith, w.if-x-fire.false))) c.loop-x.invariant)
+          subst₂ After (sym w.ranks-is) (sym w.flags-is)
+          (carried_narrow c.args.block.now c.args.fire.row c.args.ways.now c.args.board.now c.args.fire.most c.args.fire.safe c.args.fire.stage c.args.fire.state c.args.fire.index c.args.fire.place (λ z place (from, below). (from, omega (arith, w.if-x-fire.false))) c.loop-x.invariant)
     ]
   where
     split : (first x z : ℕ) → first ≤ z → z < x + 1 → Dec (z ≡ x) → ((first ≤ z) × (z < x)) ⊎ (z ≡ x)

@@ -1,12 +1,6 @@
 -- `fire_span` touches one place of the span after another.
-use mathlib.Core.List.{List}
-use mathlib.Core.Logic.{◌⊎◌, inl, inr, ⊎_elim}
-use mathlib.Core.Path.{◌≡◌, sym, subst₂}
-use Prim.Native.Nat.{ℕ, ◌+◌, ◌-◌, ◌≤◌, ◌<◌}
-use native.Mathlib.Omega.{arith}
-use Rattle.game.proofs.Numbers.Decide.{eq?}
-use Rattle.stages.proofs.Evolving.{lent_still}
-use Rattle.stages.proofs.Carrying.{Carried, carried_none, carried_one, carried_both, carried_narrow}
+use Prim.Native.Nat.{◌-◌, ◌≤◌, ◌<◌}
+use Rattle.stages.proofs.Carrying.{Carried}
 use Rattle.stages.proofs.fire.fire_span.Given as goal
 
 abbrev pub invariant-loop-x : goal.invariant-loop-x

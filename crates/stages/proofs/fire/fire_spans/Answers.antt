@@ -2,7 +2,6 @@
 use mathlib.Core.Path.{refl, ◌∙◌, ap}
 use Prim.Native.Nat.{ℕ, ◌+◌, ◌-◌, ◌/◌, ◌%◌, ◌≤◌, ◌<◌}
 use native.Mathlib.Omega.{arith}
-use borrow.Author.Rules.{rules}
 use Rattle.ways.specs.Lines.{packed_in, taken_in}
 use Rattle.ways.specs.Packed.{Narrow}
 use Rattle.ways.proofs.Leading.{few, listed_small, taken_small, place_narrow}
@@ -77,12 +76,17 @@ pub overflow_add-spans : goal.overflow_add-spans
 overflow_add-spans c = omega (arith, c.unpack-full.ensures.1, full_narrow c.before.before.before.before.before.before.before.before.before.before.before.before.before.before.before.before)
 
 pub fire_box-requires : goal.fire_box-requires
-fire_box-requires c = let full = full_narrow c.before.before.before.before.before.before.before.before.before.before.before.before.before.before.before.before.before.before in record { valid = c.requires.valid; lent = c.requires.lent; state_bound = c.requires.state_bound; last_lt_max_stocks = (
-            omega (arith, c.span_of-low.ensures.1, c.unpack-full.ensures.0),
-            omega (arith, c.span_of-high.ensures.1),
-            omega (arith, c.unpack-full.ensures.1),
-            c.span_of-high.ensures.0,
-          ) }
+fire_box-requires c = let full = full_narrow c.before.before.before.before.before.before.before.before.before.before.before.before.before.before.before.before.before.before in record {
+  valid = c.requires.valid;
+  lent = c.requires.lent;
+  state_bound = c.requires.state_bound;
+  last_lt_max_stocks = (
+    omega (arith, c.span_of-low.ensures.1, c.unpack-full.ensures.0),
+    omega (arith, c.span_of-high.ensures.1),
+    omega (arith, c.unpack-full.ensures.1),
+    c.span_of-high.ensures.0,
+  );
+}
 
 pub returns : goal.returns
 returns c = let takes = ap (packed_in c.args.ways.now) c.taken.ensures.0 in

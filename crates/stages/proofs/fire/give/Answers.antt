@@ -1,7 +1,6 @@
 -- `give` stores one rank and one flag.
 use Prim.Native.Nat.{◌+◌, ◌*◌, ◌<◌}
 use native.Mathlib.Omega.{arith}
-use borrow.Author.Rules.{rules}
 use Rattle.ways.proofs.Leading.{few, number_inside}
 use Rattle.stages.specs.Stages.{ranked}
 use Rattle.stages.proofs.Touching.{marked_here, evolved_one}
@@ -38,8 +37,8 @@ bounds-flags-x c = omega (arith, small c.before.before.before.before.before.befo
 
 pub returns : goal.returns
 returns c = (
-      evolved_one c.args.block.now c.requires.valid.0 c.args.fire.row c.requires.valid.1.playable c.args.ways.now c.args.board.now c.args.fire.most c.args.fire.safe c.args.fire.stage c.args.fire.state c.args.x c.args.fire.stage
-          c.requires.state_bound.0 c.requires.state_bound.1 c.requires.state_bound.2 c.set_rank.ensures (ranked c.requires.state_bound.3 c.requires.state_bound.4)
-          (marked_here c.args.x c.args.flags.now (omega (arith, small c.before.before.before.before.before.before.before.before.before.before.before, c.requires.lent.flags_long)) (c.requires.state_bound.3, c.requires.lent.small)),
-      c.set_rank.ensures.stored,
-    )
+  evolved_one c.args.block.now c.requires.valid.0 c.args.fire.row c.requires.valid.1.playable c.args.ways.now c.args.board.now c.args.fire.most c.args.fire.safe c.args.fire.stage c.args.fire.state c.args.x c.args.fire.stage
+      c.requires.state_bound.0 c.requires.state_bound.1 c.requires.state_bound.2 c.set_rank.ensures (ranked c.requires.state_bound.3 c.requires.state_bound.4)
+      (marked_here c.args.x c.args.flags.now (omega (arith, small c.before.before.before.before.before.before.before.before.before.before.before, c.requires.lent.flags_long)) (c.requires.state_bound.3, c.requires.lent.small)),
+  c.set_rank.ensures.stored,
+)

@@ -1,9 +1,8 @@
 -- `pass` stores what is waited for next, or ranks the position.
 use mathlib.Core.Bool.{Bool, true}
-use mathlib.Core.Path.{◌≡◌, sym, ◌∙◌, subst}
+use mathlib.Core.Path.{sym, subst}
 use Prim.Native.Nat.{◌+◌, ◌*◌, ◌≤◌, ◌<◌}
 use native.Mathlib.Omega.{arith}
-use borrow.Author.Rules.{rules}
 use Rattle.ways.specs.Lines.{count_in}
 use Rattle.ways.proofs.Leading.{number_inside, listed_small}
 use Rattle.stages.specs.Stages.{hold, rank_of, Waits, Earned, passed}
@@ -63,7 +62,7 @@ returns-then-next-count c = let more : c.first_staying-next.result < count_in c.
 
 pub give-requires : goal.give-requires
 give-requires c = let earned = all_earned c.args.block.now c.requires.valid.0 c.args.fire.row c.requires.valid.1.playable c.args.ways.now c.args.board.now c.args.fire.state c.args.x c.args.fire.index c.args.fire.place c.first_staying-next.result c.requires.state_bound.0 c.requires.state_bound.1 (waits c.before.before.before.before.before.before.before.before.before.before.before.before.before) c.requires.state_bound.3 c.requires.state_bound.4 c.first_staying-next.ensures (omega (arith, c.count.ensures, c.if-next-count.false)) in
-     record { valid = c.requires.valid; lent = c.requires.lent.0; state_bound = (c.requires.state_bound.0, c.requires.state_bound.1, c.requires.state_bound.2, omega (arith, c.requires.x_value), subst (λ (t : Bool). Earned c.args.block.now c.args.fire.row c.args.ways.now c.args.board.now t c.args.fire.state c.args.x) (sym c.requires.lent.1) earned) }
+    record { valid = c.requires.valid; lent = c.requires.lent.0; state_bound = (c.requires.state_bound.0, c.requires.state_bound.1, c.requires.state_bound.2, omega (arith, c.requires.x_value), subst (λ (t : Bool). Earned c.args.block.now c.args.fire.row c.args.ways.now c.args.board.now t c.args.fire.state c.args.x) (sym c.requires.lent.1) earned) }
 
 pub returns : goal.returns
 returns c = (c.give.ensures.0, λ e. omega (arith, c.give.ensures.1, c.requires.lent.0.small))

@@ -1,11 +1,9 @@
 -- `touch` looks whether the position waits for the move, and whether the move leads from there; then it ranks the position, or waits for another.
 --
 use mathlib.Core.Bool.{Bool, true, false}
-use mathlib.Core.Path.{◌≡◌, refl, sym, ◌∙◌, subst}
+use mathlib.Core.Path.{◌≡◌, sym, subst}
 use Prim.Native.Nat.{ℕ, ◌+◌, ◌*◌, ◌<◌}
 use native.Mathlib.Omega.{arith}
-use borrow.Author.Rules.{rules}
-use borrow.Author.Tests.{not-true, not-false}
 use Rattle.block.proofs.Decide as D
 use Rattle.game.proofs.Numbers.Decide.{lt?}
 use Rattle.ways.proofs.Leading.{number_inside, listed_small}
@@ -63,9 +61,9 @@ waits_for-requires c = small c.before.before.before.before.before.before.before.
 
 pub returns-then-not-waits_for : goal.returns-then-not-waits_for
 returns-then-not-waits_for c = let quiet = D.falsity c.waits_for.ensures c.if-not-waits_for.true in (
-      evolved_none c.args.block.now c.args.fire.row c.args.ways.now c.args.board.now c.args.fire.most c.args.fire.safe c.args.fire.stage c.args.ranks.now c.args.flags.now,
-      λ _. past c.before.before.before.before.before.before.before.before.before.before (rank_of c.args.fire.row c.args.ranks.now c.args.fire.state c.args.x) c.args.fire.most (λ h. quiet (subst (Waiting c.args.fire.most c.args.fire.index) (sym c.rank_at-r.ensures.0) h)),
-    )
+  evolved_none c.args.block.now c.args.fire.row c.args.ways.now c.args.board.now c.args.fire.most c.args.fire.safe c.args.fire.stage c.args.ranks.now c.args.flags.now,
+  λ _. past c.before.before.before.before.before.before.before.before.before.before (rank_of c.args.fire.row c.args.ranks.now c.args.fire.state c.args.x) c.args.fire.most (λ h. quiet (subst (Waiting c.args.fire.most c.args.fire.index) (sym c.rank_at-r.ensures.0) h)),
+)
 
 -- the word waits for the move
 module _ (c : At-Else-not-waits_for) where
@@ -79,9 +77,9 @@ leads-requires c = record { valid = c.requires.valid.0; playable = (c.requires.v
 
 pub returns-then-not-leads : goal.returns-then-not-leads
 returns-then-not-leads c = (
-      evolved_none c.args.block.now c.args.fire.row c.args.ways.now c.args.board.now c.args.fire.most c.args.fire.safe c.args.fire.stage c.args.ranks.now c.args.flags.now,
-      λ to. absurd (D.falsity c.leads.ensures c.if-not-leads.true to),
-    )
+  evolved_none c.args.block.now c.args.fire.row c.args.ways.now c.args.board.now c.args.fire.most c.args.fire.safe c.args.fire.stage c.args.ranks.now c.args.flags.now,
+  λ to. absurd (D.falsity c.leads.ensures c.if-not-leads.true to),
+)
 
 -- and the move leads to its place
 to : (c : At-Else-not-leads) → To c.args.block.now c.args.fire.row c.args.ways.now c.args.board.now c.args.fire.state c.args.x c.args.fire.index c.args.fire.place
@@ -89,7 +87,7 @@ to c = D.truth c.leads.ensures c.if-not-leads.false
 
 pub give-requires : goal.give-requires
 give-requires c = let earned : Earned c.args.block.now c.args.fire.row c.args.ways.now c.args.board.now true c.args.fire.state c.args.x = (c.args.fire.index, c.args.fire.place, to c.before.before.before.before, fires_by c.before.before.before.before.before.before.before.before.before.before.before.before.before.before.before true c.if-fire.true) in
-     record { valid = c.requires.valid; lent = c.requires.lent; state_bound = (c.requires.state_bound.0, c.requires.x_lt_places, c.requires.state_bound.1, waiting c.before.before.before.before.before.before true c.if-fire.true, subst (λ (t : Bool). Earned c.args.block.now c.args.fire.row c.args.ways.now c.args.board.now t c.args.fire.state c.args.x) (sym c.if-fire.true) earned) }
+    record { valid = c.requires.valid; lent = c.requires.lent; state_bound = (c.requires.state_bound.0, c.requires.x_lt_places, c.requires.state_bound.1, waiting c.before.before.before.before.before.before true c.if-fire.true, subst (λ (t : Bool). Earned c.args.block.now c.args.fire.row c.args.ways.now c.args.board.now t c.args.fire.state c.args.x) (sym c.if-fire.true) earned) }
 
 pub returns-then-fire : goal.returns-then-fire
 returns-then-fire c = (c.give.ensures.0, λ _. past_by c.before.before.before.before.before.before.before.before.before.before.before.before.before.before.before.before.before.before.before.before _ true c.if-fire.true (omega (arith, c.give.ensures.1, c.requires.lent.small)))

@@ -1,12 +1,11 @@
 -- `run` turns the board over and goes on with stages as long as a place is due.
-use mathlib.Core.Bool.{Bool, true}
-use mathlib.Core.Path.{◌≡◌, refl, sym, ◌∙◌, subst}
-use Prim.Native.Nat.{ℕ, ◌+◌, ◌*◌, ◌≤◌, ◌<◌}
+use mathlib.Core.Bool.{true}
+use mathlib.Core.Path.{refl, sym, ◌∙◌, subst}
+use Prim.Native.Nat.{◌+◌, ◌≤◌}
 use native.Mathlib.Omega.{arith}
 use lib.ListN.{get_or-replicate}
-use Rattle.block.specs.Layout as L
 use Rattle.ways.proofs.Leading.{few}
-use Rattle.stages.proofs.Running.{Running, left_to_do, running_first, stage_small, stage_lent, running_next, running_less, running_found}
+use Rattle.stages.proofs.Running.{Running, running_first, stage_small, stage_lent, running_next, running_less, running_found}
 use Rattle.stages.proofs.solve.run.Goals as goal
 use Rattle.stages.proofs.solve.run.Lts as lts
 use Rattle.stages.proofs.solve.run.Reads as reads
@@ -37,7 +36,7 @@ slice_bounds-run_stage-end c = sym c.loop-more.invariant.flags_long
 
 pub run_stage-requires : goal.run_stage-requires
 run_stage-requires c = let running = now c.before.before.before in
-     record { valid = (c.requires.valid.0, c.loop-more.invariant.ready); lent = stage_lent _ c.requires.valid.0 _ _ _ _ _ _ _ _ _ _ running c.requires.ranks_len; stage_nonzero = c.loop-more.invariant.positive }
+    record { valid = (c.requires.valid.0, c.loop-more.invariant.ready); lent = stage_lent _ c.requires.valid.0 _ _ _ _ _ _ _ _ _ _ running c.requires.ranks_len; stage_nonzero = c.loop-more.invariant.positive }
 
 pub overflow_add-n : goal.overflow_add-n
 overflow_add-n c = record { fits = omega (arith, small c.before.before.before.before.before.before.before) }

@@ -1,14 +1,13 @@
 -- `run_place` goes by the safe states, one after another.
 use mathlib.Core.List.{List}
-use mathlib.Core.Logic.{⊎_elim}
 use mathlib.Core.Path.{sym, subst₂}
-use Prim.Native.Nat.{ℕ, ◌-◌, ◌≤◌}
+use Prim.Native.Nat.{ℕ}
 use native.Mathlib.Omega.{arith}
 use Rattle.block.specs.Decide.{Bit}
 use Rattle.block.proofs.Decide as D
 use Rattle.stages.specs.Stages.{Evolved, StateDone}
 use Rattle.stages.proofs.Evolving.{evolved_none, evolved_then, lent_still}
-use Rattle.stages.proofs.Fronts.{PlaceTo, place_more}
+use Rattle.stages.proofs.Fronts.{place_more}
 use Rattle.stages.proofs.stage.run_place.Goals as goal
 use Rattle.stages.proofs.stage.run_place.Goals.{then-has_bit, else-has_bit}
 
@@ -43,13 +42,13 @@ loop-s-preserved c = let Went : List ℕ → List ℕ → Type 0 = λ ranks flag
     × (Bit c.args.attack.safe c.loop-s.s → StateDone c.args.block.now c.args.attack.row c.args.ways.now c.args.board.now c.args.attack.most ranks c.args.y c.ranked_within-fresh.result c.loop-s.s) in
     let went : Went c.if-has_bit.ranks c.if-has_bit.flags =
     elim c.if-has_bit.branch [
-      then-has_bit w ↦
-        subst₂ Went (sym w.ranks-is) (sym w.flags-is) (w.run_state.ensures.0, λ _. w.run_state.ensures.1)
+      | then-has_bit w ↦
+          subst₂ Went (sym w.ranks-is) (sym w.flags-is) (w.run_state.ensures.0, λ _. w.run_state.ensures.1)
       | else-has_bit w ↦
-        subst₂ Went (sym w.ranks-is) (sym w.flags-is) (
-      evolved_none c.args.block.now c.args.attack.row c.args.ways.now c.args.board.now c.args.attack.most c.args.attack.safe c.args.attack.stage _ _,
-      λ bit. absurd (D.falsity c.has_bit.ensures w.if-has_bit.false bit),
-    )
+          subst₂ Went (sym w.ranks-is) (sym w.flags-is) (
+            evolved_none c.args.block.now c.args.attack.row c.args.ways.now c.args.board.now c.args.attack.most c.args.attack.safe c.args.attack.stage _ _,
+            λ bit. absurd (D.falsity c.has_bit.ensures w.if-has_bit.false bit),
+          )
     ] in (
       omega (arith, c.loop-s-test.true),
       evolved_then c.args.block.now c.args.attack.row c.args.ways.now c.args.board.now c.args.attack.most c.args.attack.safe c.args.attack.stage c.requires.lent.small c.loop-s.invariant.1 went.0,

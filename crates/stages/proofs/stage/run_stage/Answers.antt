@@ -1,13 +1,12 @@
 -- `run_stage` goes by the due places, one after another.
 use mathlib.Core.List.{List}
-use mathlib.Core.Logic.{⊎_elim}
 use mathlib.Core.Path.{◌≡◌, sym, subst₂}
-use Prim.Native.Nat.{ℕ, ◌-◌, ◌≤◌}
+use Prim.Native.Nat.{ℕ}
 use native.Mathlib.Omega.{arith}
 use Rattle.ways.proofs.Leading.{few}
 use Rattle.stages.specs.Stages.{due_at, Evolved}
 use Rattle.stages.proofs.Evolving.{evolved_none, evolved_then, lent_still}
-use Rattle.stages.proofs.Fronts.{DoneAt, StageTo, stage_more}
+use Rattle.stages.proofs.Fronts.{DoneAt, stage_more}
 use Rattle.stages.proofs.stage.run_stage.Goals as goal
 use Rattle.stages.proofs.stage.run_stage.Goals.{then-flags-y-eq1, else-flags-y-eq1}
 
@@ -33,13 +32,13 @@ loop-y-preserved c = let Went : List ℕ → List ℕ → Type 0 = λ ranks flag
     × (due_at c.loop-y.flags c.loop-y.y ≡ 1 → DoneAt c.args.block.now c.args.attack.row c.args.ways.now c.args.board.now c.args.attack.most c.args.attack.safe c.args.attack.stage c.loop-y.ranks ranks c.loop-y.y) in
     let went : Went c.if-flags-y-eq1.ranks c.if-flags-y-eq1.flags =
     elim c.if-flags-y-eq1.branch [
-      then-flags-y-eq1 w ↦
-        subst₂ Went (sym w.ranks-is) (sym w.flags-is) (w.run_place.ensures.0, λ _. w.run_place.ensures.1)
+      | then-flags-y-eq1 w ↦
+          subst₂ Went (sym w.ranks-is) (sym w.flags-is) (w.run_place.ensures.0, λ _. w.run_place.ensures.1)
       | else-flags-y-eq1 w ↦
-        subst₂ Went (sym w.ranks-is) (sym w.flags-is) (
-      evolved_none c.args.block.now c.args.attack.row c.args.ways.now c.args.board.now c.args.attack.most c.args.attack.safe c.args.attack.stage _ _,
-      λ due. absurd (w.if-flags-y-eq1.false due),
-    )
+          subst₂ Went (sym w.ranks-is) (sym w.flags-is) (
+            evolved_none c.args.block.now c.args.attack.row c.args.ways.now c.args.board.now c.args.attack.most c.args.attack.safe c.args.attack.stage _ _,
+            λ due. absurd (w.if-flags-y-eq1.false due),
+          )
     ] in (
       omega (arith, c.loop-y-test.true),
       evolved_then c.args.block.now c.args.attack.row c.args.ways.now c.args.board.now c.args.attack.most c.args.attack.safe c.args.attack.stage c.requires.lent.small c.loop-y.invariant.1 went.0,

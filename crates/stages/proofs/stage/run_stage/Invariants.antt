@@ -1,13 +1,7 @@
 -- `run_stage` goes by the due places, one after another.
-use mathlib.Core.List.{List}
-use mathlib.Core.Logic.{⊎_elim}
-use mathlib.Core.Path.{◌≡◌, sym, subst₂}
-use Prim.Native.Nat.{ℕ, ◌-◌, ◌≤◌}
-use native.Mathlib.Omega.{arith}
-use Rattle.ways.proofs.Leading.{few}
-use Rattle.stages.specs.Stages.{due_at, Evolved}
-use Rattle.stages.proofs.Evolving.{evolved_none, evolved_then, lent_still}
-use Rattle.stages.proofs.Fronts.{DoneAt, StageTo, stage_more}
+use Prim.Native.Nat.{◌-◌, ◌≤◌}
+use Rattle.stages.specs.Stages.{Evolved}
+use Rattle.stages.proofs.Fronts.{StageTo}
 use Rattle.stages.proofs.stage.run_stage.Given as goal
 
 abbrev pub invariant-loop-y : goal.invariant-loop-y

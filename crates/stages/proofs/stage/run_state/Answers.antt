@@ -1,11 +1,8 @@
 -- `run_state` carries back one move after another, where it serves newly; nothing where no state that it leads to is newly won.
 use mathlib.Core.List.{List}
-use mathlib.Core.Logic.{⊎_elim}
 use mathlib.Core.Path.{sym, subst, subst₂}
-use Prim.Native.Nat.{ℕ, ◌-◌, ◌≤◌}
+use Prim.Native.Nat.{ℕ}
 use native.Mathlib.Omega.{arith}
-use borrow.Author.Rules.{rules}
-use borrow.Author.Tests.{not-true}
 use mathlib.Core.Bool.{false}
 use Rattle.block.specs.Inner.Tests.{Decides}
 use Rattle.block.proofs.Decide as D
@@ -13,7 +10,7 @@ use Rattle.ways.proofs.Leading.{few, listed_small}
 use Rattle.boards.specs.Boards.{to_in, won_in, Fires, Newly}
 use Rattle.stages.specs.Stages.{Evolved, DoneWith}
 use Rattle.stages.proofs.Evolving.{evolved_none, evolved_then, lent_still}
-use Rattle.stages.proofs.Fronts.{StateTo, state_quiet, state_more}
+use Rattle.stages.proofs.Fronts.{state_quiet, state_more}
 use Rattle.stages.proofs.stage.run_state.Goals as goal
 use Rattle.stages.proofs.stage.run_state.Goals.{then-newly, else-newly}
 use Rattle.stages.proofs.stage.run_state.Lts as lts
@@ -31,10 +28,10 @@ reach_at-requires c = (c.requires.valid.1.long, omega (arith, c.requires.state_b
 
 pub returns-then-not-fires : goal.returns-then-not-fires
 returns-then-not-fires c = let quiet = D.falsity c.fires.ensures c.if-not-fires.true in (
-      evolved_none c.args.block.now c.args.attack.row c.args.ways.now c.args.board.now c.args.attack.most c.args.attack.safe c.args.attack.stage c.args.ranks.now c.args.flags.now,
-      state_quiet c.args.block.now c.args.attack.row c.args.ways.now c.args.board.now c.args.attack.most c.requires.valid.1 c.args.ranks.now c.args.front.place c.args.front.fresh c.args.front.state c.requires.state_bound.0
-          (λ h. quiet (subst (λ (w : ℕ). Fires false w c.args.front.fresh) (sym c.reach_at.ensures.0) h)),
-    )
+  evolved_none c.args.block.now c.args.attack.row c.args.ways.now c.args.board.now c.args.attack.most c.args.attack.safe c.args.attack.stage c.args.ranks.now c.args.flags.now,
+  state_quiet c.args.block.now c.args.attack.row c.args.ways.now c.args.board.now c.args.attack.most c.requires.valid.1 c.args.ranks.now c.args.front.place c.args.front.fresh c.args.front.state c.requires.state_bound.0
+      (λ h. quiet (subst (λ (w : ℕ). Fires false w c.args.front.fresh) (sym c.reach_at.ensures.0) h)),
+)
 
 pub count-n-requires : goal.count-n-requires
 count-n-requires c = (c.requires.valid.1.listed.long, omega (arith, c.requires.state_bound.0, c.requires.valid.0.sized.states_fit))
@@ -67,13 +64,13 @@ loop-k-preserved c = let Went : List ℕ → List ℕ → Type 0 = λ ranks flag
     × (Newly c.args.attack.most (to_in c.args.board.now c.args.front.state c.loop-k.k) (won_in c.args.board.now c.args.front.place) c.args.front.fresh → DoneWith c.args.block.now c.args.attack.row c.args.ways.now c.args.board.now c.args.attack.most ranks c.args.front.state c.loop-k.k c.args.front.place) in
     let went : Went c.if-newly.ranks c.if-newly.flags =
     elim c.if-newly.branch [
-      then-newly w ↦
-        subst₂ Went (sym w.ranks-is) (sym w.flags-is) (w.fire_move.ensures.0, λ _. w.fire_move.ensures.1)
+      | then-newly w ↦
+          subst₂ Went (sym w.ranks-is) (sym w.flags-is) (w.fire_move.ensures.0, λ _. w.fire_move.ensures.1)
       | else-newly w ↦
-        subst₂ Went (sym w.ranks-is) (sym w.flags-is) (
-      evolved_none c.args.block.now c.args.attack.row c.args.ways.now c.args.board.now c.args.attack.most c.args.attack.safe c.args.attack.stage _ _,
-      λ new. absurd (D.falsity (told c.before.before) w.if-newly.false new),
-    )
+          subst₂ Went (sym w.ranks-is) (sym w.flags-is) (
+            evolved_none c.args.block.now c.args.attack.row c.args.ways.now c.args.board.now c.args.attack.most c.args.attack.safe c.args.attack.stage _ _,
+            λ new. absurd (D.falsity (told c.before.before) w.if-newly.false new),
+          )
     ] in (
       omega (arith, c.loop-k-test.true),
       evolved_then c.args.block.now c.args.attack.row c.args.ways.now c.args.board.now c.args.attack.most c.args.attack.safe c.args.attack.stage c.requires.lent.small c.loop-k.invariant.1 went.0,

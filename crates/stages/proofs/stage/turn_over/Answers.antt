@@ -1,7 +1,7 @@
 -- `turn_over` goes through the places.
-use mathlib.Core.Logic.{inl, inr, ⊎_elim}
+use mathlib.Core.Logic.{inl, inr}
 use mathlib.Core.Path.{◌≡◌, sym, ◌∙◌, subst}
-use Prim.Native.Nat.{ℕ, ◌-◌, ◌≤◌, ◌<◌}
+use Prim.Native.Nat.{ℕ, ◌<◌}
 use native.Mathlib.Omega.{arith}
 use Rattle.block.specs.Layout as L
 use Rattle.ways.proofs.Filling.{apart}
@@ -25,21 +25,21 @@ loop-x-smaller c = omega (arith, c.loop-x-test.true)
 
 pub loop-x-preserved : goal.loop-x-preserved
 loop-x-preserved c = let place : c.loop-x.x < 256 = omega (arith, c.loop-x-test.true, few c.args.block.now c.requires.valid c.args.row c.requires.playable.0) in (
-      omega (arith, c.loop-x-test.true),
-      turned_next (L.states c.args.block.now) c.args.row.places c.args.ranks.now c.args.n place c.loop-x.invariant.1 c.turn_place.ensures
-          (λ e. elim c.if-turn_place.branch [
-            then-turn_place w ↦
-              inr w.if-turn_place.true
-            | else-turn_place w ↦
-              inl (sym w.more-is ∙ e)
-          ])
-          (λ e. elim c.if-turn_place.branch [
-            then-turn_place w ↦
-              absurd (apart c.if-turn_place.more w.more-is e)
-            | else-turn_place w ↦
-              (sym w.more-is ∙ e, w.if-turn_place.false)
-          ]),
-    )
+  omega (arith, c.loop-x-test.true),
+  turned_next (L.states c.args.block.now) c.args.row.places c.args.ranks.now c.args.n place c.loop-x.invariant.1 c.turn_place.ensures
+      (λ e. elim c.if-turn_place.branch [
+        | then-turn_place w ↦
+            inr w.if-turn_place.true
+        | else-turn_place w ↦
+            inl (sym w.more-is ∙ e)
+      ])
+      (λ e. elim c.if-turn_place.branch [
+        | then-turn_place w ↦
+            absurd (apart c.if-turn_place.more w.more-is e)
+        | else-turn_place w ↦
+            (sym w.more-is ∙ e, w.if-turn_place.false)
+      ]),
+)
 
 pub shape_of-board : goal.shape_of-board
 shape_of-board c = c.loop-x.invariant.1.board_long

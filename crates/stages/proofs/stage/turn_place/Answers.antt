@@ -5,7 +5,6 @@ use lib.ListN.{length-set}
 use Rattle.block.specs.Layout as L
 use Rattle.ways.proofs.Leading.{few}
 use Rattle.stages.proofs.Turning.{turned_quiet, turned_set}
-use borrow.Author.Rules.{rules}
 use Rattle.stages.proofs.stage.turn_place.Goals as goal
 use Rattle.stages.proofs.stage.turn_place.Lts as lts
 use Rattle.stages.proofs.stage.turn_place.Reads as reads

@@ -1,7 +1,6 @@
 -- `finish` goes through the words.
-use mathlib.Core.Logic.{⊎_elim}
 use mathlib.Core.Path.{sym, subst}
-use Prim.Native.Nat.{ℕ, ◌+◌, ◌-◌, ◌≤◌}
+use Prim.Native.Nat.{ℕ, ◌+◌}
 use native.Mathlib.Omega.{arith}
 use Rattle.stages.specs.Solving.{Finished}
 use Rattle.stages.proofs.Starting.{finished_none, finished_stays, finished_next}
@@ -25,14 +24,14 @@ loop-p-smaller c = omega (arith, c.loop-p-test.true)
 
 pub loop-p-preserved : goal.loop-p-preserved
 loop-p-preserved c = (
-      omega (arith, c.loop-p-test.true),
-      elim c.if-rank_at-ge-HOLD.branch [
-        then-rank_at-ge-HOLD w ↦
-          subst (Finished (c.loop-p.p + 1) c.args.ranks.now) (sym w.ranks-is) (finished_next c.loop-p.invariant.1 (omega (arith, c.rank_at.ensures.0, w.if-rank_at-ge-HOLD.true)) w.set_rank.ensures)
-        | else-rank_at-ge-HOLD w ↦
-          subst (Finished (c.loop-p.p + 1) c.args.ranks.now) (sym w.ranks-is) (finished_stays c.loop-p.invariant.1 (omega (arith, c.rank_at.ensures.0, w.if-rank_at-ge-HOLD.false)))
-      ],
-    )
+  omega (arith, c.loop-p-test.true),
+  elim c.if-rank_at-ge-HOLD.branch [
+    | then-rank_at-ge-HOLD w ↦
+        subst (Finished (c.loop-p.p + 1) c.args.ranks.now) (sym w.ranks-is) (finished_next c.loop-p.invariant.1 (omega (arith, c.rank_at.ensures.0, w.if-rank_at-ge-HOLD.true)) w.set_rank.ensures)
+    | else-rank_at-ge-HOLD w ↦
+        subst (Finished (c.loop-p.p + 1) c.args.ranks.now) (sym w.ranks-is) (finished_stays c.loop-p.invariant.1 (omega (arith, c.rank_at.ensures.0, w.if-rank_at-ge-HOLD.false)))
+  ],
+)
 
 pub shape_of-ranks : goal.shape_of-ranks
 shape_of-ranks c = c.loop-p.invariant.1.long

@@ -1,7 +1,6 @@
 -- `first_rank` looks whether the state is a goal.
 use mathlib.Core.Path.{refl}
 use native.Mathlib.Omega.{arith}
-use borrow.Author.Rules.{rules}
 use Rattle.block.proofs.Decide as D
 use Rattle.stages.proofs.start.first_rank.Goals as goal
 

@@ -1,9 +1,8 @@
 -- `first_ranks` stores the ranks of one state after another, and zeros behind them.
 use mathlib.Core.Path.{◌≡◌, refl, sym, ◌∙◌, ap, subst}
-use Prim.Native.Nat.{ℕ, ◌+◌, ◌*◌, ◌-◌, ◌≤◌}
+use Prim.Native.Nat.{ℕ, ◌+◌, ◌*◌, ◌≤◌}
 use native.Mathlib.Nat.{mul-le-mul, mul-le-mul_right}
 use native.Mathlib.Omega.{arith}
-use lib.ListN.{length}
 use Rattle.block.specs.Layout as L
 use Rattle.game.specs.Position.{positions}
 use Rattle.game.specs.Model.{arena_of}
@@ -82,4 +81,4 @@ returns c = let last : c.loop-s.s ≡ c.states-n.result = omega (arith, c.loop-s
     ap (λ (n : ℕ). n * c.args.row.places) c.states-n.ensures ∙ ap (λ (n : ℕ). L.states c.args.block.now * n) c.requires.playable.0.places_are ∙ sym (states_times c.args.block.now c.requires.valid c.args.row.index (L.resources c.args.block.now)) in
     let full = subst (λ (s : ℕ). FirstTo c.args.goal c.args.row.places (c.states-n.result * c.args.row.places) (s * c.args.row.places) c.loop-s.ranks) last c.loop-s.invariant.2 in
     let ranks = past_first c.args.goal c.args.row.places (c.states-n.result * c.args.row.places) 6144 c.store_ranks-2.ensures full in
-     record { by_index = subst (λ (n : ℕ). FirstTo c.args.goal c.args.row.places n 6144 c.store_ranks-2.new.ranks) are ranks; ranks_len_unchanged = c.store_ranks-2.ensures.long ∙ c.loop-s.invariant.1 }
+    record { by_index = subst (λ (n : ℕ). FirstTo c.args.goal c.args.row.places n 6144 c.store_ranks-2.new.ranks) are ranks; ranks_len_unchanged = c.store_ranks-2.ensures.long ∙ c.loop-s.invariant.1 }

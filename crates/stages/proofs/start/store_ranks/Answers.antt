@@ -1,6 +1,6 @@
 -- `store_ranks` stores one rank after another.
 use mathlib.Core.Path.{subst}
-use Prim.Native.Nat.{ℕ, ◌-◌, ◌≤◌}
+use Prim.Native.Nat.{ℕ}
 use native.Mathlib.Omega.{arith}
 use Rattle.stages.specs.Solving.{SpanStored}
 use Rattle.stages.proofs.Starting.{span_none, span_next}

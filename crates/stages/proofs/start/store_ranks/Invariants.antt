@@ -1,9 +1,6 @@
 -- `store_ranks` stores one rank after another.
-use mathlib.Core.Path.{subst}
-use Prim.Native.Nat.{ℕ, ◌-◌, ◌≤◌}
-use native.Mathlib.Omega.{arith}
+use Prim.Native.Nat.{◌-◌, ◌≤◌}
 use Rattle.stages.specs.Solving.{SpanStored}
-use Rattle.stages.proofs.Starting.{span_none, span_next}
 use Rattle.stages.proofs.start.store_ranks.Given as goal
 
 abbrev pub invariant-loop-p : goal.invariant-loop-p

@@ -1,6 +1,6 @@
 -- `first_staying` looks for a move that is paid and leads to nothing that is ranked.
 use mathlib.Core.Bool.{true}
-use Prim.Native.Nat.{ℕ, ◌-◌, ◌≤◌, ◌<◌}
+use Prim.Native.Nat.{◌≤◌, ◌<◌}
 use native.Mathlib.Omega.{arith}
 use Rattle.block.proofs.Decide as D
 use Rattle.game.proofs.Numbers.Decide.{none_more}
@@ -41,10 +41,10 @@ loop-k-smaller c = omega (arith, c.loop-k-test.true)
 
 pub loop-k-preserved : goal.loop-k-preserved
 loop-k-preserved c = (
-      omega (arith, c.loop-k.invariant.0),
-      omega (arith, c.loop-k-test.true),
-      none_more (λ j. (c.args.from ≤ j) × Stays c.args.block.now c.args.row c.args.ways.now c.args.board.now c.args.spot.state c.args.spot.place j) c.loop-k.k c.loop-k.invariant.2 (λ (_, stays). D.falsity c.stays.ensures c.if-stays.false stays),
-    )
+  omega (arith, c.loop-k.invariant.0),
+  omega (arith, c.loop-k-test.true),
+  none_more (λ j. (c.args.from ≤ j) × Stays c.args.block.now c.args.row c.args.ways.now c.args.board.now c.args.spot.state c.args.spot.place j) c.loop-k.k c.loop-k.invariant.2 (λ (_, stays). D.falsity c.stays.ensures c.if-stays.false stays),
+)
 
 pub returns : goal.returns
 returns c = record {

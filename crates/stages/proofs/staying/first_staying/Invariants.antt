@@ -1,10 +1,5 @@
 -- `first_staying` looks for a move that is paid and leads to nothing that is ranked.
-use mathlib.Core.Bool.{true}
 use Prim.Native.Nat.{ℕ, ◌-◌, ◌≤◌, ◌<◌}
-use native.Mathlib.Omega.{arith}
-use Rattle.block.proofs.Decide as D
-use Rattle.game.proofs.Numbers.Decide.{none_more}
-use Rattle.ways.specs.Lines.{count_in}
 use Rattle.stages.specs.Stages.{Stays}
 use Rattle.stages.proofs.staying.first_staying.Given as goal
 

@@ -1,7 +1,6 @@
 -- `next_end` ends the line after each next state in edition 1, and after the last one in edition 2.
 use mathlib.Core.Path.{sym, ◌∙◌}
 use native.Mathlib.Omega.{arith}
-use borrow.Author.Rules.{rules}
 use Rattle.text.proofs.ends.next_end.Goals as goal
 
 pub returns-then-last : goal.returns-then-last

@@ -2,7 +2,6 @@
 use mathlib.Core.Path.{refl}
 use borrow.Author.Tests.{eq-eqb, ne_eqb}
 use Rattle.text.specs.Job.{last_joint}
-use borrow.Author.Rules.{rules}
 use Rattle.text.proofs.joint.last.Goals as goal
 
 pub returns-then-digit-counts : goal.returns-then-digit-counts

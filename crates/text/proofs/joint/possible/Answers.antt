@@ -1,7 +1,6 @@
 -- `possible` looks at the three digits in turn.
 use borrow.Author.Tests.{lt-ltb, le-ltb}
 use Rattle.text.specs.Job.{possible}
-use borrow.Author.Rules.{rules}
 use Rattle.text.proofs.joint.possible.Goals as goal
 
 pub returns-then-counts-digit : goal.returns-then-counts-digit

@@ -2,7 +2,6 @@
 use mathlib.Core.List.{append_assoc}
 use mathlib.Core.Path.{◌∙◌}
 use native.Mathlib.Omega.{arith}
-use Rattle.text.proofs.Adding.{untouched_later}
 use Rattle.text.proofs.Decimals.{decimal_one, decimal_more, fewer}
 use Rattle.text.proofs.output.+digits.Goals as goal
 

@@ -3,7 +3,6 @@ use mathlib.Core.List.{append_assoc}
 use mathlib.Core.Path.{◌∙◌}
 use native.Mathlib.Omega.{arith}
 use Rattle.text.proofs.Adding.{untouched_later}
-use borrow.Author.Rules.{rules}
 use Rattle.text.proofs.output.field.Goals as goal
 
 pub digits-end-requires : goal.digits-end-requires

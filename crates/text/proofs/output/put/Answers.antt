@@ -4,7 +4,6 @@ use Prim.Native.Nat.{◌+◌}
 use native.Mathlib.Omega.{arith}
 use lib.Seq.{drop-set-lt}
 use Rattle.text.proofs.Adding.{byte_added}
-use borrow.Author.Rules.{rules}
 use Rattle.text.proofs.output.put.Goals as goal
 
 pub returns : goal.returns

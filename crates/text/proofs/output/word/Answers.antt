@@ -1,9 +1,8 @@
 -- `word` stores the bytes of a word from the left.
 use mathlib.Core.Path.{◌≡◌, refl}
-use Prim.Native.Nat.{◌-◌, ◌≤◌}
 use native.Mathlib.Omega.{arith}
 use lib.ListN.{length, length-set}
-use Rattle.text.proofs.Adding.{Begun, begun_none, begun_more, begun_all}
+use Rattle.text.proofs.Adding.{begun_none, begun_more, begun_all}
 use Rattle.text.proofs.output.word.Goals as goal
 
 pub loop-i-init : goal.loop-i-init

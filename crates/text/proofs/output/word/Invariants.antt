@@ -1,9 +1,8 @@
 -- `word` stores the bytes of a word from the left.
-use mathlib.Core.Path.{◌≡◌, refl}
-use Prim.Native.Nat.{◌-◌, ◌≤◌}
-use native.Mathlib.Omega.{arith}
-use lib.ListN.{length, length-set}
-use Rattle.text.proofs.Adding.{Begun, begun_none, begun_more, begun_all}
+use mathlib.Core.Path.{◌≡◌}
+use Prim.Native.Nat.{◌≤◌}
+use lib.ListN.{length}
+use Rattle.text.proofs.Adding.{Begun}
 use Rattle.text.proofs.output.word.Given as goal
 
 abbrev pub invariant-loop-i : goal.invariant-loop-i

@@ -1,7 +1,6 @@
 -- `byte` reads a byte of the text, or 0 past its end.
 use mathlib.Core.Path.{sym}
 use lib.ListN.{get_or-eq_default}
-use borrow.Author.Rules.{rules}
 use Rattle.tokens.proofs.numeral.byte.Goals as goal
 
 pub returns : goal.returns

@@ -21,7 +21,7 @@ returns-then-n-eq0 c = record { text_value = minus_zero c.args.sep (omega arith)
 
 pub returns-else-n-eq0 : goal.returns-else-n-eq0
 returns-else-n-eq0 c = let there = rw c.in-Found.is at c.number-2.ensures.text_value in
-     record { text_value = minus_found c.args.sep (omega arith) c.args.text.now c.args.at (sym c.byte.ensures ∙ c.if-byte-ne-MINUS.false) _ _ there (omega arith); inside_numeral = rw c.in-Found.is at c.number-2.ensures.inside_numeral }
+    record { text_value = minus_found c.args.sep (omega arith) c.args.text.now c.args.at (sym c.byte.ensures ∙ c.if-byte-ne-MINUS.false) _ _ there (omega arith); inside_numeral = rw c.in-Found.is at c.number-2.ensures.inside_numeral }
 
 pub returns-in-Missing : goal.returns-in-Missing
 returns-in-Missing c = record { text_value = minus_alone c.args.sep (omega arith) c.args.text.now c.args.at (sym c.byte.ensures ∙ c.if-byte-ne-MINUS.false) (rw c.in-Missing.is at c.number-2.ensures.text_value); inside_numeral = tt }

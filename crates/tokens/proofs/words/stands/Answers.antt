@@ -1,8 +1,5 @@
 -- `stands` tells whether a word stands at a place: its bytes are compared from the left.
-use mathlib.Core.Path.{◌≡◌}
-use Prim.Native.Nat.{ℕ, ◌+◌, ◌-◌, ◌≤◌, ◌<◌}
 use native.Mathlib.Omega.{arith}
-use lib.ListN.{length, get_or}
 use borrow.Author.Count.{below_none, below_more}
 use Rattle.block.specs.Inner.Tests.{holds, fails}
 use Rattle.tokens.proofs.WordsAt.{room_for, byte_of, stands_at}

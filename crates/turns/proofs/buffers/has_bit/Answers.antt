@@ -1,5 +1,4 @@
 -- `has_bit` shifts a word and looks at its lowest bit.
-use borrow.Author.Rules.{rules}
 use Rattle.block.proofs.Decide as D
 use Rattle.turns.proofs.buffers.has_bit.Goals as goal
 

@@ -1,5 +1,4 @@
 -- `set_narrow` stores the three bytes of a set of states.
-use borrow.Author.Rules.{rules}
 use native.Mathlib.Omega.{arith}
 use lib.ListN.{length-set}
 use Rattle.turns.proofs.Bytes.{narrow_stored}

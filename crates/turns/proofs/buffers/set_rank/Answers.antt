@@ -1,5 +1,4 @@
 -- `set_rank` stores the two bytes of a rank.
-use borrow.Author.Rules.{rules}
 use Rattle.turns.proofs.Bytes.{rank_stored}
 use Rattle.turns.proofs.buffers.set_rank.Goals as goal
 

@@ -1,5 +1,4 @@
 -- `set_word` stores the four bytes of a set.
-use borrow.Author.Rules.{rules}
 use native.Mathlib.Omega.{arith}
 use lib.ListN.{length-set}
 use Rattle.turns.proofs.Bytes.{word_stored}

@@ -4,7 +4,6 @@ use mathlib.Core.Path.{◌≡◌}
 use Prim.Native.Nat.{◌*◌, ◌%◌, ◌^◌, ◌≤◌}
 use native.Mathlib.Omega.{arith}
 use lib.Pow.{pow_mono, shl_exact}
-use borrow.Author.Rules.{rules}
 use Rattle.block.proofs.Decide as D
 use Rattle.turns.proofs.Bytes.{bit_besides, bits_short}
 use Rattle.turns.proofs.buffers.with_bit.Goals as goal

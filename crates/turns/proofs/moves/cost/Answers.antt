@@ -1,7 +1,6 @@
 -- `cost` adds up what the team's agents take and give; `rest` and `k` hold what is left of the team and of the move.
-use mathlib.Core.Logic.{⊎_elim}
-use mathlib.Core.Path.{◌≡◌, refl, sym, ◌∙◌, ap, ap₂, subst}
-use Prim.Native.Nat.{ℕ, ◌+◌, ◌*◌, ◌/◌, ◌%◌, ◌^◌, ◌-◌, ◌≤◌, ◌<◌}
+use mathlib.Core.Path.{◌≡◌, refl, sym, ◌∙◌, ap, subst}
+use Prim.Native.Nat.{ℕ, ◌+◌, ◌/◌, ◌%◌, ◌^◌, ◌≤◌, ◌<◌}
 use native.Mathlib.Nat.{div-one}
 use native.Mathlib.Omega.{arith}
 use lib.IntN.{ℤ, ◌+ℤ◌}
@@ -77,19 +76,19 @@ loop-a-preserved c =
     let agent = turn_agent c.before.before in
     let totals : TotalTo c.args.block.now c.args.team c.args.m c.args.s c.args.j (c.loop-a.a + 1) (to_z w32 c.if-rest-eq1.total-bits) =
     elim c.if-rest-eq1.branch [
-      then-rest-eq1 w ↦
-        let place : At-After-cost = record { before = record { before = c.before.before; if-rest-eq1 = w.if-rest-eq1 }; cost = w.cost } in
-        let all = joined place w.combined-total.result w.combined-total.ensures in
-        let few : c.loop-a.a + 1 ≤ 3 = omega (arith, agent, c.requires.valid.sized.agents_fit) in
-        subst (TotalTo c.args.block.now c.args.team c.args.m c.args.s c.args.j (c.loop-a.a + 1)) (sym (w.total-is ∙ to_z-of_z w32 w.combined-total.result (total_fits _ _ _ _ _ (c.loop-a.a + 1) _ few all))) all
+      | then-rest-eq1 w ↦
+          let place : At-After-cost = record { before = record { before = c.before.before; if-rest-eq1 = w.if-rest-eq1 }; cost = w.cost } in
+          let all = joined place w.combined-total.result w.combined-total.ensures in
+          let few : c.loop-a.a + 1 ≤ 3 = omega (arith, agent, c.requires.valid.sized.agents_fit) in
+          subst (TotalTo c.args.block.now c.args.team c.args.m c.args.s c.args.j (c.loop-a.a + 1)) (sym (w.total-is ∙ to_z-of_z w32 w.combined-total.result (total_fits _ _ _ _ _ (c.loop-a.a + 1) _ few all))) all
       | else-rest-eq1 w ↦
-        subst (TotalTo c.args.block.now c.args.team c.args.m c.args.s c.args.j (c.loop-a.a + 1)) (sym w.total-is)
-        (total_other c.args.block.now c.requires.valid c.args.team c.args.m c.args.s c.args.j c.loop-a.a c.requires.s_bound.0 c.requires.s_bound.1 agent c.requires.move_of (to_z w32 c.loop-a.total-bits) c.loop-a.invariant.1
-        (λ e. w.if-rest-eq1.false (omega (arith, c.loop-a.invariant.2))))
+          subst (TotalTo c.args.block.now c.args.team c.args.m c.args.s c.args.j (c.loop-a.a + 1)) (sym w.total-is)
+          (total_other c.args.block.now c.requires.valid c.args.team c.args.m c.args.s c.args.j c.loop-a.a c.requires.s_bound.0 c.requires.s_bound.1 agent c.requires.move_of (to_z w32 c.loop-a.total-bits) c.loop-a.invariant.1
+          (λ e. w.if-rest-eq1.false (omega (arith, c.loop-a.invariant.2))))
     ] in
     (omega arith, totals, shift _ 2 _ _ c.loop-a.invariant.2, shift _ 4 _ _ c.loop-a.invariant.3)
 
 pub returns : goal.returns
 returns c = let all : c.loop-a.a ≡ L.agents c.args.block.now = omega (arith, c.agents-n.ensures, c.loop-a.invariant.0, c.loop-a-test.false) in
     let total = subst (λ (n : ℕ). TotalTo c.args.block.now c.args.team c.args.m c.args.s c.args.j n (to_z w32 c.loop-a.total-bits)) all c.loop-a.invariant.1 in
-     record { value = total.is; j_bound = (omega (arith, total.takes_few), omega (arith, total.gives_few)) }
+    record { value = total.is; j_bound = (omega (arith, total.takes_few), omega (arith, total.gives_few)) }

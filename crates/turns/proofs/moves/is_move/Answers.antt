@@ -2,7 +2,6 @@
 use mathlib.Core.Path.{◌≡◌, sym, ◌∙◌}
 use Prim.Native.Nat.{◌<◌}
 use native.Mathlib.Omega.{arith}
-use borrow.Author.Rules.{rules}
 use Rattle.block.specs.Layout.{Available}
 use Rattle.block.specs.Inner.Tests.{fails}
 use Rattle.block.proofs.Decide as D

@@ -1,16 +1,13 @@
 -- `effect_of` goes over the resources as `numberUpTo` does, with what the move takes of each and what it gives.
-use mathlib.Core.Path.{◌≡◌, refl, sym, ◌∙◌, ap, subst}
+use mathlib.Core.Path.{◌≡◌, refl, ◌∙◌, ap}
 use Prim.Native.Nat.{ℕ, ◌+◌, ◌*◌, ◌-◌, ◌≤◌, ◌<◌, min}
 use native.Mathlib.Nat.{mul-le-mul_left}
 use native.Mathlib.Omega.{arith}
-use lib.IntN.{ℤ}
 use mir.Syntax.{w32}
 use mir.Val.{to_z, of_z}
 use Rattle.block.specs.Layout as L
 use Rattle.block.specs.Layout.{Block}
-use Rattle.game.specs.Position as P
-use Rattle.game.specs.Inner.Stocks as S
-use Rattle.game.specs.Position.{Position, number_up_to}
+use Rattle.game.specs.Position.{number_up_to}
 use Rattle.game.specs.Model.{bounds_of, arena_of}
 use Rattle.game.proofs.Local.Same.{places_positive}
 use Rattle.game.proofs.Blocks.Passing.{few_places}
@@ -116,15 +113,15 @@ loop-j-smaller c = omega arith
 
 pub loop-j-preserved : goal.loop-j-preserved
 loop-j-preserved c = (
-      omega arith,
-      number_next c.args.block.now c.args.i c.loop-j.j c.loop-j.takes c.places-c.result c.positive.result (taken_by c.args.block.now c.args.i c.args.s c.args.m) c.loop-j.invariant.1 c.places-c.ensures (takes_here c.before).0,
-      number_next c.args.block.now c.args.i c.loop-j.j c.loop-j.gives c.places-c.result c.smaller.result (given_by c.args.block.now c.args.i c.args.s c.args.m) c.loop-j.invariant.2 c.places-c.ensures (gives_here c.before).0,
-      (sum_small c.before c.loop-j.takes c.positive.result c.loop-j.invariant.3 (takes_here c.before).1).0,
-      (sum_small c.before c.loop-j.gives c.smaller.result c.loop-j.invariant.4 (gives_here c.before).1).0,
-    )
+  omega arith,
+  number_next c.args.block.now c.args.i c.loop-j.j c.loop-j.takes c.places-c.result c.positive.result (taken_by c.args.block.now c.args.i c.args.s c.args.m) c.loop-j.invariant.1 c.places-c.ensures (takes_here c.before).0,
+  number_next c.args.block.now c.args.i c.loop-j.j c.loop-j.gives c.places-c.result c.smaller.result (given_by c.args.block.now c.args.i c.args.s c.args.m) c.loop-j.invariant.2 c.places-c.ensures (gives_here c.before).0,
+  (sum_small c.before c.loop-j.takes c.positive.result c.loop-j.invariant.3 (takes_here c.before).1).0,
+  (sum_small c.before c.loop-j.gives c.smaller.result c.loop-j.invariant.4 (gives_here c.before).1).0,
+)
 
 pub returns : goal.returns
 returns c = let all : c.loop-j.j ≡ L.resources c.args.block.now = omega (arith, c.resources-n.ensures) in (
-      c.loop-j.invariant.1 ∙ ap (λ (n : ℕ). number_up_to (arena_of c.args.block.now c.args.i) n (taken_by c.args.block.now c.args.i c.args.s c.args.m)) all,
-      c.loop-j.invariant.2 ∙ ap (λ (n : ℕ). number_up_to (arena_of c.args.block.now c.args.i) n (given_by c.args.block.now c.args.i c.args.s c.args.m)) all,
-    )
+  c.loop-j.invariant.1 ∙ ap (λ (n : ℕ). number_up_to (arena_of c.args.block.now c.args.i) n (taken_by c.args.block.now c.args.i c.args.s c.args.m)) all,
+  c.loop-j.invariant.2 ∙ ap (λ (n : ℕ). number_up_to (arena_of c.args.block.now c.args.i) n (given_by c.args.block.now c.args.i c.args.s c.args.m)) all,
+)

@@ -1,22 +1,11 @@
 -- `effect_of` goes over the resources as `numberUpTo` does, with what the move takes of each and what it gives.
-use mathlib.Core.Path.{◌≡◌, refl, sym, ◌∙◌, ap, subst}
-use Prim.Native.Nat.{ℕ, ◌+◌, ◌*◌, ◌-◌, ◌≤◌, ◌<◌, min}
-use native.Mathlib.Nat.{mul-le-mul_left}
-use native.Mathlib.Omega.{arith}
-use lib.IntN.{ℤ}
-use mir.Syntax.{w32}
-use mir.Val.{to_z, of_z}
-use Rattle.block.specs.Layout as L
+use mathlib.Core.Path.{◌≡◌}
+use Prim.Native.Nat.{ℕ, ◌+◌, ◌*◌, ◌-◌, ◌≤◌}
 use Rattle.block.specs.Layout.{Block}
 use Rattle.game.specs.Position as P
 use Rattle.game.specs.Inner.Stocks as S
 use Rattle.game.specs.Position.{Position, number_up_to}
-use Rattle.game.specs.Model.{bounds_of, arena_of}
-use Rattle.game.proofs.Local.Same.{places_positive}
-use Rattle.game.proofs.Blocks.Passing.{few_places}
-use Rattle.turns.specs.Inner.Costs as C
-use Rattle.turns.proofs.Numbering.{number_next}
-use Rattle.turns.proofs.Costs.{net_held, net_takes, net_gives}
+use Rattle.game.specs.Model.{arena_of}
 use Rattle.turns.proofs.positions.effect_of.Given as goal
 
 -- what the move takes of each stock, and what it gives

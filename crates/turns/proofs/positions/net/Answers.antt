@@ -1,11 +1,10 @@
 -- `net` is the move's cost, unless the resource is unlimited.
-use mathlib.Core.Path.{◌≡◌, refl, sym, ◌∙◌, ap, ap₂, subst}
+use mathlib.Core.Path.{◌≡◌, refl, sym, ◌∙◌, ap, subst}
 use Prim.Native.Nat.{ℕ, ◌≤◌}
 use native.Mathlib.Omega.{arith}
 use lib.IntN.{ℤ, sub_ℕ}
 use mir.Syntax.{w32}
 use mir.Val.{to_z, of_z}
-use borrow.Author.Rules.{rules}
 use Rattle.block.specs.Layout as L
 use Rattle.block.specs.Layout.{digit}
 use Rattle.block.proofs.Signed.{sub_held}

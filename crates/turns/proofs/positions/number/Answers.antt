@@ -1,6 +1,6 @@
 -- `number` goes over the resources as `numberUpTo` does.
 use mathlib.Core.Path.{◌≡◌, refl, ◌∙◌, ap}
-use Prim.Native.Nat.{ℕ, ◌-◌, ◌≤◌, ◌<◌}
+use Prim.Native.Nat.{ℕ, ◌<◌}
 use native.Mathlib.Omega.{arith}
 use Rattle.block.specs.Layout as L
 use Rattle.game.specs.Position.{position, number_up_to}
@@ -44,9 +44,9 @@ loop-j-smaller c = omega arith
 
 pub loop-j-preserved : goal.loop-j-preserved
 loop-j-preserved c = (
-      omega arith,
-      goes_on c.args.block.now c.requires.valid c.args.i c.loop-j.j c.loop-j.x c.places.result c.wide.result (position c.args.s c.args.stocks.now) c.requires.i_bound.0 c.requires.i_bound.1 c.requires.position (resource_at c.before.before.before.before) c.loop-j.invariant.1 c.places.ensures c.wide.ensures.value,
-    )
+  omega arith,
+  goes_on c.args.block.now c.requires.valid c.args.i c.loop-j.j c.loop-j.x c.places.result c.wide.result (position c.args.s c.args.stocks.now) c.requires.i_bound.0 c.requires.i_bound.1 c.requires.position (resource_at c.before.before.before.before) c.loop-j.invariant.1 c.places.ensures c.wide.ensures.value,
+)
 
 pub returns : goal.returns
 returns c = let all : c.loop-j.j ≡ L.resources c.args.block.now = omega (arith, c.resources-n.ensures) in

@@ -1,11 +1,8 @@
 -- `number` goes over the resources as `numberUpTo` does.
-use mathlib.Core.Path.{◌≡◌, refl, ◌∙◌, ap}
-use Prim.Native.Nat.{ℕ, ◌-◌, ◌≤◌, ◌<◌}
-use native.Mathlib.Omega.{arith}
-use Rattle.block.specs.Layout as L
+use mathlib.Core.Path.{◌≡◌}
+use Prim.Native.Nat.{◌≤◌}
 use Rattle.game.specs.Position.{position, number_up_to}
 use Rattle.game.specs.Model.{arena_of}
-use Rattle.turns.proofs.Numbering.{goes_on, stays_small}
 use Rattle.turns.proofs.positions.number.Given as goal
 
 abbrev pub invariant-loop-j : goal.invariant-loop-j

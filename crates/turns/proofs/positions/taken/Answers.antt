@@ -1,6 +1,5 @@
 -- `taken` is what a cost above nothing takes.
-use mathlib.Core.Path.{◌≡◌, ◌∙◌, ap}
-use borrow.Author.Rules.{rules}
+use mathlib.Core.Path.{◌∙◌, ap}
 use Rattle.turns.specs.Inner.Costs as C
 use Rattle.turns.proofs.Costs.{net_held, net_takes}
 use Rattle.turns.proofs.positions.taken.Goals as goal

@@ -1,7 +1,6 @@
 -- `count` is the count of a word's bits that the machine has.
 use native.Mathlib.Omega.{arith}
 use lib.Count.{ones-le}
-use borrow.Author.Rules.{rules}
 use Rattle.turns.proofs.sets.count.Goals as goal
 
 pub overflow_cast-result-2 : goal.overflow_cast-result-2

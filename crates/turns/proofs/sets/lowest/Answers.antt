@@ -2,7 +2,6 @@
 use native.Mathlib.Omega.{arith}
 use lib.Count.{trailing_le}
 use Rattle.block.proofs.Ones.{trailing_lowest}
-use borrow.Author.Rules.{rules}
 use Rattle.turns.proofs.sets.lowest.Goals as goal
 
 pub overflow_cast-result-2 : goal.overflow_cast-result-2

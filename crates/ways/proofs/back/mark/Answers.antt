@@ -1,10 +1,10 @@
 -- `mark` goes over the states.
 use mathlib.Core.Logic.{◌⊎◌, inl, inr}
 use mathlib.Core.Path.{◌≡◌, ◌∙◌, subst}
-use Prim.Native.Nat.{ℕ, ◌+◌, ◌-◌, ◌≤◌, ◌<◌}
+use Prim.Native.Nat.{ℕ, ◌+◌, ◌<◌}
 use native.Mathlib.Omega.{arith}
 use Rattle.game.proofs.Numbers.Decide.{eq?}
-use Rattle.ways.specs.Back.{LedIn, Marked}
+use Rattle.ways.specs.Back.{LedIn}
 use Rattle.ways.proofs.Marking.{marked_none, marked_both, marked_narrow}
 use Rattle.ways.proofs.back.mark.Goals as goal
 

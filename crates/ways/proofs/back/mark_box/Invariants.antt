@@ -1,15 +1,8 @@
 -- `mark_box` flags one line of places after another.
-use mathlib.Core.List.{List}
-use mathlib.Core.Logic.{◌⊎◌, inl, inr}
-use mathlib.Core.Path.{◌≡◌, ◌∙◌, ap}
+use mathlib.Core.Path.{◌≡◌}
 use Prim.Native.Nat.{ℕ, ◌+◌, ◌*◌, ◌-◌, ◌≤◌, ◌<◌}
-use native.Mathlib.Nat.{mul-le-mul, suc-mul}
-use native.Mathlib.Omega.{arith}
-use lib.ListN.{length}
-use Rattle.game.proofs.Numbers.Decide.{eq?}
 use Rattle.ways.specs.Back.{InSpan, Marked}
 use Rattle.ways.specs.declared.back.Span.{Span}
-use Rattle.ways.proofs.Marking.{marked_none, marked_both, marked_narrow}
 use Rattle.ways.proofs.back.mark_box.Given as goal
 
 -- the places of the lines before a

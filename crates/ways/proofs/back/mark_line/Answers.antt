@@ -1,12 +1,9 @@
 -- `mark_line` flags one place after another.
-use mathlib.Core.List.{List}
 use mathlib.Core.Logic.{◌⊎◌, inl, inr}
 use mathlib.Core.Path.{◌≡◌}
-use Prim.Native.Nat.{ℕ, ◌+◌, ◌-◌, ◌≤◌, ◌<◌}
+use Prim.Native.Nat.{ℕ, ◌+◌, ◌≤◌, ◌<◌}
 use native.Mathlib.Omega.{arith}
-use lib.ListN.{length}
 use Rattle.game.proofs.Numbers.Decide.{eq?}
-use Rattle.ways.specs.Back.{Marked}
 use Rattle.ways.proofs.Marking.{marked_none, marked_store, marked_both, marked_narrow}
 use Rattle.ways.proofs.back.mark_line.Goals as goal
 

@@ -1,13 +1,11 @@
 -- `mark_move` flags each place whose stocks the move can leave as those of x.
 use mathlib.Core.Bool.{true}
-use mathlib.Core.Path.{◌≡◌, refl, sym, ◌∙◌, ap, ap₂, subst}
+use mathlib.Core.Path.{refl, ◌∙◌, ap}
 use Prim.Native.Nat.{ℕ, suc, ◌+◌, ◌*◌, ◌-◌, ◌/◌, ◌%◌, ◌≤◌, ◌<◌}
-use native.Mathlib.Numerals.{add-one}
 use native.Mathlib.Omega.{arith}
-use borrow.Author.Rules.{rules}
 use Rattle.game.specs.Model.{arena_of}
 use Rattle.ways.specs.Back.{Leads, InBox}
-use Rattle.ways.specs.Lines.{packed_in, number_in, taken_in, given_in}
+use Rattle.ways.specs.Lines.{packed_in, number_in, taken_in}
 use Rattle.ways.specs.Packed.{Narrow}
 use Rattle.ways.proofs.Coming.{leads_comes}
 use Rattle.ways.proofs.Leading.{few, taken_small, place_narrow}
@@ -89,12 +87,12 @@ overflow_add-full c = omega (arith, c.unpack-full.ensures.1, full_narrow c.befor
 
 pub mark_box-requires : goal.mark_box-requires
 mark_box-requires c = let full = full_narrow c.before.before.before.before.before.before.before.before.before.before.before.before.before.before.before in (
-      omega (arith, c.span_of-low.ensures.1, c.unpack-full.ensures.0),
-      omega (arith, c.span_of-high.ensures.1),
-      omega (arith, c.unpack-full.ensures.1),
-      c.requires.playable.2,
-      c.span_of-high.ensures.0,
-    )
+  omega (arith, c.span_of-low.ensures.1, c.unpack-full.ensures.0),
+  omega (arith, c.span_of-high.ensures.1),
+  omega (arith, c.unpack-full.ensures.1),
+  c.requires.playable.2,
+  c.span_of-high.ensures.0,
+)
 
 pub returns : goal.returns
 returns c = marked_narrow boxed c.mark_box.ensures

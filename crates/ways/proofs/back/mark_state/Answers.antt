@@ -1,13 +1,13 @@
 -- `mark_state` goes over the listed moves of the state.
 use mathlib.Core.Bool.{true}
 use mathlib.Core.Logic.{◌⊎◌, inl, inr}
-use mathlib.Core.Path.{◌≡◌, sym, ◌∙◌, ap, subst}
-use Prim.Native.Nat.{ℕ, ◌+◌, ◌-◌, ◌≤◌, ◌<◌}
+use mathlib.Core.Path.{◌≡◌, sym, ◌∙◌, subst}
+use Prim.Native.Nat.{ℕ, ◌+◌, ◌<◌}
 use native.Mathlib.Omega.{arith}
 use Rattle.game.specs.Model.{arena_of}
 use Rattle.game.proofs.Numbers.Decide.{eq?}
-use Rattle.ways.specs.Back.{Leads, Marked}
-use Rattle.ways.specs.Lines.{count_in, number_in}
+use Rattle.ways.specs.Back.{Leads}
+use Rattle.ways.specs.Lines.{number_in}
 use Rattle.ways.specs.Listing.{Useful}
 use Rattle.ways.proofs.Marking.{marked_none, marked_both, marked_narrow}
 use Rattle.ways.proofs.back.mark_state.Goals as goal

@@ -2,11 +2,8 @@
 use mathlib.Core.Path.{◌∙◌, sym, ap₂, refl}
 use Prim.Native.Nat.{ℕ, ◌-◌, ◌<◌}
 use native.Mathlib.Omega.{arith}
-use borrow.Author.Rules.{rules}
-use Rattle.ways.specs.Landing.{Remains}
-use Rattle.ways.specs.Lines.{packed_in, taken_in, given_in}
+use Rattle.ways.specs.Lines.{packed_in, given_in}
 use Rattle.ways.specs.Packed.{filled_place}
-use Rattle.ways.specs.declared.landing.Landing.{Landing}
 use Rattle.ways.specs.declared.landing.Landing.TheVariants.{At}
 use Rattle.ways.proofs.Leading.{few, listed_small, given_small, narrow_here, lands_filled, lands_nowhere, spends_lands}
 use Rattle.ways.proofs.landing.lands.Goals as goal

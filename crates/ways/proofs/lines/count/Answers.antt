@@ -1,8 +1,6 @@
 -- `count` reads the count of a line.
 use mathlib.Core.Path.{◌∙◌, ap}
-use Prim.Native.Nat.{ℕ}
 use native.Mathlib.Omega.{arith}
-use borrow.Author.Rules.{rules}
 use Rattle.ways.specs.Lines.{field_in}
 use Rattle.ways.proofs.Filling.{count_at_small}
 use Rattle.ways.proofs.lines.count.Goals as goal

@@ -1,9 +1,7 @@
 -- `find` looks for a number along a line.
 use mathlib.Core.Path.{◌≡◌, sym, ◌∙◌}
-use Prim.Native.Nat.{ℕ, ◌-◌, ◌≤◌, ◌<◌}
 use native.Mathlib.Omega.{arith}
 use borrow.Author.Count.{below_more}
-use Rattle.ways.specs.Lines.{number_in}
 use Rattle.ways.proofs.lines.find.Goals as goal
 
 pub count-n-requires : goal.count-n-requires

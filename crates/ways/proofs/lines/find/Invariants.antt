@@ -1,8 +1,6 @@
 -- `find` looks for a number along a line.
-use mathlib.Core.Path.{◌≡◌, sym, ◌∙◌}
+use mathlib.Core.Path.{◌≡◌}
 use Prim.Native.Nat.{ℕ, ◌-◌, ◌≤◌, ◌<◌}
-use native.Mathlib.Omega.{arith}
-use borrow.Author.Count.{below_more}
 use Rattle.ways.specs.Lines.{number_in}
 use Rattle.ways.proofs.lines.find.Given as goal
 

@@ -2,7 +2,6 @@
 use mathlib.Core.Path.{◌∙◌, ap}
 use Prim.Native.Nat.{ℕ, ◌+◌}
 use native.Mathlib.Omega.{arith}
-use borrow.Author.Rules.{rules}
 use Rattle.ways.specs.Lines.{field_in}
 use Rattle.ways.proofs.Filling.{line_at_small}
 use Rattle.ways.proofs.lines.number.Goals as goal

@@ -1,9 +1,8 @@
 -- `set_count` stores a count of a line.
 use mathlib.Core.Path.{◌∙◌, ap}
-use Prim.Native.Nat.{ℕ, ◌+◌}
+use Prim.Native.Nat.{ℕ}
 use native.Mathlib.Omega.{arith}
 use lib.ListN.{set}
-use borrow.Author.Rules.{rules}
 use Rattle.ways.specs.Lines.{field_place}
 use Rattle.ways.proofs.Filling.{count_at_small}
 use Rattle.ways.proofs.lines.set_count.Goals as goal

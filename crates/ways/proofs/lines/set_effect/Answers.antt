@@ -1,9 +1,8 @@
 -- `set_effect` stores two fields.
 use mathlib.Core.List.{List}
-use mathlib.Core.Path.{◌≡◌, ◌∙◌, ap}
+use mathlib.Core.Path.{◌∙◌, ap}
 use Prim.Native.Nat.{ℕ, ◌+◌}
 use lib.ListN.{set}
-use borrow.Author.Rules.{rules}
 use Rattle.ways.specs.Lines.{field_place, gives_at}
 use Rattle.ways.proofs.lines.set_effect.Goals as goal
 

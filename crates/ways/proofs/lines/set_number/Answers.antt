@@ -3,7 +3,6 @@ use mathlib.Core.Path.{◌∙◌, ap}
 use Prim.Native.Nat.{ℕ, ◌+◌}
 use native.Mathlib.Omega.{arith}
 use lib.ListN.{set}
-use borrow.Author.Rules.{rules}
 use Rattle.ways.specs.Lines.{field_place}
 use Rattle.ways.proofs.Filling.{line_at_small}
 use Rattle.ways.proofs.lines.set_number.Goals as goal

@@ -1,11 +1,5 @@
 -- `any_gives` looks for a state with a move that gives.
-use mathlib.Core.Bool.{true}
 use Prim.Native.Nat.{ℕ, ◌≤◌, ◌<◌, ◌-◌}
-use native.Mathlib.Omega.{arith}
-use borrow.Author.Count.{below_none, below_more}
-use borrow.Author.Rules.{rules}
-use Rattle.block.specs.Inner.Tests.{holds, fails}
-use Rattle.block.proofs.Decide as D
 use Rattle.ways.specs.Listing.{StateGives}
 use Rattle.ways.proofs.listing.any_gives.Given as goal
 

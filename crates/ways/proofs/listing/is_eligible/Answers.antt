@@ -2,8 +2,6 @@
 use mathlib.Core.Bool.{Bool, true, false}
 use mathlib.Core.Path.{sym, subst}
 use Prim.Native.Nat.{ℕ}
-use borrow.Author.Rules.{rules}
-use borrow.Author.Tests.{not-true, not-false}
 use Rattle.block.specs.Inner.Tests.{Decides, fails}
 use Rattle.block.proofs.Decide as D
 use Rattle.game.specs.Position.{MoveOf}

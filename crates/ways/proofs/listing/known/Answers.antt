@@ -3,7 +3,6 @@ use mathlib.Core.Bool.{Bool, true, false}
 use mathlib.Core.List.{List}
 use mathlib.Core.Path.{refl}
 use Prim.Native.Nat.{ℕ}
-use borrow.Author.Rules.{rules}
 use Rattle.block.specs.Layout.{Block}
 use Rattle.block.proofs.Decide as D
 use Rattle.ways.specs.Lines.{count_in, number_in}
@@ -25,7 +24,7 @@ listed_as b row t s ways one = record { lines = lines; effects = one.effects }
 
 pub returns : goal.returns
 returns c = (
-      record { inside = c.requires.playable.0.inside; strategic = c.requires.playable.0.strategic; places_are = c.requires.playable.0.places_are },
-      record { states = λ s small. listed_as c.args.block.now c.args.row c.any_gives.result s c.args.ways.now (c.requires.playable.1.states s small); told = D.falsity c.any_gives.ensures; packed = c.requires.playable.1.packed; long = c.requires.playable.1.long },
-      record { index_same = refl; into_same = refl; set_same = refl },
-    )
+  record { inside = c.requires.playable.0.inside; strategic = c.requires.playable.0.strategic; places_are = c.requires.playable.0.places_are },
+  record { states = λ s small. listed_as c.args.block.now c.args.row c.any_gives.result s c.args.ways.now (c.requires.playable.1.states s small); told = D.falsity c.any_gives.ensures; packed = c.requires.playable.1.packed; long = c.requires.playable.1.long },
+  record { index_same = refl; into_same = refl; set_same = refl },
+)

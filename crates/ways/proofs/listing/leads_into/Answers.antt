@@ -1,10 +1,9 @@
 -- `leads_into` looks for a listed reply that leads elsewhere.
 use mathlib.Core.Bool.{false}
 use mathlib.Core.Path.{◌≡◌, sym, ◌∙◌, ap, subst}
-use Prim.Native.Nat.{ℕ, ◌+◌, ◌-◌, ◌≤◌, ◌<◌}
+use Prim.Native.Nat.{ℕ, ◌+◌, ◌<◌}
 use native.Mathlib.Omega.{arith}
 use borrow.Author.Count.{below_more}
-use borrow.Author.Tests.{not-true, not-false}
 use Rattle.block.specs.Decide.{Bit}
 use Rattle.block.specs.Inner.Tests.{holds, fails}
 use Rattle.block.specs.Layout as L

@@ -1,17 +1,9 @@
 -- `leads_into` looks for a listed reply that leads elsewhere.
 use mathlib.Core.Bool.{false}
-use mathlib.Core.Path.{◌≡◌, sym, ◌∙◌, ap, subst}
 use Prim.Native.Nat.{ℕ, ◌+◌, ◌-◌, ◌≤◌, ◌<◌}
-use native.Mathlib.Omega.{arith}
-use borrow.Author.Count.{below_more}
-use borrow.Author.Tests.{not-true, not-false}
 use Rattle.block.specs.Decide.{Bit}
-use Rattle.block.specs.Inner.Tests.{holds, fails}
 use Rattle.block.specs.Layout as L
-use Rattle.block.proofs.Decide as D
-use Rattle.turns.specs.Inner.Rules.{ReplyTo}
-use Rattle.turns.proofs.Opponents.{joint_small, next_small}
-use Rattle.ways.specs.Lines.{count_in, number_in}
+use Rattle.ways.specs.Lines.{number_in}
 use Rattle.ways.proofs.listing.leads_into.Given as goal
 
 abbrev pub invariant-loop-k : goal.invariant-loop-k

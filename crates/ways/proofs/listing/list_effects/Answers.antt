@@ -3,9 +3,8 @@ use mathlib.Core.Bool.{true}
 use mathlib.Core.List.{List}
 use mathlib.Core.Logic.{inl}
 use mathlib.Core.Path.{◌≡◌, sym, ◌∙◌, ap, subst}
-use Prim.Native.Nat.{ℕ, ◌+◌, ◌-◌, ◌≤◌, ◌<◌}
+use Prim.Native.Nat.{ℕ, ◌+◌, ◌<◌}
 use native.Mathlib.Omega.{arith}
-use lib.ListN.{length}
 use Rattle.game.specs.Position.{Position, MoveOf, full}
 use Rattle.game.specs.Inner.Stocks.{offset, refill, gives}
 use Rattle.game.specs.Model.{structure_of, coalition_of, arena_of}
@@ -73,8 +72,7 @@ module _ (c : At-After-number-m) where
       let fits = full_fits G c.args.s c.requires.playable.1 in
       let m = number_in c.args.ways.now c.args.s true c.loop-k.k in
       let gifts : Position = record { state = c.args.s; stock = (gives G q m).stock } in
-      let some = few c.args.block.now c.requires.valid c.args.row c.requires.playable.0 in
-      (
+      let some = few c.args.block.now c.requires.valid c.args.row c.requires.playable.0 in (
         omega (arith, spent_number G q m fits (c.requires.line_of.only c.loop-k.k (within c.before).0).0.1, stocks_below G q fits),
         omega (arith, stocks_below G gifts (c.requires.playable.1, gives_fit G q m)),
       )
@@ -111,8 +109,7 @@ loop-k-preserved c = let G = arena_of c.args.block.now c.args.row.index in
     let gives : ℕ → ℕ = λ j. refill G (full G c.args.s) (number_in c.args.ways.now c.args.s true j) in
     let state = state_small c.before.before.before.before.before.before.before.before.before.before.before.before in
     let long = c.loop-k.invariant.2.long ∙ c.requires.playable.2 in
-    let k-small = (within c.before.before.before.before.before.before.before).1 in
-    (
+    let k-small = (within c.before.before.before.before.before.before.before).1 in (
       omega (arith, c.loop-k-test.true),
       subst (λ (l : List ℕ). (j : ℕ) → j < c.loop-k.k + 1 → (taken_in l c.args.s j ≡ takes j) × (given_in l c.args.s j ≡ gives j)) (sym c.set_effect.ensures)
           (effects_more c.args.s c.loop-k.k c.effect_of-e.result.takes c.effect_of-e.result.gives c.loop-k.ways state k-small long takes gives c.loop-k.invariant.1 (takes_is c.before.before.before.before.before) (gives_is c.before.before.before.before.before)),
@@ -123,8 +120,11 @@ pub shape_of-ways : goal.shape_of-ways
 shape_of-ways c = c.loop-k.invariant.2.long
 
 pub returns : goal.returns
-returns c = let G = arena_of c.args.block.now c.args.row.index in record { effects_of = λ k small.
-          let below : k < count_in c.args.ways.now c.args.s true = omega (arith, count_kept c.args.s c.args.ways.now c.loop-k.ways c.loop-k.invariant.2) in
-          let (takes, gives) = c.loop-k.invariant.1 k (omega (arith, c.count-n.ensures, c.loop-k-test.false)) in
-          let number = sym (number_kept c.args.s c.args.ways.now c.loop-k.ways c.loop-k.invariant.2 k (omega (arith, c.requires.line_of.few))) in
-          (takes ∙ ap (offset G (full G c.args.s)) number, gives ∙ ap (refill G (full G c.args.s)) number); same_outside = c.loop-k.invariant.2 }
+returns c = let G = arena_of c.args.block.now c.args.row.index in record {
+  effects_of = λ k small.
+      let below : k < count_in c.args.ways.now c.args.s true = omega (arith, count_kept c.args.s c.args.ways.now c.loop-k.ways c.loop-k.invariant.2) in
+      let (takes, gives) = c.loop-k.invariant.1 k (omega (arith, c.count-n.ensures, c.loop-k-test.false)) in
+      let number = sym (number_kept c.args.s c.args.ways.now c.loop-k.ways c.loop-k.invariant.2 k (omega (arith, c.requires.line_of.few))) in
+      (takes ∙ ap (offset G (full G c.args.s)) number, gives ∙ ap (refill G (full G c.args.s)) number);
+  same_outside = c.loop-k.invariant.2;
+}

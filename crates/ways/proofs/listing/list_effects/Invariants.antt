@@ -1,21 +1,12 @@
 -- `list_effects` finds what one listed move after another takes and gives.
 use mathlib.Core.Bool.{true}
-use mathlib.Core.List.{List}
-use mathlib.Core.Logic.{inl}
-use mathlib.Core.Path.{◌≡◌, sym, ◌∙◌, ap, subst}
+use mathlib.Core.Path.{◌≡◌}
 use Prim.Native.Nat.{ℕ, ◌+◌, ◌-◌, ◌≤◌, ◌<◌}
-use native.Mathlib.Omega.{arith}
-use lib.ListN.{length}
-use Rattle.game.specs.Position.{Position, MoveOf, full}
-use Rattle.game.specs.Inner.Stocks.{offset, refill, gives}
-use Rattle.game.specs.Model.{structure_of, coalition_of, arena_of}
-use Rattle.game.proofs.Bridge.Truth.{full_fits}
-use Rattle.ways.specs.Lines.{field_place, takes_at, count_in, number_in, taken_in, given_in}
+use Rattle.game.specs.Position.{full}
+use Rattle.game.specs.Inner.Stocks.{offset, refill}
+use Rattle.game.specs.Model.{arena_of}
+use Rattle.ways.specs.Lines.{field_place, takes_at, number_in, taken_in, given_in}
 use Rattle.ways.specs.Listing.{SameOutside}
-use Rattle.ways.proofs.Filling.{outside_none, outside_both, effects_more, effect_outside}
-use Rattle.ways.proofs.Leading.{few}
-use Rattle.ways.proofs.Offsets.{gives_fit, spent_number}
-use Rattle.ways.proofs.Placing.{stocks_below}
 use Rattle.ways.proofs.listing.list_effects.Given as goal
 
 abbrev pub invariant-loop-k : goal.invariant-loop-k

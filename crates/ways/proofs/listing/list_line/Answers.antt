@@ -1,9 +1,8 @@
 -- `list_line` tries every number.
 use mathlib.Core.Bool.{Bool, true, false}
 use mathlib.Core.List.{List}
-use mathlib.Core.Logic.{⊎_elim}
 use mathlib.Core.Path.{◌≡◌, sym, ◌∙◌, subst, subst₂}
-use Prim.Native.Nat.{ℕ, ◌+◌, ◌-◌, ◌≤◌, ◌<◌}
+use Prim.Native.Nat.{ℕ, ◌+◌, ◌≤◌, ◌<◌}
 use native.Mathlib.Omega.{arith}
 use lib.ListN.{length, set}
 use Rattle.block.proofs.Decide as D
@@ -99,8 +98,11 @@ shape_of-ways-then-ends_line c = (more c.before.before.before.before.before.befo
 pub returns-then-ends_line : goal.returns-then-ends_line
 returns-then-ends_line c = let is = eligible_here c.before.before.before.before.before.before.before.before c.if-is_eligible.true in
     let ends = eligible_ends c.args.block.now c.requires.valid c.args.row c.requires.playable.0 c.args.s c.args.ours c.loop-m.m is (D.truth c.ends_line.ensures c.if-ends_line.true) in
-    let (line, same) = more c.before.before.before.before.before.before.before.before c.if-is_eligible.true c.set_number.new.ways c.set_number.ensures in record { line_of_2 = line_all (Listable c.args.block.now c.args.row c.args.s c.args.ours) (c.loop-m.m + 1) (c.loop-m.n + 1) (number_in c.set_number.new.ways c.args.s c.args.ours) (omega (arith, (next_small c.before.before.before.before.before.before.before.before.before).1))
-          (listed_below c.args.block.now c.requires.valid c.args.row c.requires.playable.0 c.args.s c.args.ours c.loop-m.m ends) line; same_outside = same }
+    let (line, same) = more c.before.before.before.before.before.before.before.before c.if-is_eligible.true c.set_number.new.ways c.set_number.ensures in record {
+      line_of_2 = line_all (Listable c.args.block.now c.args.row c.args.s c.args.ours) (c.loop-m.m + 1) (c.loop-m.n + 1) (number_in c.set_number.new.ways c.args.s c.args.ours) (omega (arith, (next_small c.before.before.before.before.before.before.before.before.before).1))
+          (listed_below c.args.block.now c.requires.valid c.args.row c.requires.playable.0 c.args.s c.args.ours c.loop-m.m ends) line;
+      same_outside = same;
+    }
 
 pub overflow_step-m : goal.overflow_step-m
 overflow_step-m c = omega (arith, c.loop-m-test.true)
@@ -115,18 +117,21 @@ loop-m-preserved c = let small : c.loop-m.m + 1 ≤ c.numbers-limit.result = ome
     (c.loop-m.m + 1 ≤ c.numbers-limit.result) × LineBelow (Listable c.args.block.now c.args.row c.args.s c.args.ours) (c.loop-m.m + 1) (number_in l c.args.s c.args.ours) n
     × SameOutside (field_place c.args.s (line_at c.args.ours)) (field_place c.args.s (line_at c.args.ours) + 64) c.args.ways.now l × Open in
     elim c.if-is_eligible.branch [
-      then-is_eligible+else-ends_line w ↦
-        let (line, same) = more c.before.before w.if-is_eligible.true w.set_number.new.ways w.set_number.ensures in
-        subst₂ After (sym w.ways-is) (sym w.n-is) (small, line, same, open_still c.before.before (λ ends. D.falsity w.ends_line.ensures w.if-ends_line.false (ends.0, ends.1, ends.2.2)))
+      | then-is_eligible+else-ends_line w ↦
+          let (line, same) = more c.before.before w.if-is_eligible.true w.set_number.new.ways w.set_number.ensures in
+          subst₂ After (sym w.ways-is) (sym w.n-is) (small, line, same, open_still c.before.before (λ ends. D.falsity w.ends_line.ensures w.if-ends_line.false (ends.0, ends.1, ends.2.2)))
       | else-is_eligible w ↦
-        let (line, same) = skip c.before.before w.if-is_eligible.false in
-        subst₂ After (sym w.ways-is) (sym w.n-is)
-        (small, line, same, open_still c.before.before (λ ends. D.falsity c.is_eligible.ensures w.if-is_eligible.false (ends_eligible c.args.block.now c.requires.valid c.args.row c.requires.playable.0 c.args.s c.args.ours c.loop-m.m ends)))
+          let (line, same) = skip c.before.before w.if-is_eligible.false in
+          subst₂ After (sym w.ways-is) (sym w.n-is)
+          (small, line, same, open_still c.before.before (λ ends. D.falsity c.is_eligible.ensures w.if-is_eligible.false (ends_eligible c.args.block.now c.requires.valid c.args.row c.requires.playable.0 c.args.s c.args.ours c.loop-m.m ends)))
     ]
 
 pub shape_of-ways : goal.shape_of-ways
 shape_of-ways c = c.loop-m.invariant.2.long
 
 pub returns : goal.returns
-returns c = record { line_of_2 = line_all (Listable c.args.block.now c.args.row c.args.s c.args.ours) c.loop-m.m c.loop-m.n (number_in c.loop-m.ways c.args.s c.args.ours) (omega (arith, c.loop-m.invariant.0, c.numbers-limit.ensures.0))
-          (λ m listed. omega (arith, c.numbers-limit.ensures.1 c.args.s m c.requires.playable.1 (eligible_move c.args.block.now c.requires.valid c.args.row c.requires.playable.0 c.args.s c.args.ours m (eligible c.args.block.now c.requires.valid c.args.row c.requires.playable.0 c.args.s c.args.ours m listed)), c.loop-m-test.false)) c.loop-m.invariant.1; same_outside = c.loop-m.invariant.2 }
+returns c = record {
+  line_of_2 = line_all (Listable c.args.block.now c.args.row c.args.s c.args.ours) c.loop-m.m c.loop-m.n (number_in c.loop-m.ways c.args.s c.args.ours) (omega (arith, c.loop-m.invariant.0, c.numbers-limit.ensures.0))
+      (λ m listed. omega (arith, c.numbers-limit.ensures.1 c.args.s m c.requires.playable.1 (eligible_move c.args.block.now c.requires.valid c.args.row c.requires.playable.0 c.args.s c.args.ours m (eligible c.args.block.now c.requires.valid c.args.row c.requires.playable.0 c.args.s c.args.ours m listed)), c.loop-m-test.false)) c.loop-m.invariant.1;
+  same_outside = c.loop-m.invariant.2;
+}

@@ -1,20 +1,8 @@
 -- `list_line` tries every number.
-use mathlib.Core.Bool.{Bool, true, false}
-use mathlib.Core.List.{List}
-use mathlib.Core.Logic.{⊎_elim}
-use mathlib.Core.Path.{◌≡◌, sym, ◌∙◌, subst, subst₂}
 use Prim.Native.Nat.{ℕ, ◌+◌, ◌-◌, ◌≤◌, ◌<◌}
-use native.Mathlib.Omega.{arith}
-use lib.ListN.{length, set}
-use Rattle.block.proofs.Decide as D
-use Rattle.game.specs.Position.{MoveOf}
-use Rattle.game.specs.Model.{structure_of, coalition_of}
-use Rattle.game.proofs.Numbers.Decide.{eq?}
-use Rattle.turns.specs.Inner.Rules.{ReplyTo, SideMove}
 use Rattle.ways.specs.Lines.{field_place, line_at, number_in}
-use Rattle.ways.specs.Listing.{Eligible, Ends, Listable, SameOutside}
-use Rattle.ways.proofs.Filling.{LineBelow, line_none, line_skip, line_all, outside_none, replies_kept, line_stored}
-use Rattle.ways.proofs.Leading.{listable, eligible, eligible_move, eligible_ends, ends_eligible, listed_below}
+use Rattle.ways.specs.Listing.{Ends, Listable, SameOutside}
+use Rattle.ways.proofs.Filling.{LineBelow}
 use Rattle.ways.proofs.listing.list_line.Given as goal
 
 abbrev pub invariant-loop-m : goal.invariant-loop-m

@@ -1,13 +1,8 @@
 -- `list_row` lists one state after another, behind the packed stocks.
-use mathlib.Core.Path.{◌≡◌, sym, ◌∙◌}
-use Prim.Native.Nat.{ℕ, ◌-◌, ◌≤◌, ◌<◌}
+use mathlib.Core.Path.{sym, ◌∙◌}
+use Prim.Native.Nat.{◌<◌}
 use native.Mathlib.Omega.{arith}
-use lib.ListN.{length}
 use Rattle.block.specs.Layout as L
-use Rattle.game.specs.Model.{arena_of}
-use Rattle.ways.specs.Lines.{ways_bytes}
-use Rattle.ways.specs.Listing.{StateListed}
-use Rattle.ways.specs.Packed.{Packs}
 use Rattle.ways.proofs.Filling.{apart}
 use Rattle.ways.proofs.Leading.{states_next, packs_kept}
 use Rattle.ways.proofs.listing.list_row.Goals as goal
@@ -41,11 +36,11 @@ loop-s-smaller c = omega (arith, c.loop-s-test.true)
 
 pub loop-s-preserved : goal.loop-s-preserved
 loop-s-preserved c = (
-      omega (arith, c.loop-s-test.true),
-      states_next c.args.block.now c.args.row c.loop-s.s c.loop-s.ways c.list_state.new.ways c.list_state.ensures.same_outside c.loop-s.invariant.1 c.list_state.ensures.state_listed,
-      packs_kept c.args.block.now c.args.row c.loop-s.s c.loop-s.ways c.list_state.new.ways c.list_state.ensures.same_outside c.requires.valid c.requires.playable.0 c.loop-s.invariant.2,
-      c.list_state.ensures.same_outside.long ∙ c.loop-s.invariant.3,
-    )
+  omega (arith, c.loop-s-test.true),
+  states_next c.args.block.now c.args.row c.loop-s.s c.loop-s.ways c.list_state.new.ways c.list_state.ensures.same_outside c.loop-s.invariant.1 c.list_state.ensures.state_listed,
+  packs_kept c.args.block.now c.args.row c.loop-s.s c.loop-s.ways c.list_state.new.ways c.list_state.ensures.same_outside c.requires.valid c.requires.playable.0 c.loop-s.invariant.2,
+  c.list_state.ensures.same_outside.long ∙ c.loop-s.invariant.3,
+)
 
 pub shape_of-ways : goal.shape_of-ways
 shape_of-ways c = c.loop-s.invariant.3 ∙ sym c.requires.playable.1

@@ -1,15 +1,11 @@
 -- `list_row` lists one state after another, behind the packed stocks.
-use mathlib.Core.Path.{◌≡◌, sym, ◌∙◌}
+use mathlib.Core.Path.{◌≡◌}
 use Prim.Native.Nat.{ℕ, ◌-◌, ◌≤◌, ◌<◌}
-use native.Mathlib.Omega.{arith}
 use lib.ListN.{length}
-use Rattle.block.specs.Layout as L
 use Rattle.game.specs.Model.{arena_of}
 use Rattle.ways.specs.Lines.{ways_bytes}
 use Rattle.ways.specs.Listing.{StateListed}
 use Rattle.ways.specs.Packed.{Packs}
-use Rattle.ways.proofs.Filling.{apart}
-use Rattle.ways.proofs.Leading.{states_next, packs_kept}
 use Rattle.ways.proofs.listing.list_row.Given as goal
 
 abbrev pub invariant-loop-s : goal.invariant-loop-s

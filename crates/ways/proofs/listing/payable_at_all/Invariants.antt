@@ -1,13 +1,8 @@
 -- `payable_at_all` looks for a resource whose full stock does not pay.
 use Prim.Native.Nat.{ℕ, ◌-◌, ◌≤◌, ◌<◌}
-use native.Mathlib.Omega.{arith}
-use borrow.Author.Count.{below_more}
-use Rattle.block.specs.Inner.Tests.{holds, fails}
-use Rattle.block.specs.Layout as L
 use Rattle.game.specs.Rbatl.{full_stock, Pays}
 use Rattle.game.specs.Position.{cost, charge, full}
 use Rattle.game.specs.Model.{arena_of}
-use Rattle.ways.proofs.Offsets.{full_taken, taken_full}
 use Rattle.ways.proofs.listing.payable_at_all.Given as goal
 
 abbrev pub invariant-loop-j : goal.invariant-loop-j

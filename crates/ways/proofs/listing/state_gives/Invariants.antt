@@ -1,12 +1,5 @@
 -- `state_gives` looks for a move that gives over those of the state.
-use mathlib.Core.Bool.{true}
-use mathlib.Core.Path.{ap}
 use Prim.Native.Nat.{ℕ, ◌≤◌, ◌<◌, ◌-◌}
-use native.Mathlib.Omega.{arith}
-use borrow.Author.Count.{below_none, below_more}
-use borrow.Author.Rules.{rules}
-use Rattle.block.specs.Inner.Tests.{holds, fails}
-use Rattle.block.proofs.Decide as D
 use Rattle.ways.specs.Lines.{given_in}
 use Rattle.ways.proofs.listing.state_gives.Given as goal
 

@@ -1,13 +1,10 @@
 -- `fill_packs` packs the stocks of one place after another.
-use mathlib.Core.Path.{◌≡◌, refl, ◌∙◌}
-use Prim.Native.Nat.{ℕ, ◌-◌, ◌≤◌, ◌<◌}
+use mathlib.Core.Path.{refl, ◌∙◌}
 use native.Mathlib.Omega.{arith}
-use lib.ListN.{length}
 use Rattle.game.specs.Position.{number}
 use Rattle.game.specs.Inner.Stocks.{stocks_of}
 use Rattle.game.specs.Model.{arena_of}
 use Rattle.turns.proofs.Bytes.{stored_more}
-use Rattle.ways.specs.Lines.{packed_in}
 use Rattle.ways.specs.Packed.{PackedAt}
 use Rattle.ways.proofs.Leading.{few}
 use Rattle.ways.proofs.Placing.{stocks_below}
@@ -36,6 +33,6 @@ shape_of-ways c = c.loop-x.invariant.2
 
 pub returns : goal.returns
 returns c = let G = arena_of c.args.block.now c.args.row.index in (
-      λ p fits. c.loop-x.invariant.1 (number G (stocks_of G p)) (omega (arith, stocks_below G p fits, c.requires.playable.0.places_are, c.loop-x-test.false)) p fits refl,
-      c.loop-x.invariant.2 ∙ c.requires.playable.1,
-    )
+  λ p fits. c.loop-x.invariant.1 (number G (stocks_of G p)) (omega (arith, stocks_below G p fits, c.requires.playable.0.places_are, c.loop-x-test.false)) p fits refl,
+  c.loop-x.invariant.2 ∙ c.requires.playable.1,
+)

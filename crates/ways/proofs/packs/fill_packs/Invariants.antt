@@ -1,16 +1,10 @@
 -- `fill_packs` packs the stocks of one place after another.
-use mathlib.Core.Path.{◌≡◌, refl, ◌∙◌}
+use mathlib.Core.Path.{◌≡◌}
 use Prim.Native.Nat.{ℕ, ◌-◌, ◌≤◌, ◌<◌}
-use native.Mathlib.Omega.{arith}
 use lib.ListN.{length}
-use Rattle.game.specs.Position.{number}
-use Rattle.game.specs.Inner.Stocks.{stocks_of}
 use Rattle.game.specs.Model.{arena_of}
-use Rattle.turns.proofs.Bytes.{stored_more}
 use Rattle.ways.specs.Lines.{packed_in}
 use Rattle.ways.specs.Packed.{PackedAt}
-use Rattle.ways.proofs.Leading.{few}
-use Rattle.ways.proofs.Placing.{stocks_below}
 use Rattle.ways.proofs.packs.fill_packs.Given as goal
 
 abbrev pub invariant-loop-x : goal.invariant-loop-x

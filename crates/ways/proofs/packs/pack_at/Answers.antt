@@ -3,7 +3,6 @@ use mathlib.Core.Path.{◌≡◌, subst}
 use Prim.Native.Nat.{ℕ, suc, ◌+◌, ◌*◌, ◌-◌, ◌/◌, ◌%◌, ◌≤◌, ◌<◌}
 use native.Mathlib.Omega.{arith}
 use Rattle.block.specs.Layout as L
-use Rattle.game.specs.Position.{places}
 use Rattle.game.specs.Model.{bounds_of}
 use Rattle.game.proofs.Local.Same.{places_positive}
 use Rattle.game.proofs.Blocks.Passing.{few_places}

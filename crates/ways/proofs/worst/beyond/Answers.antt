@@ -1,7 +1,6 @@
 -- `beyond` compares two numbers.
 use mathlib.Core.Bool.{Bool, true, false, not}
 use Prim.Native.Nat.{ℕ, ◌<◌}
-use mathlib.Core.Path.{◌≡◌}
 use native.Mathlib.Omega.{arith}
 use Rattle.block.specs.Inner.Tests.{Decides, holds, fails}
 use Rattle.ways.specs.Extremes.{Beyond}

@@ -1,15 +1,7 @@
 -- `worst_at` goes on from the rank where the first reply leads until one is past the limit.
-use mathlib.Core.Bool.{true, false}
-use mathlib.Core.Logic.{⊎_elim}
-use mathlib.Core.Path.{◌≡◌, subst}
-use Prim.Native.Nat.{ℕ, ◌-◌, ◌≤◌, ◌<◌}
-use native.Mathlib.Omega.{arith}
-use Rattle.block.proofs.Decide as D
-use Rattle.ways.specs.Extremes.{Extreme, BestOf}
-use Rattle.ways.specs.Landing.{rank_after, WorstWithin}
-use Rattle.ways.specs.Lines.{count_in}
-use Rattle.ways.proofs.Largest.{extreme_first, extreme_next, best_early}
-use Rattle.ways.proofs.Leading.{some_reply, best_worst}
+use Prim.Native.Nat.{◌-◌, ◌≤◌, ◌<◌}
+use Rattle.ways.specs.Extremes.{Extreme}
+use Rattle.ways.specs.Landing.{rank_after}
 use Rattle.ways.proofs.worst.worst_at.Given as goal
 
 abbrev pub invariant-loop-k : goal.invariant-loop-k

@@ -1,13 +1,9 @@
 -- `actions` writes the costs, action by action.
-use mathlib.Core.Path.{◌≡◌, refl}
-use Prim.Native.Nat.{◌+◌, ◌-◌, ◌*◌, ◌≤◌}
+use mathlib.Core.Path.{refl}
 use native.Mathlib.Omega.{arith}
-use lib.ListN.{length}
-use Rattle.text.specs.Job as J
-use Rattle.writer.specs.Inner.Lengths.{costs_bytes}
 use Rattle.writer.specs.Inner.Writing.{written_sizes}
 use Rattle.text.proofs.JobLoops.{actions_loop}
-use Rattle.writer.proofs.Writing.{Looped, looped_none, looped_more, looped_all}
+use Rattle.writer.proofs.Writing.{looped_none, looped_more, looped_all}
 use Rattle.writer.proofs.agents.actions.Goals as goal
 
 pub count-actions-requires : goal.count-actions-requires
@@ -24,7 +20,7 @@ overflow_sub-actions c = omega arith
 
 pub costs-next-requires : goal.costs-next-requires
 costs-next-requires c = let few = c.requires.valid.0.counted c.args.s c.args.a (omega arith) (omega arith) in
-     record { valid = (c.requires.valid.0, omega arith); s_lt_max_states = omega arith }
+    record { valid = (c.requires.valid.0, omega arith); s_lt_max_states = omega arith }
 
 pub overflow_step-k : goal.overflow_step-k
 overflow_step-k c = omega arith

@@ -1,13 +1,11 @@
 -- `actions` writes the costs, action by action.
-use mathlib.Core.Path.{◌≡◌, refl}
-use Prim.Native.Nat.{◌+◌, ◌-◌, ◌*◌, ◌≤◌}
-use native.Mathlib.Omega.{arith}
+use mathlib.Core.Path.{◌≡◌}
+use Prim.Native.Nat.{◌+◌, ◌*◌, ◌≤◌}
 use lib.ListN.{length}
 use Rattle.text.specs.Job as J
 use Rattle.writer.specs.Inner.Lengths.{costs_bytes}
 use Rattle.writer.specs.Inner.Writing.{written_sizes}
-use Rattle.text.proofs.JobLoops.{actions_loop}
-use Rattle.writer.proofs.Writing.{Looped, looped_none, looped_more, looped_all}
+use Rattle.writer.proofs.Writing.{Looped}
 use Rattle.writer.proofs.agents.actions.Given as goal
 
 abbrev pub invariant-loop-k : goal.invariant-loop-k

@@ -1,13 +1,7 @@
 -- `agent_lines` writes the acts lines in turn.
 use mathlib.Core.Path.{◌≡◌, refl, sym, ◌∙◌}
-use Prim.Native.Nat.{◌+◌, ◌-◌, ◌*◌, ◌≤◌}
 use native.Mathlib.Omega.{arith}
-use lib.ListN.{length}
-use Rattle.block.specs.Layout.{count}
-use Rattle.text.specs.Job as J
-use Rattle.writer.specs.Inner.Lengths.{acts_line_bytes}
-use Rattle.writer.specs.Inner.Writing.{written_sizes}
-use Rattle.writer.proofs.Writing.{Collected, collected_none, collected_more, collected_all}
+use Rattle.writer.proofs.Writing.{collected_none, collected_more, collected_all}
 use Rattle.writer.proofs.agents.agent_lines.Goals as goal
 
 pub agents-agents-requires : goal.agents-agents-requires

@@ -1,13 +1,12 @@
 -- `agent_lines` writes the acts lines in turn.
-use mathlib.Core.Path.{◌≡◌, refl, sym, ◌∙◌}
-use Prim.Native.Nat.{◌+◌, ◌-◌, ◌*◌, ◌≤◌}
-use native.Mathlib.Omega.{arith}
+use mathlib.Core.Path.{◌≡◌}
+use Prim.Native.Nat.{◌+◌, ◌*◌, ◌≤◌}
 use lib.ListN.{length}
 use Rattle.block.specs.Layout.{count}
 use Rattle.text.specs.Job as J
 use Rattle.writer.specs.Inner.Lengths.{acts_line_bytes}
 use Rattle.writer.specs.Inner.Writing.{written_sizes}
-use Rattle.writer.proofs.Writing.{Collected, collected_none, collected_more, collected_all}
+use Rattle.writer.proofs.Writing.{Collected}
 use Rattle.writer.proofs.agents.agent_lines.Given as goal
 
 abbrev pub invariant-loop-a : goal.invariant-loop-a

@@ -1,8 +1,6 @@
 -- `counts` gathers the counts, agent by agent.
-use mathlib.Core.Path.{◌≡◌, refl, ap, ◌∙◌}
-use Prim.Native.Nat.{◌-◌, ◌≤◌}
-use native.Mathlib.Numerals.{add-one}
-use native.Mathlib.Omega.{arith}
+use mathlib.Core.Path.{◌≡◌}
+use Prim.Native.Nat.{◌≤◌}
 use Rattle.text.specs.Inner.Fields.{counts_to}
 use Rattle.writer.proofs.agents.counts.Given as goal
 

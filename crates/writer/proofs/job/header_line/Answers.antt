@@ -9,7 +9,6 @@ use Rattle.text.specs.declared.sizes.Edition.TheVariants.{Second}
 use Rattle.text.specs.declared.sizes.Sizes.{Sizes}
 use Rattle.text.specs.Format.{Format, write}
 use Rattle.text.specs.Job.{header_line, size, resource_fields, no_kinds}
-use borrow.Author.Rules.{rules}
 use Rattle.writer.proofs.job.header_line.Goals as goal
 
 -- what follows the line, by the kinds
@@ -34,14 +33,14 @@ shape_of-text c = c.resource_fields.auto.text ∙ c.number-kinds.auto.text ∙ c
 pub returns : goal.returns
 unfolding header_line size
 returns c = (
-      λ f.
-          c.resource_fields.ensures.0 (sized f c.args.block.now)
-          ∙ rw (c.agents.ensures, c.resources.ensures, c.states.ensures, c.propositions.ensures, c.rows.ensures) at (
-          c.number-kinds.ensures.adds (write (resource_fields Second (L.resources c.args.block.now) 0 no_kinds (sized f c.args.block.now)) c.args.block.now)
-          ∙ c.number-rows.ensures.adds _
-          ∙ c.number-propositions.ensures.adds _
-          ∙ c.number-states.ensures.adds _
-          ∙ c.number-resources.ensures.adds _
-          ∙ c.word-agents.ensures.0 _),
-      omega (arith, c.resource_fields.ensures.1, c.number-kinds.ensures.upper_bound.0, c.number-rows.ensures.upper_bound.0, c.number-propositions.ensures.upper_bound.0, c.number-states.ensures.upper_bound.0, c.number-resources.ensures.upper_bound.0, c.word-agents.ensures.1),
-    )
+  λ f.
+      c.resource_fields.ensures.0 (sized f c.args.block.now)
+      ∙ rw (c.agents.ensures, c.resources.ensures, c.states.ensures, c.propositions.ensures, c.rows.ensures) at (
+      c.number-kinds.ensures.adds (write (resource_fields Second (L.resources c.args.block.now) 0 no_kinds (sized f c.args.block.now)) c.args.block.now)
+      ∙ c.number-rows.ensures.adds _
+      ∙ c.number-propositions.ensures.adds _
+      ∙ c.number-states.ensures.adds _
+      ∙ c.number-resources.ensures.adds _
+      ∙ c.word-agents.ensures.0 _),
+  omega (arith, c.resource_fields.ensures.1, c.number-kinds.ensures.upper_bound.0, c.number-rows.ensures.upper_bound.0, c.number-propositions.ensures.upper_bound.0, c.number-states.ensures.upper_bound.0, c.number-resources.ensures.upper_bound.0, c.word-agents.ensures.1),
+)

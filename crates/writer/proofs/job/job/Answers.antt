@@ -6,7 +6,6 @@ use Rattle.block.specs.Layout as L
 use Rattle.text.specs.Format.{end}
 use Rattle.text.specs.Job.{job, states, row_lines}
 use Rattle.writer.specs.Inner.Writing.{written_sizes}
-use borrow.Author.Rules.{rules}
 use Rattle.writer.proofs.job.job.Goals as goal
 
 pub states-rows-requires : goal.states-rows-requires
@@ -18,9 +17,9 @@ row_lines-requires c = (c.requires.0, omega arith)
 pub returns : goal.returns
 unfolding job
 returns c = let z = written_sizes c.args.block.now in (
-      sym (append-nil _)
-          ∙ c.row_lines.ensures.0 end
-          ∙ c.states-rows.ensures.0 (row_lines z (L.rows c.args.block.now) 0 end)
-          ∙ c.header_line-lines.ensures.0 (λ z. states z z.states 0 (row_lines z z.rows 0 end)),
-      omega arith,
-    )
+  sym (append-nil _)
+      ∙ c.row_lines.ensures.0 end
+      ∙ c.states-rows.ensures.0 (row_lines z (L.rows c.args.block.now) 0 end)
+      ∙ c.header_line-lines.ensures.0 (λ z. states z z.states 0 (row_lines z z.rows 0 end)),
+  omega arith,
+)

@@ -1,15 +1,9 @@
 -- `resource_fields` writes the kinds of the resources.
 use mathlib.Core.Path.{◌≡◌, refl, sym, ◌∙◌}
-use Prim.Native.Nat.{◌+◌, ◌-◌, ◌*◌, ◌≤◌}
 use native.Mathlib.Omega.{arith}
-use lib.ListN.{length}
-use Rattle.text.specs.declared.sizes.Edition.TheVariants.{Second}
 use Rattle.block.specs.Layout.{resource_kind}
-use Rattle.block.specs.declared.layout.Place.TheVariants.{ResourceKind}
-use Rattle.text.specs.Format.{value, write}
-use Rattle.text.specs.Job as J
-use Rattle.writer.specs.Inner.Lengths.{field_bytes}
-use Rattle.writer.proofs.Writing.{Collected, collected_none, collected_more, collected_all}
+use Rattle.text.specs.Format.{write}
+use Rattle.writer.proofs.Writing.{collected_none, collected_more, collected_all}
 use Rattle.writer.proofs.job.resource_fields.Goals as goal
 
 pub resources-resources-requires : goal.resources-resources-requires

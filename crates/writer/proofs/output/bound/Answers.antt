@@ -2,7 +2,6 @@
 use native.Mathlib.Omega.{arith}
 use Rattle.text.specs.Job.{bound_field}
 use Rattle.writer.proofs.Writing.{bound_number}
-use borrow.Author.Rules.{rules}
 use Rattle.writer.proofs.output.bound.Goals as goal
 
 pub returns-then-v-eq-UNLIMITED : goal.returns-then-v-eq-UNLIMITED

@@ -2,7 +2,6 @@
 use mathlib.Core.Path.{◌∙◌}
 use native.Mathlib.Omega.{arith}
 use Rattle.writer.proofs.Writing.{cost_number, cost_charge}
-use borrow.Author.Rules.{rules}
 use Rattle.writer.proofs.output.cost.Goals as goal
 
 pub returns-then-v-lt-CHARGE_BYTE : goal.returns-then-v-lt-CHARGE_BYTE

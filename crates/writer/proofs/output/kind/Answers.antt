@@ -2,7 +2,6 @@
 use mathlib.Core.Path.{◌≡◌}
 use native.Mathlib.Omega.{arith}
 use Rattle.text.specs.Job.{kind_word}
-use borrow.Author.Rules.{rules}
 use Rattle.writer.proofs.output.kind.Goals as goal
 
 pub returns-in-0 : goal.returns-in-0

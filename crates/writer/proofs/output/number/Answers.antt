@@ -1,6 +1,5 @@
 -- `number` is a field whose number has at most three digits.
 use native.Mathlib.Omega.{arith}
-use borrow.Author.Rules.{rules}
 use Rattle.writer.proofs.output.number.Goals as goal
 
 pub field-requires : goal.field-requires

@@ -2,7 +2,6 @@
 use mathlib.Core.List.{append_assoc}
 use mathlib.Core.Path.{◌∙◌}
 use native.Mathlib.Omega.{arith}
-use borrow.Author.Rules.{rules}
 use Rattle.writer.proofs.output.resource.Goals as goal
 
 pub returns : goal.returns

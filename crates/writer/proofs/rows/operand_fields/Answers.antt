@@ -6,7 +6,6 @@ use Rattle.block.specs.declared.layout.Place.TheVariants.{Field}
 use Rattle.text.specs.Format.{write}
 use Rattle.text.specs.Job.{operand_fields}
 use Rattle.text.proofs.KindTests.{binary_is}
-use borrow.Author.Rules.{rules}
 use Rattle.writer.proofs.rows.operand_fields.Goals as goal
 
 pub number-next-requires : goal.number-next-requires

@@ -3,7 +3,6 @@ use mathlib.Core.Path.{◌∙◌}
 use native.Mathlib.Omega.{arith}
 use Rattle.text.specs.Job.{operand_fields, row_line}
 use Rattle.writer.specs.Inner.Writing.{written_sizes}
-use borrow.Author.Rules.{rules}
 use Rattle.writer.proofs.rows.row_line.Goals as goal
 
 pub kind-team-requires : goal.kind-team-requires

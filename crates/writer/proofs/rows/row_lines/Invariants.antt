@@ -1,13 +1,11 @@
 -- `row_lines` writes the rows in turn.
-use mathlib.Core.Path.{◌≡◌, refl}
-use Prim.Native.Nat.{◌+◌, ◌-◌, ◌*◌, ◌≤◌}
-use native.Mathlib.Omega.{arith}
+use mathlib.Core.Path.{◌≡◌}
+use Prim.Native.Nat.{◌+◌, ◌*◌, ◌≤◌}
 use lib.ListN.{length}
 use Rattle.text.specs.Job as J
 use Rattle.writer.specs.Inner.Lengths.{row_line_bytes}
 use Rattle.writer.specs.Inner.Writing.{written_sizes}
-use Rattle.text.proofs.JobLoops.{rows_loop}
-use Rattle.writer.proofs.Writing.{Looped, looped_none, looped_more, looped_all}
+use Rattle.writer.proofs.Writing.{Looped}
 use Rattle.writer.proofs.rows.row_lines.Given as goal
 
 abbrev pub invariant-loop-i : goal.invariant-loop-i

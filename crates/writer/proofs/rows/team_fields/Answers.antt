@@ -5,7 +5,6 @@ use Rattle.block.specs.Layout.{place_of}
 use Rattle.block.specs.declared.layout.Place.TheVariants.{Field}
 use Rattle.text.specs.Job.{team_fields}
 use Rattle.text.proofs.KindTests.{strategic_is}
-use borrow.Author.Rules.{rules}
 use Rattle.writer.proofs.rows.team_fields.Goals as goal
 
 pub number-next-requires : goal.number-next-requires

@@ -1,15 +1,12 @@
 -- `go_line` writes a state and the next states, in rising joint number.
-use mathlib.Core.Path.{◌≡◌, refl, ◌∙◌}
-use Prim.Native.Nat.{◌+◌, ◌-◌, ◌*◌, ◌≤◌}
-use native.Mathlib.Omega.{arith}
+use mathlib.Core.Path.{◌≡◌}
+use Prim.Native.Nat.{◌+◌, ◌*◌, ◌≤◌}
 use lib.ListN.{length}
 use Rattle.block.specs.Layout.{max_joint}
 use Rattle.text.specs.Job as J
-use Rattle.text.proofs.JobLoops.{nexts_loop}
-use Rattle.writer.specs.Inner.Lengths.{field_bytes, index_bytes}
+use Rattle.writer.specs.Inner.Lengths.{field_bytes}
 use Rattle.writer.specs.Inner.Writing.{written_sizes}
-use Rattle.writer.proofs.Writing.{Looped, looped_none, looped_more, looped_all}
-use borrow.Author.Rules.{rules}
+use Rattle.writer.proofs.Writing.{Looped}
 use Rattle.writer.proofs.states.go_line.Given as goal
 
 abbrev pub invariant-loop-joint : goal.invariant-loop-joint

@@ -5,7 +5,6 @@ use Rattle.block.specs.Layout.{place_of}
 use Rattle.block.specs.declared.layout.Place.TheVariants.{Next}
 use Rattle.text.specs.Format.{write}
 use Rattle.text.specs.Job.{next_field, go_actions}
-use borrow.Author.Rules.{rules}
 use Rattle.writer.proofs.states.next_field_if.Goals as goal
 
 pub number-requires : goal.number-requires

@@ -5,7 +5,6 @@ use Rattle.block.specs.Layout.{place_of}
 use Rattle.block.specs.declared.layout.Place.TheVariants.{Mask}
 use Rattle.text.specs.Format.{write}
 use Rattle.text.specs.Job.{state_line, index}
-use borrow.Author.Rules.{rules}
 use Rattle.writer.proofs.states.state_line.Goals as goal
 
 pub number-requires : goal.number-requires

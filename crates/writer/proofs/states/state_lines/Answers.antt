@@ -5,7 +5,6 @@ use Rattle.block.specs.Layout as L
 use Rattle.block.specs.Layout.{max_joint}
 use Rattle.text.specs.Job.{no_counts, state_lines, agent_lines, go_state, next_fields}
 use Rattle.writer.specs.Inner.Writing.{written_sizes}
-use borrow.Author.Rules.{rules}
 use Rattle.writer.proofs.states.state_lines.Goals as goal
 
 pub agent_lines-go-requires : goal.agent_lines-go-requires
@@ -17,9 +16,9 @@ go_line-requires c = record { valid = (c.requires.valid.0, omega arith); s_lt_ma
 pub returns : goal.returns
 unfolding state_lines
 returns c = let z = written_sizes c.args.block.now in (
-      λ f.
-          rw c.counts.ensures at (c.go_line.ensures.0 f)
-          ∙ c.agent_lines-go.ensures.0 (λ counts. go_state z c.args.s (next_fields z c.args.s counts max_joint 0 f))
-          ∙ c.state_line-agents.ensures.0 (agent_lines z c.args.s (L.agents c.args.block.now) 0 no_counts (λ counts. go_state z c.args.s (next_fields z c.args.s counts max_joint 0 f))),
-      omega arith,
-    )
+  λ f.
+      rw c.counts.ensures at (c.go_line.ensures.0 f)
+      ∙ c.agent_lines-go.ensures.0 (λ counts. go_state z c.args.s (next_fields z c.args.s counts max_joint 0 f))
+      ∙ c.state_line-agents.ensures.0 (agent_lines z c.args.s (L.agents c.args.block.now) 0 no_counts (λ counts. go_state z c.args.s (next_fields z c.args.s counts max_joint 0 f))),
+  omega arith,
+)

@@ -1,13 +1,11 @@
 -- `states` writes the states in turn.
-use mathlib.Core.Path.{◌≡◌, refl}
-use Prim.Native.Nat.{◌+◌, ◌-◌, ◌*◌, ◌≤◌}
-use native.Mathlib.Omega.{arith}
+use mathlib.Core.Path.{◌≡◌}
+use Prim.Native.Nat.{◌+◌, ◌*◌, ◌≤◌}
 use lib.ListN.{length}
 use Rattle.text.specs.Job as J
 use Rattle.writer.specs.Inner.Lengths.{state_lines_bytes}
 use Rattle.writer.specs.Inner.Writing.{written_sizes}
-use Rattle.text.proofs.JobLoops.{states_loop}
-use Rattle.writer.proofs.Writing.{Looped, looped_none, looped_more, looped_all}
+use Rattle.writer.proofs.Writing.{Looped}
 use Rattle.writer.proofs.states.states.Given as goal
 
 abbrev pub invariant-loop-s : goal.invariant-loop-s
