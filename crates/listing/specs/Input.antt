@@ -6,4 +6,4 @@ use Rattle.listing.specs.declared.Input.TheVariants.{Bytes, Failed}
 -- no more was read than the buffer holds
 abbrev pub Within : ℕ → Input → Type 0
 Within most (Bytes n) = n ≤ most
-Within most Failed = Unit {0}
+Within most (Failed e) = Unit {0}

@@ -2,70 +2,89 @@
 #![tactic(auto)]
 
 ghost use Rattle.std.specs.Prelude.{◌≤◌, length};
+ghost use Rattle.std.specs.Io.{ReadsAtMost};
 ghost use Rattle.listing.specs.Input.{Within};
 
 use block::refusal::{Answer, Refusal};
-use libc::{STDIN_FILENO, STDOUT_FILENO};
+use std::io;
+use std::io::{ErrorKind, Read, Write};
+use std::process::ExitCode;
 use text::TEXT_BYTES;
 use turns::sizes;
 
 // One byte more than a text may have, so that a longer one is seen to be too long, also one that never ends.
 const INPUT_BYTES: usize = TEXT_BYTES + 1;
 
-// How much of the input was read, all of it or as much as the buffer holds; or that a read failed.
-#[derive(Clone, Copy)]
+// How much of the input was read, all of it or as much as the buffer holds; or that a read failed, and why.
+#[derive(Drop)]
 pub enum Input {
     Bytes(usize),
-    Failed,
+    Failed(io::Error),
+}
+
+// One read, tried again where a signal interrupts it.
+fn read_some<R: Read>(input: &mut R, buf: &mut [u8]) -> io::Result<usize>
+    ensures { ReadsAtMost result buf.new }
+{
+    for _ in 0..u64::MAX {
+        match input.read(buf) {
+            Err(error) if error.kind() == ErrorKind::Interrupted => {}
+            read => return read,
+        }
+    }
+    input.read(buf)
 }
 
 // Reads until the buffer is full or the input ends.
-fn read_input(text: &mut [u8]) -> Input
+fn read_input<R: Read>(input: &mut R, text: &mut [u8]) -> Input
     ensures { Within (length text.new) result }
 {
     let mut n = 0;
     while n < text.len() {
-        let got = libc::read(STDIN_FILENO, &mut text[n..]);
-        if got < 0 {
-            return Input::Failed;
+        match read_some(input, &mut text[n..]) {
+            Ok(0) => return Input::Bytes(n),
+            Ok(more) => n += more,
+            Err(error) => return Input::Failed(error),
         }
-        let more = io::count(got, &text[n..]);
-        if more == 0 {
-            return Input::Bytes(n);
-        }
-        n += more;
     }
     Input::Bytes(n)
 }
 
 // Writes the bytes, or says that it cannot.
-fn print(bytes: &[u8]) {
-    if !io::write_all(STDOUT_FILENO, bytes) {
-        os::fail(b"standard output");
-    }
+fn print<W: Write>(out: &mut W, bytes: &[u8]) -> io::Result<()> {
+    out.write_all(bytes)
 }
 
-fn print_refusal(r: Refusal) {
+fn print_refusal<W: Write>(out: &mut W, r: Refusal) -> io::Result<()> {
     let mut line = [0u8; report::REFUSED_BYTES];
     let n = report::refused_line(&mut line, r);
-    print(&line[..n]);
+    print(out, &line[..n])
 }
 
 // Prints the listing of the text's job, or the refusal's number.
-fn print_listing(text: &[u8]) {
+fn print_listing<W: Write>(to: &mut W, text: &[u8]) -> io::Result<()> {
     let mut out = [0u8; report::LISTING_BYTES];
     let mut ranks = [0u8; sizes::ROOM_BYTES];
     let mut moves = [0u8; sizes::MOVES_BYTES];
     match report::listing(text, &mut out, &mut ranks, &mut moves) {
-        Answer::Value(n) => print(&out[..n]),
-        Answer::Refused(r) => print_refusal(r),
+        Answer::Value(n) => print(to, &out[..n]),
+        Answer::Refused(r) => print_refusal(to, r),
     }
 }
 
-fn main() {
+// Says on standard error which stream failed, and why.
+fn fail(rt: &impl Eprint, stream: &str, error: io::Error) -> io::Result<ExitCode> {
+    eprintln!(rt; "{stream}: {error}")?;
+    Ok(ExitCode::FAILURE)
+}
+
+fn main(rt: HostRuntime) -> io::Result<ExitCode> {
     let mut text = [0u8; INPUT_BYTES];
-    match read_input(&mut text) {
-        Input::Bytes(n) => print_listing(&text[..n]),
-        Input::Failed => os::fail(b"standard input"),
+    match read_input(&mut rt.stdin(), &mut text) {
+        Input::Bytes(n) => match print_listing(&mut rt.stdout(), &text[..n]) {
+            Ok(()) => Ok(ExitCode::SUCCESS),
+            Err(error) => fail(&rt, "standard output", error),
+        },
+        Input::Failed(error) => fail(&rt, "standard input", error),
     }
 }

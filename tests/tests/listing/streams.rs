@@ -1,5 +1,5 @@
-//! Input and output that fail, and input that never ends. A program in Rattle
-//! has no exit status of its own, so it says on standard error what failed.
+//! Input and output that fail, and input that never ends. Of a stream that fails
+//! the program says on standard error which one and why, and ends with status 1.
 
 use super::program;
 use rbatl_tests::process::{shell, Ran};
@@ -10,7 +10,8 @@ fn redirected(redirections: &str) -> Ran {
 
 fn failed(ran: &Ran, stream: &str) -> bool {
     let start = format!("{stream}: ");
-    ran.out.is_empty() && ran.err.starts_with(&start) && ran.err.lines().count() == 1
+    let said = ran.err.starts_with(&start) && ran.err.lines().count() == 1;
+    ran.status == 1 && ran.out.is_empty() && said
 }
 
 #[test]
