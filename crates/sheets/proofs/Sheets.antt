@@ -8,10 +8,9 @@ use lib.ListN.{length, replicate}
 use Rattle.block.specs.Layout as L
 use Rattle.block.specs.Layout.{Block}
 use Rattle.block.specs.Inner.Valid.{Valid}
-use Rattle.block.specs.Refusal.{Rule, ◌when◌, Tried, Gives, value, Answers}
+use Rattle.block.specs.Refusal.{◌when◌, Tried, Gives, value, Answers}
 use Rattle.block.specs.declared.refusal.Refusal.TheVariants as refusal
 use Rattle.block.specs.declared.refusal.Answer.{Answer}
-use Rattle.block.specs.declared.refusal.Answer.TheVariants.{Value}
 use Rattle.block.proofs.Passing.{stable}
 use Rattle.block.proofs.Refusals.{past, Fails, after, apart, one_answer, room_cleared, not_length}
 use Rattle.game.specs.Position.{position}
@@ -22,7 +21,7 @@ use Rattle.game.proofs.Whole.Demand.{one_move}
 use Rattle.turns.specs.Sizes.{room_bytes, rank_end}
 use Rattle.admission.specs.Admission.{row_rules, NoPosition, position_rules}
 use Rattle.admission.proofs.Admitting.{row_admitted}
-use Rattle.lookup.specs.Calls.{side_rules, move_rules, MoveCall}
+use Rattle.lookup.specs.Calls.{side_rules, MoveCall}
 use Rattle.sheets.specs.Worksheet.{words_bytes, state_in, stocks_in, sheet_rules, word_for, Single}
 use Rattle.sheets.specs.Inner.Sheets.{place_rules, AnsweredAt}
 use Rattle.admission.proofs.Admitting.{position_admitted}

@@ -6,9 +6,8 @@ use native.Mathlib.Omega.{arith}
 use lib.ListN.{take, drop}
 use Rattle.block.proofs.Decide as D
 use Rattle.block.proofs.Refusals.{turned_down, past}
-use Rattle.sheets.specs.Worksheet.{state_in, stocks_in}
+use Rattle.sheets.specs.Worksheet.{stocks_in}
 use Rattle.admission.proofs.Admitting.{placed}
-use borrow.Author.Rules.{rules}
 use Rattle.sheets.proofs.answer_at.Goals as goal
 
 -- the stocks that are looked at are those of the position

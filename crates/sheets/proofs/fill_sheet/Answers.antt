@@ -1,5 +1,4 @@
 -- `fill_sheet` makes the row ready and fills the words.
-use borrow.Author.Rules.{rules}
 use mathlib.Core.Path.{sym, ◌∙◌}
 use Rattle.sheets.proofs.fill_sheet.Goals as goal
 

@@ -1,10 +1,8 @@
 -- `fill_words` stores one word after another.
-use mathlib.Core.Path.{◌≡◌, refl, ◌∙◌}
-use Prim.Native.Nat.{◌-◌, ◌/◌, ◌≤◌}
+use mathlib.Core.Path.{refl, ◌∙◌}
 use native.Mathlib.Omega.{arith}
-use lib.ListN.{length}
 use Rattle.turns.proofs.Bytes.{stored_more}
-use Rattle.sheets.specs.Inner.Sheets.{ToldAt, WordsTo}
+use Rattle.sheets.specs.Inner.Sheets.{ToldAt}
 use Rattle.sheets.proofs.Sheets.{word_small}
 use Rattle.sheets.proofs.fill_words.Goals as goal
 

@@ -1,11 +1,8 @@
 -- `fill_words` stores one word after another.
-use mathlib.Core.Path.{◌≡◌, refl, ◌∙◌}
-use Prim.Native.Nat.{◌-◌, ◌/◌, ◌≤◌}
-use native.Mathlib.Omega.{arith}
+use mathlib.Core.Path.{◌≡◌}
+use Prim.Native.Nat.{◌/◌, ◌≤◌}
 use lib.ListN.{length}
-use Rattle.turns.proofs.Bytes.{stored_more}
-use Rattle.sheets.specs.Inner.Sheets.{ToldAt, WordsTo}
-use Rattle.sheets.proofs.Sheets.{word_small}
+use Rattle.sheets.specs.Inner.Sheets.{WordsTo}
 use Rattle.sheets.proofs.fill_words.Given as goal
 
 abbrev pub invariant-loop-k : goal.invariant-loop-k

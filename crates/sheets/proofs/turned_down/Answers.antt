@@ -1,7 +1,6 @@
 -- `turned_down` tries the lengths, and then the block and the row.
 use native.Mathlib.Omega.{arith}
 use Rattle.block.proofs.Refusals.{turned_down, past}
-use borrow.Author.Rules.{rules}
 use Rattle.sheets.proofs.turned_down.Goals as goal
 
 pub returns-then-list-gt-SHEET_BYTES : goal.returns-then-list-gt-SHEET_BYTES

@@ -1,7 +1,6 @@
 -- `word` is the move, or 256 and the refusal's number.
-use mathlib.Core.Path.{◌≡◌, sym, ap}
+use mathlib.Core.Path.{ap}
 use native.Mathlib.Omega.{arith}
-use borrow.Author.Rules.{rules}
 use Rattle.sheets.specs.Worksheet.{word_for}
 use Rattle.sheets.proofs.word.Goals as goal
 
