@@ -149,6 +149,9 @@ module _ (l : List ℕ) (i w : ℕ) where
   three_kept : length three ≡ length l
   three_kept = three_length l (4 * i) (w % 256) (w / 256 % 256) (w / 65536 % 256)
 
+  word_length : length with_word ≡ length l
+  word_length = length-set three (4 * i + 3) _ ∙ three_kept
+
   pub word_stored : 4 * i + 3 < length l → w < 2 ^ 32 → Stored word_in l with_word i w
   word_stored inside small = record {
     stored =
@@ -164,7 +167,7 @@ module _ (l : List ℕ) (i w : ℕ) where
         let b2 : get_or with_word (4 * k + 2) 0 ≡ get_or l (4 * k + 2) 0 = word_other (4 * k + 2) (λ e. omega arith) (λ e. omega arith) (λ e. ne (omega arith)) (λ e. omega arith) in
         let b3 : get_or with_word (4 * k + 3) 0 ≡ get_or l (4 * k + 3) 0 = word_other (4 * k + 3) (λ e. omega arith) (λ e. omega arith) (λ e. omega arith) (λ e. ne (omega arith)) in
         omega (arith, b0, b1, b2, b3);
-    kept = length-set three (4 * i + 3) _ ∙ three_kept;
+    kept = word_length;
   }
 
 -- a word with a bit besides that it does not have
