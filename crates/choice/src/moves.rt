@@ -117,5 +117,5 @@ pub fn list_moves(block: &[u8], i: usize, left: usize, ways: &mut [u8]) -> Row
     let soon = layout::kind(block, i) == layout::NEXT_KIND;
     let row = rows::row_of(block, i, soon, left);
     listing::list_row(block, row, ways);
-    row
+    listing::known(block, row, ways)
 }

@@ -114,7 +114,7 @@ module _ (S : Structure) where
     sum_up_to zero f = 0
     sum_up_to (suc n) f = sum_up_to n f + cond (A n) (f n) 0
 
-    -- definition 2's own cost, the sum over A's agents: move_cost where the structure adds (proofs/Bridge/Costs, `sum-cost`)
+    -- definition 2's own cost, the sum over A's agents: move_cost where the structure adds (proofs/Bridge/Costs, `sum_cost_lem`)
     abbrev pub sum_cost : ℕ → Joint → ℕ → ℕ
     sum_cost q σ r = sum_up_to S.agents (λ a. S.cost q a (σ a) r)
 
@@ -152,7 +152,7 @@ module _ (S : Structure) where
     spent F λs (suc n) r = spent F λs n r + move_cost (λs n) (F (prefix λs n)) r
 
     -- definition 4: F is a b-strategy. Every prefix of every computation, from every state, costs at most b. Where no action gives anything this is
-    -- Within (proofs/Bridge/Uncharged, `uncharged-within`)
+    -- Within (proofs/Bridge/Uncharged, `uncharged_within`)
     abbrev pub SpendsWithin : Bounds → Strategy → Type 0
     SpendsWithin b F = (λs : Computation) → λs 0 < S.states → Consistent F λs → (n r : ℕ) → r < S.resources → Fits (spent F λs n r) (b r)
 
@@ -186,6 +186,6 @@ SatBy Keeps S (until A b φ ψ) q = CanBy S A (Keeps S A) b (UntilOn (SatBy Keep
 abbrev pub Sat : Structure → Formula → ℕ → Type 0
 Sat = SatBy Within
 
--- document 003's own truth, by its definition 4. Where no action gives anything this is Sat (proofs/Bridge/Uncharged, `uncharged-sat`)
+-- document 003's own truth, by its definition 4. Where no action gives anything this is Sat (proofs/Bridge/Uncharged, `uncharged_sat`)
 abbrev pub SpendingSat : Structure → Formula → ℕ → Type 0
 SpendingSat = SatBy SpendsWithin

@@ -12,7 +12,7 @@ use Rattle.game.specs.Inner.Facts.{RankFacts}
 use Rattle.turns.specs.Buffers.{rank_in}
 use Rattle.game.specs.Model.{arena_of}
 use Rattle.game.specs.Inner.Words.{objective_by, Says}
-use Rattle.stages.specs.Solving.{Solved}
+use Rattle.sweeps.specs.Solving.{Solved}
 use Rattle.choice.specs.Tables.{RanksOf, NextRanks}
 use Rattle.rankings.proofs.ByKind.{until_stands}
 use Rattle.solver.proofs.Words.{no_bits}

@@ -14,8 +14,8 @@ ghost use Rattle.turns.specs.Sizes.{room_bytes};
 
 use block::layout;
 use choice::{moves, next};
-use stages::solve;
-use stages::solve::Side;
+use sweeps::solve;
+use sweeps::sweep::Side;
 use turns::{buffers, positions};
 use ways::rows::Row;
 

@@ -1,4 +1,4 @@
--- A position's number, resource by resource: one more resource goes on as `numberUpTo` does, and the number stays small. One law for
+-- A position's number, resource by resource: one more resource goes on as `number_up_to` does, and the number stays small. One law for
 -- every loop that numbers a position. Assumes nothing.
 use mathlib.Core.Path.{◌≡◌, sym, ◌∙◌, ap, ap₂}
 use Prim.Native.Nat.{ℕ, ◌+◌, ◌*◌, ◌<◌}

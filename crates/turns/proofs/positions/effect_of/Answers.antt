@@ -1,4 +1,4 @@
--- `effect_of` goes over the resources as `numberUpTo` does, with what the move takes of each and what it gives.
+-- `effect_of` goes over the resources as `number_up_to` does, with what the move takes of each and what it gives.
 use mathlib.Core.Path.{◌≡◌, refl, ◌∙◌, ap}
 use Prim.Native.Nat.{ℕ, ◌+◌, ◌*◌, ◌-◌, ◌≤◌, ◌<◌, min}
 use native.Mathlib.Nat.{mul-le-mul_left}

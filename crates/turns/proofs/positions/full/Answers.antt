@@ -1,4 +1,4 @@
--- `full` goes over the resources as `numberUpTo` does, with the largest stock of each.
+-- `full` goes over the resources as `number_up_to` does, with the largest stock of each.
 use mathlib.Core.Path.{◌≡◌, refl, ◌∙◌, ap}
 use Prim.Native.Nat.{ℕ, ◌-◌, ◌≤◌, ◌<◌}
 use native.Mathlib.Omega.{arith}

@@ -1,4 +1,4 @@
--- `full` goes over the resources as `numberUpTo` does, with the largest stock of each.
+-- `full` goes over the resources as `number_up_to` does, with the largest stock of each.
 use mathlib.Core.Path.{◌≡◌}
 use Prim.Native.Nat.{◌≤◌}
 use Rattle.game.specs.Position as P

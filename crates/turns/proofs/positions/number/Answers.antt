@@ -1,4 +1,4 @@
--- `number` goes over the resources as `numberUpTo` does.
+-- `number` goes over the resources as `number_up_to` does.
 use mathlib.Core.Path.{◌≡◌, refl, ◌∙◌, ap}
 use Prim.Native.Nat.{ℕ, ◌<◌}
 use native.Mathlib.Omega.{arith}

@@ -1,4 +1,4 @@
--- `number` goes over the resources as `numberUpTo` does.
+-- `number` goes over the resources as `number_up_to` does.
 use mathlib.Core.Path.{◌≡◌}
 use Prim.Native.Nat.{◌≤◌}
 use Rattle.game.specs.Position.{position, number_up_to}
