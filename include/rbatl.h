@@ -33,8 +33,8 @@
  *
  * Stack: any call takes at most RBATL_STACK_BYTES, and none allocates. As
  * bench/run measures it, in bytes: check 223, states_refusal 271, write 415, read
- * and read_at 3143, label 13447, states 13655, table 13703, reply 13767, move
- * 13783, rehearse 13847, worksheet 13863, allowances and list 16167.
+ * and read_at 3143, label 7984, table 8000, reply 8064, move 8080, states 8096,
+ * rehearse 8144, worksheet 8160, allowances 10464, list 10736.
  *
  * Cost: rbatl_move and rbatl_reply solve the row anew at each call. For the moves
  * of up to 64 positions ask rbatl_worksheet, which solves it once, as
@@ -116,7 +116,7 @@ extern "C" {
 #define RBATL_LISTING_BYTES 32768
 
 /* The most stack that a call takes. */
-#define RBATL_STACK_BYTES 16384
+#define RBATL_STACK_BYTES 12288
 
 /* The rank where nothing is enforced or forced, and the move where the
  * coalition does not win. */
