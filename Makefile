@@ -13,8 +13,6 @@ PREFIX = /usr/local
 DESTDIR =
 
 library := target/staticlib/librbatl.a
-# The crates that the library stands on. `rt check` proves them on all processors, `rt staticlib` alone one after another.
-below := $(shell sed -n 's/^rbatl: *//p' crates.txt)
 desk := target/desk/desk
 headers := $(wildcard include/*.h)
 version = $(shell sed -n 's/^.define RBATL_VERSION "\([^"]*\)".*/\1/p' include/rbatl.h)
@@ -26,10 +24,9 @@ installed = $(headers) lib/librbatl.a lib/pkgconfig/rbatl.pc bin/desk share/man/
 
 all: $(library) $(desk)
 
-# Folders count too, so that a file taken away is seen.
-$(library): crates.txt $(shell find crates)
+# Folders count too, so that a file taken away is seen; what rt keeps in out/ does not.
+$(library): crates.txt $(shell find crates -mindepth 2 -name out -prune -o -print)
 	@echo 'proving what is new of the library; from nothing this takes some minutes' >&2
-	@tools/prove check $(below)
 	@tools/prove staticlib rbatl
 	@touch -c $@
 

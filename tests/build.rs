@@ -1,4 +1,5 @@
-//! Links the C library that `rt staticlib rbatl` writes, or the one in `RBATL_FOLDER`.
+//! Links the C library that `tools/prove staticlib rbatl` writes, or the one in
+//! `RBATL_FOLDER`.
 
 use std::{env, path::PathBuf};
 
@@ -13,7 +14,7 @@ fn main() {
     println!("cargo:rerun-if-changed={}", archive.display());
     assert!(
         archive.is_file(),
-        "{} is missing: run `rt staticlib rbatl` first",
+        "{} is missing: run `tools/prove staticlib rbatl` first",
         archive.display()
     );
     println!("cargo:rustc-link-search=native={}", folder.display());

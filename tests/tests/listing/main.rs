@@ -1,5 +1,5 @@
-//! The listing program and the script `list`, by running them: `rt check
-//! listing` builds the program first.
+//! The listing program and the script `list`, by running them: `tools/prove
+//! program listing` builds the program first.
 
 mod random;
 mod script;
