@@ -19,45 +19,33 @@ use turns::positions;
 pub fn any_row(block: &[u8], i: usize) -> Answer
     ensures { Answers (set_rules block.now i) NoValue result }
 {
-    match validate::check(block) {
-        Answer::Value(_) => {
-            if layout::rows(block) <= i {
-                return Answer::Refused(Refusal::RowChoice);
-            }
-            Answer::Value(0)
-        }
-        Answer::Refused(r) => Answer::Refused(r),
+    validate::check(block)?;
+    if layout::rows(block) <= i {
+        return Err(Refusal::RowChoice);
     }
+    Ok(0)
 }
 
 // A row of which more is wanted: none of kind prop, not or or.
 pub fn row(block: &[u8], i: usize) -> Answer
     ensures { Answers (row_rules block.now i) NoValue result }
 {
-    match any_row(block, i) {
-        Answer::Value(_) => {
-            if layout::kind(block, i) < layout::NEXT_KIND {
-                return Answer::Refused(Refusal::RowChoice);
-            }
-            Answer::Value(0)
-        }
-        Answer::Refused(r) => Answer::Refused(r),
+    any_row(block, i)?;
+    if layout::kind(block, i) < layout::NEXT_KIND {
+        return Err(Refusal::RowChoice);
     }
+    Ok(0)
 }
 
 // A state of such a row.
 pub fn state(block: &[u8], i: usize, s: usize) -> Answer
     ensures { Answers (state_rules block.now i s) NoValue result }
 {
-    match row(block, i) {
-        Answer::Value(_) => {
-            if layout::states(block) <= s {
-                return Answer::Refused(Refusal::Position);
-            }
-            Answer::Value(0)
-        }
-        Answer::Refused(r) => Answer::Refused(r),
+    row(block, i)?;
+    if layout::states(block) <= s {
+        return Err(Refusal::Position);
     }
+    Ok(0)
 }
 
 // Whether a stock of resource j is above its bound, or not 0 where it must be.
@@ -94,13 +82,9 @@ pub fn position(block: &[u8], i: usize, s: usize, stocks: &[u8]) -> Answer
     requires { length stocks.now ≡ L.max_resources }
     ensures { Answers (position_rules block.now i s stocks.now) NoValue result }
 {
-    match row(block, i) {
-        Answer::Value(_) => {
-            if no_position(block, i, s, stocks) {
-                return Answer::Refused(Refusal::Position);
-            }
-            Answer::Value(0)
-        }
-        Answer::Refused(r) => Answer::Refused(r),
+    row(block, i)?;
+    if no_position(block, i, s, stocks) {
+        return Err(Refusal::Position);
     }
+    Ok(0)
 }

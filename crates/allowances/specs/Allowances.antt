@@ -6,7 +6,7 @@ use Rattle.block.specs.Layout as L
 use Rattle.block.specs.Layout.{Block}
 use Rattle.block.specs.Refusal.{Rule, ◌when◌, Answers, Kept, RoomAfter}
 use Rattle.block.specs.declared.refusal.Refusal.TheVariants.{Length}
-use Rattle.block.specs.declared.refusal.Answer.{Answer}
+use Rattle.block.specs.Refusal.{Answer}
 use Rattle.game.specs.Model.{bounds_by, RowTrueWith}
 use Rattle.turns.specs.Sizes.{room_bytes}
 use Rattle.admission.specs.Admission.{state_rules}

@@ -21,10 +21,10 @@ fn turned_down(block: &[u8], i: usize, s: usize, list: usize, room: usize) -> An
     ensures { Answers (allowances_rules block.now i s list room) NoValue result }
 {
     if list != LIST_BYTES {
-        return Answer::Refused(Refusal::Length);
+        return Err(Refusal::Length);
     }
     if room != sizes::ROOM_BYTES {
-        return Answer::Refused(Refusal::Length);
+        return Err(Refusal::Length);
     }
     admission::state(block, i, s)
 }
@@ -50,14 +50,14 @@ pub fn allowances(block: &[u8], i: usize, s: usize, list: &mut [u8], room: &mut 
     ensures { AllowancesCall block.now i s list.old room.old list.new room.new result }
 {
     match turned_down(block, i, s, list.len(), room.len()) {
-        Answer::Value(_) => {
+        Ok(_) => {
             let n = find(block, i, s, list, room);
             fill::zeros(room, 0);
-            Answer::Value(n)
+            Ok(n)
         }
-        Answer::Refused(r) => {
+        Err(r) => {
             fill::leave(room, r);
-            Answer::Refused(r)
+            Err(r)
         }
     }
 }

@@ -15,7 +15,7 @@ use Rattle.block.specs.Check.{BadSizes, agents_range, resources_range, states_ra
 use Rattle.block.specs.Inner.Valid.{Range, Sized, Counted, RowFits, Valid}
 use Rattle.block.specs.declared.refusal.Refusal.{Refusal}
 use Rattle.block.specs.declared.refusal.Refusal.TheVariants.{Length, Sizes, State, Charge, Next, Row, Unused}
-use Rattle.block.specs.declared.refusal.Answer.TheVariants.{Value}
+use Rattle.std.specs.Prelude.{Ok}
 use Rattle.block.proofs.Decide as D
 use Rattle.block.proofs.Masks.{bit_above}
 use Rattle.block.proofs.Refusals.{Fails, none_holds, unmet}
@@ -103,5 +103,5 @@ unbroken b none =
       unused_zero = λ p hp u. stable _ _ (λ z. no-unused (p, hp, (u, z)));
     }
 
-pub passing : {b : Block} {n : ℕ} → Verdict b (Value n) → Valid b
+pub passing : {b : Block} {n : ℕ} → Verdict b (Ok n) → Valid b
 passing {b} v = unbroken b (none_holds v)

@@ -3,10 +3,9 @@
 use Rattle.std.specs.Prelude.{List, [], ◌∷◌, ◌⊎◌, ◌≡◌, ℕ, ◌≤◌, ◌<◌, length}
 use Rattle.block.specs.Decide.{Some, Outside, BitFrom}
 use Rattle.block.specs.Layout.{Block, block_bytes, max_agents, max_resources, max_states, max_propositions, max_rows, max_actions, max_units, max_joint, byte_at, agents, resources, states, propositions, rows, mask, count, cost, next, kind, left, right, team, bound, resource_kind, unlimited, charge_byte, max_kind, prop_kind, until_kind, Strategic, Binary, Available, Used}
-use Rattle.block.specs.Refusal.{Rule, ◌when◌, Answers, NoValue}
+use Rattle.block.specs.Refusal.{Answer, Rule, ◌when◌, Answers, NoValue}
 use Rattle.block.specs.declared.refusal.Refusal.TheVariants.{Length, Sizes, State, Charge, Next, Row, Unused}
-use Rattle.block.specs.declared.refusal.Answer.{Answer}
-use Rattle.block.specs.declared.refusal.Answer.TheVariants.{Value}
+use Rattle.std.specs.Prelude.{Ok}
 
 -- 2: N, R, M, P or F out of range, or the kind of a resource neither sum nor max
 pub data BadSizes (b : Block) : Type 0 where
@@ -91,4 +90,4 @@ Verdict b = Answers (block_rules b) NoValue
 
 -- the check turns nothing down
 abbrev pub Passes : Block → Type 0
-Passes b = Verdict b (Value 0)
+Passes b = Verdict b (Ok 0)

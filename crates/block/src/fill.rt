@@ -1,7 +1,6 @@
 // Filling a lent buffer, and leaving working room.
-ghost use Rattle.std.specs.Prelude.{◌++◌, ◌≡◌, ◌-◌, ◌≤◌, length, take, replicate};
+ghost use Rattle.std.specs.Prelude.{Err, ◌++◌, ◌≡◌, ◌-◌, ◌≤◌, length, take, replicate};
 ghost use Rattle.block.specs.Refusal.{RoomAfter};
-ghost use Rattle.block.specs.declared.refusal.Answer.TheVariants.{Refused};
 
 use crate::refusal::Refusal;
 
@@ -17,10 +16,9 @@ pub fn zeros(buffer: &mut [u8], at: usize)
 
 // Working room as a refusal leaves it: under number 1 as it was lent, and else filled with zeros.
 pub fn leave(room: &mut [u8], r: Refusal)
-    ensures { RoomAfter room.old room.new (Refused r) }
+    ensures { RoomAfter room.old room.new (Err r) }
 {
-    if let Refusal::Length = r {
-        return;
+    if r != Refusal::Length {
+        zeros(room, 0);
     }
-    zeros(room, 0);
 }

@@ -8,18 +8,12 @@ use crate::layout;
 pub fn binary(k: usize) -> bool
     ensures { Decides (Binary k) result }
 {
-    if k == layout::OR_KIND {
-        return true;
-    }
-    k == layout::UNTIL_KIND
+    k == layout::OR_KIND || k == layout::UNTIL_KIND
 }
 
 // Whether it has a team and bounds.
 pub fn strategic(k: usize) -> bool
     ensures { Decides (Strategic k) result }
 {
-    if k < layout::NEXT_KIND {
-        return false;
-    }
-    k <= layout::UNTIL_KIND
+    layout::NEXT_KIND <= k && k <= layout::UNTIL_KIND
 }

@@ -2,9 +2,9 @@
 ghost use Rattle.std.specs.Prelude.{◌≡◌};
 ghost use Rattle.block.specs.Refusal.{number_of};
 
-#[derive(Clone, Copy)]
+#[derive(Clone, Copy, PartialEq, Eq)]
 pub enum Refusal {
-    Length,
+    Length = 1,
     Sizes,
     State,
     Next,
@@ -19,30 +19,14 @@ pub enum Refusal {
     Charge,
 }
 
-// What a call answers. One that gives no value answers 0.
-#[derive(Clone, Copy)]
-pub enum Answer {
-    Value(usize),
-    Refused(Refusal),
-}
+// What a call answers: a value, or what it turns down. One that gives no value answers 0.
+pub type Answer = Result<usize, Refusal>;
 
-// Its number.
-pub fn number(r: Refusal) -> u8
-    ensures { result ≡ number_of r }
-{
-    match r {
-        Refusal::Length => 1,
-        Refusal::Sizes => 2,
-        Refusal::State => 3,
-        Refusal::Next => 4,
-        Refusal::Row => 5,
-        Refusal::Unused => 6,
-        Refusal::Form => 7,
-        Refusal::RowChoice => 8,
-        Refusal::Position => 9,
-        Refusal::WrongSide => 10,
-        Refusal::Move => 11,
-        Refusal::Reply => 12,
-        Refusal::Charge => 13,
+impl Refusal {
+    // Its number.
+    pub fn number(self) -> u8
+        ensures { result ≡ number_of self }
+    {
+        self as u8
     }
 }

@@ -9,8 +9,8 @@ use Rattle.block.specs.Decide.{Bit}
 use Rattle.block.specs.Layout as L
 use Rattle.block.specs.Layout.{Block}
 use Rattle.block.specs.Inner.Valid.{Valid}
-use Rattle.block.specs.declared.refusal.Answer.{Answer}
-use Rattle.block.specs.declared.refusal.Answer.TheVariants as answer
+use Rattle.block.specs.Refusal.{Answer}
+use Rattle.std.specs.Prelude.{Ok, Err}
 use Rattle.block.proofs.Passing.{stable}
 use Rattle.block.proofs.Refusals.{Fails, right}
 use Rattle.game.specs.Model.{RowSet}
@@ -26,8 +26,8 @@ set_states b i w list n told (listed, count) = record { lists = lists_same (λ s
 
 -- what is handed back is a part of the list
 pub front_fits : (b : Block) (i : ℕ) (list room list' room' : List ℕ) (a : Answer) → StatesCall b i list room list' room' a → front_of a ≤ length list'
-front_fits b i list room list' room' (answer.Value n) call = let l = (right call.answer).lists in omega (arith, l.fits, l.long)
-front_fits b i list room list' room' (answer.Refused r) call = omega arith
+front_fits b i list room list' room' (Ok n) call = let l = (right call.answer).lists in omega (arith, l.fits, l.long)
+front_fits b i list room list' room' (Err r) call = omega arith
 
 -- a call that is admitted has buffers of the right lengths, a block that passes and a row that exists
 pub states_admitted : (b : Block) (i list room : ℕ) → Fails (states_rules b i list room) → Valid b × ((i < L.rows b) × (list ≡ states_bytes) × (room ≡ room_bytes))

@@ -5,8 +5,8 @@ use Rattle.block.specs.Layout as L
 use Rattle.block.specs.Layout.{Block}
 use Rattle.block.specs.Refusal.{Rule, ◌when◌, Answers, NoValue, Kept, RoomAfter}
 use Rattle.block.specs.declared.refusal.Refusal.TheVariants.{Length}
-use Rattle.block.specs.declared.refusal.Answer.{Answer}
-use Rattle.block.specs.declared.refusal.Answer.TheVariants as answer
+use Rattle.block.specs.Refusal.{Answer}
+use Rattle.std.specs.Prelude.{Ok, Err}
 use Rattle.game.specs.Model.{RowTrue, RowSet}
 use Rattle.turns.specs.Sizes.{room_bytes}
 use Rattle.turns.specs.Listed.{states_bytes, Lists}
@@ -23,8 +23,8 @@ pub record StatesIn (b : Block) (i : ℕ) (list : List ℕ) (n : ℕ) : Type 0 w
 
 -- how much of the list an answer hands back
 abbrev pub front_of : Answer → ℕ
-front_of (answer.Value n) = n
-front_of (answer.Refused r) = 0
+front_of (Ok n) = n
+front_of (Err r) = 0
 
 -- list and room, before the call and after it
 pub record StatesCall (b : Block) (i : ℕ) (list room list' room' : List ℕ) (a : Answer) : Type 0 where

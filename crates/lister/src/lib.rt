@@ -23,10 +23,10 @@ fn turned_down(block: &[u8], i: usize, list: usize, room: usize) -> Answer
     ensures { Answers (states_rules block.now i list room) NoValue result }
 {
     if list != STATES_BYTES {
-        return Answer::Refused(Refusal::Length);
+        return Err(Refusal::Length);
     }
     if room != sizes::ROOM_BYTES {
-        return Answer::Refused(Refusal::Length);
+        return Err(Refusal::Length);
     }
     admission::any_row(block, i)
 }
@@ -50,14 +50,14 @@ pub fn fill_states(block: &[u8], i: usize, list: &mut [u8], room: &mut [u8]) -> 
     ensures { StatesCall block.now i list.old room.old list.new room.new result }
 {
     match turned_down(block, i, list.len(), room.len()) {
-        Answer::Value(_) => {
+        Ok(_) => {
             let n = list_row(block, i, list, room);
             fill::zeros(room, 0);
-            Answer::Value(n)
+            Ok(n)
         }
-        Answer::Refused(r) => {
+        Err(r) => {
             fill::leave(room, r);
-            Answer::Refused(r)
+            Err(r)
         }
     }
 }
@@ -66,10 +66,7 @@ pub fn fill_states(block: &[u8], i: usize, list: &mut [u8], room: &mut [u8]) -> 
 fn front(a: Answer) -> usize
     ensures { result ≡ front_of a }
 {
-    match a {
-        Answer::Value(n) => n,
-        Answer::Refused(_) => 0,
-    }
+    a.unwrap_or(0)
 }
 
 // The part of the list that holds the states of row i: its front, and nothing of it where the call is refused.
@@ -86,13 +83,13 @@ pub fn states_refusal(block: &[u8], i: usize, list: &[u8], room: &mut [u8]) -> A
     ensures { RefusalCall block.now i list.now room.old room.new result }
 {
     match turned_down(block, i, list.len(), room.len()) {
-        Answer::Value(_) => {
+        Ok(_) => {
             fill::zeros(room, 0);
-            Answer::Value(0)
+            Ok(0)
         }
-        Answer::Refused(r) => {
+        Err(r) => {
             fill::leave(room, r);
-            Answer::Refused(r)
+            Err(r)
         }
     }
 }

@@ -1,11 +1,9 @@
 // Reads the text of a job on standard input and prints its listing. It only moves bytes: what is printed is made by `report`.
 #![tactic(auto)]
 
-ghost use Rattle.std.specs.Prelude.{◌≤◌, length};
 ghost use Rattle.std.specs.Io.{ReadsAtMost};
-ghost use Rattle.listing.specs.Input.{Within};
 
-use block::refusal::{Answer, Refusal};
+use block::refusal::Refusal;
 use std::io;
 use std::io::{ErrorKind, Read, Write};
 use std::process::ExitCode;
@@ -14,13 +12,6 @@ use turns::sizes;
 
 // One byte more than a text may have, so that a longer one is seen to be too long, also one that never ends.
 const INPUT_BYTES: usize = TEXT_BYTES + 1;
-
-// How much of the input was read, all of it or as much as the buffer holds; or that a read failed, and why.
-#[derive(Drop)]
-pub enum Input {
-    Bytes(usize),
-    Failed(io::Error),
-}
 
 // One read, tried again where a signal interrupts it.
 fn read_some<R: Read>(input: &mut R, buf: &mut [u8]) -> io::Result<usize>
@@ -35,19 +26,18 @@ fn read_some<R: Read>(input: &mut R, buf: &mut [u8]) -> io::Result<usize>
     input.read(buf)
 }
 
-// Reads until the buffer is full or the input ends.
-fn read_input<R: Read>(input: &mut R, text: &mut [u8]) -> Input
-    ensures { Within (length text.new) result }
+// Reads until the buffer is full or the input ends, and tells how much was read.
+fn read_input<R: Read>(input: &mut R, text: &mut [u8]) -> io::Result<usize>
+    ensures { ReadsAtMost result text.new }
 {
     let mut n = 0;
     while n < text.len() {
-        match read_some(input, &mut text[n..]) {
-            Ok(0) => return Input::Bytes(n),
-            Ok(more) => n += more,
-            Err(error) => return Input::Failed(error),
+        match read_some(input, &mut text[n..])? {
+            0 => return Ok(n),
+            more => n += more,
         }
     }
-    Input::Bytes(n)
+    Ok(n)
 }
 
 // Writes the bytes, or says that it cannot.
@@ -67,8 +57,8 @@ fn print_listing<W: Write>(to: &mut W, text: &[u8]) -> io::Result<()> {
     let mut ranks = [0u8; sizes::ROOM_BYTES];
     let mut moves = [0u8; sizes::MOVES_BYTES];
     match report::listing(text, &mut out, &mut ranks, &mut moves) {
-        Answer::Value(n) => print(to, &out[..n]),
-        Answer::Refused(r) => print_refusal(to, r),
+        Ok(n) => print(to, &out[..n]),
+        Err(r) => print_refusal(to, r),
     }
 }
 
@@ -81,10 +71,10 @@ fn fail(rt: &impl Eprint, stream: &str, error: io::Error) -> io::Result<ExitCode
 fn main(rt: HostRuntime) -> io::Result<ExitCode> {
     let mut text = [0u8; INPUT_BYTES];
     match read_input(&mut rt.stdin(), &mut text) {
-        Input::Bytes(n) => match print_listing(&mut rt.stdout(), &text[..n]) {
+        Ok(n) => match print_listing(&mut rt.stdout(), &text[..n]) {
             Ok(()) => Ok(ExitCode::SUCCESS),
             Err(error) => fail(&rt, "standard output", error),
         },
-        Input::Failed(error) => fail(&rt, "standard input", error),
+        Err(error) => fail(&rt, "standard input", error),
     }
 }

@@ -3,7 +3,7 @@ use Rattle.std.specs.Prelude.{List, [], ◌∷◌, ◌++◌, ◌≡◌, ℕ, len
 use Rattle.block.specs.Layout.{Block}
 use Rattle.block.specs.Refusal.{Rule, ◌when◌, Answers, RoomAfter}
 use Rattle.block.specs.declared.refusal.Refusal.TheVariants as refusal
-use Rattle.block.specs.declared.refusal.Answer.{Answer}
+use Rattle.block.specs.Refusal.{Answer}
 use Rattle.game.specs.Position.{Position, position, Allowed}
 use Rattle.game.specs.Play.{CoalitionWins}
 use Rattle.game.specs.Model.{arena_of, objective_of}

@@ -42,18 +42,18 @@ pub fn coalition_move(
     ensures demand3 { Demand3 block.now i }
 {
     if room.len() != sizes::ROOM_BYTES {
-        return Answer::Refused(Refusal::Length);
+        return Err(Refusal::Length);
     }
     let stocks = [stock0, stock1];
     match admission::position(block, i, s, &stocks) {
-        Answer::Value(_) => {
+        Ok(_) => {
             let answer = coalition_at(block, i, s, &stocks, room);
             fill::zeros(room, 0);
             answer
         }
-        Answer::Refused(r) => {
+        Err(r) => {
             fill::leave(room, r);
-            Answer::Refused(r)
+            Err(r)
         }
     }
 }

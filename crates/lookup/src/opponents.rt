@@ -45,7 +45,7 @@ fn reply_at(
     let row = rows::row_of(block, i, false, ready.row.set);
     let own = buffers::rank_at(ranks, spot.state * row.places + spot.place);
     if rankings::claims(layout::kind(block, i), own) {
-        return Answer::Refused(Refusal::WrongSide);
+        return Err(Refusal::WrongSide);
     }
     listing::list_row(block, row, ways);
     match replies::way_to(block, row, ways, spot, m) {
@@ -56,9 +56,9 @@ fn reply_at(
                 place: y,
             };
             let r = replies::reply_to(block, row, ways, ranks, step, own, ready.right);
-            Answer::Value(r)
+            Ok(r)
         }
-        Landing::Unpaid => Answer::Refused(Refusal::Move),
+        Landing::Unpaid => Err(Refusal::Move),
     }
 }
 
@@ -97,18 +97,18 @@ pub fn reply(
     ensures demand3 { Demand3 block.now i }
 {
     if room.len() != sizes::ROOM_BYTES {
-        return Answer::Refused(Refusal::Length);
+        return Err(Refusal::Length);
     }
     let stocks = [stock0, stock1];
     match admission::position(block, i, s, &stocks) {
-        Answer::Value(_) => {
+        Ok(_) => {
             let answer = opponents_at(block, i, s, &stocks, m, room);
             fill::zeros(room, 0);
             answer
         }
-        Answer::Refused(r) => {
+        Err(r) => {
             fill::leave(room, r);
-            Answer::Refused(r)
+            Err(r)
         }
     }
 }

@@ -59,7 +59,7 @@ pub fn ready_move(
     let spot = spot_of(block, i, s, stocks);
     let m = spot_move(block, i, ready, ways, ranks, spot);
     if m == sizes::NO_MOVE {
-        return Answer::Refused(Refusal::WrongSide);
+        return Err(Refusal::WrongSide);
     }
-    Answer::Value(wide(m))
+    Ok(wide(m))
 }

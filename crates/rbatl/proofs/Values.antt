@@ -12,8 +12,8 @@ use mir.Syntax.{w32}
 use mir.Val.{SFits, to_z}
 use mir.Facts.{to_z_pos}
 use Rattle.block.specs.Refusal.{Rule, Answers}
-use Rattle.block.specs.declared.refusal.Answer.{Answer}
-use Rattle.block.specs.declared.refusal.Answer.TheVariants as answer
+use Rattle.block.specs.Refusal.{Answer}
+use Rattle.std.specs.Prelude.{Ok, Err}
 use Rattle.block.proofs.Refusals.{none_holds, right}
 use Rattle.text.specs.Format.{Outcome, accepted, refused}
 use Rattle.text.specs.Text.{text_bytes, read_text, answer_to, StopsAt, stop_rules}
@@ -41,8 +41,8 @@ pub small_answer : {rules : List Rule} {Right : ℕ → Type 0} {a : Answer} →
 small_answer {rules} {Right} {a} w least = go a w
   where
     go : (a : Answer) → Answers rules Right a → Small a
-    go (answer.Value n) w = least n (right w)
-    go (answer.Refused r) w = tt
+    go (Ok n) w = least n (right w)
+    go (Err r) w = tt
 
 pub small_read : (o : Outcome) → Small (answer_to o)
 small_read (accepted b) = omega arith
@@ -50,8 +50,8 @@ small_read (refused r stop) = tt
 
 -- a place of a text that is not too long
 pub small_stop : (t : List ℕ) (a : Answer) → Answers (stop_rules t) (StopsAt t (read_text t)) a → Small a
-small_stop t (answer.Refused r) w = tt
-small_stop t (answer.Value n) w = let (short, _) = none_holds w in omega (arith, inside (read_text t) (right w), length_small short)
+small_stop t (Err r) w = tt
+small_stop t (Ok n) w = let (short, _) = none_holds w in omega (arith, inside (read_text t) (right w), length_small short)
   where
     inside : (o : Outcome) → StopsAt t o n → n ≤ length t
     inside (accepted b) e = omega arith
@@ -65,5 +65,5 @@ small_stop t (answer.Value n) w = let (short, _) = none_holds w in omega (arith,
         go (no _) = omega arith
 
 pub small_listing : (text out ranks moves out' ranks' moves' : List ℕ) (a : Answer) → ListingCall text out ranks moves out' ranks' moves' a → Small a
-small_listing text out ranks moves out' ranks' moves' (answer.Value n) call = listing_fits text out ranks moves out' ranks' moves' n call
-small_listing text out ranks moves out' ranks' moves' (answer.Refused r) call = tt
+small_listing text out ranks moves out' ranks' moves' (Ok n) call = listing_fits text out ranks moves out' ranks' moves' n call
+small_listing text out ranks moves out' ranks' moves' (Err r) call = tt

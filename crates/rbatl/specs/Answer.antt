@@ -3,8 +3,8 @@ use Rattle.std.specs.Prelude.{List, ◌≡◌, ℕ, ◌≤◌, ℤ, pos, neg_ℤ
 use Rattle.block.specs.Layout.{Block}
 use Rattle.block.specs.Refusal.{number_of, Answers}
 use Rattle.block.specs.Check.{Verdict}
-use Rattle.block.specs.declared.refusal.Answer.{Answer}
-use Rattle.block.specs.declared.refusal.Answer.TheVariants as answer
+use Rattle.block.specs.Refusal.{Answer}
+use Rattle.std.specs.Prelude.{Ok, Err}
 use Rattle.text.specs.Text.{read_text, read_call, answer_to, StopsAt, stop_rules}
 use Rattle.solver.specs.Calls.{LabelCall, TableCall}
 use Rattle.lookup.specs.Calls.{MoveCall, ReplyCall}
@@ -17,13 +17,13 @@ use Rattle.writer.specs.Call.{WriteCall}
 
 -- a value, or minus the number of a refusal
 abbrev pub answer_code : Answer → ℤ
-answer_code (answer.Value n) = pos n
-answer_code (answer.Refused r) = neg_ℤ (pos (number_of r))
+answer_code (Ok n) = pos n
+answer_code (Err r) = neg_ℤ (pos (number_of r))
 
 -- a value is the number of a joint action, a count of states or of allowances, the length of a text or a listing, or a place of a text
 abbrev pub Small : Answer → Type 0
-Small (answer.Value n) = n ≤ listing_bytes
-Small (answer.Refused r) = Unit {0}
+Small (Ok n) = n ≤ listing_bytes
+Small (Err r) = Unit {0}
 
 -- what the check call answers: 0 where the block passes
 abbrev pub CheckAnswer : Block → ℤ → Type 0

@@ -15,8 +15,8 @@ fn code(a: Answer) -> i32
     ensures { result ≡ answer_code a }
 {
     match a {
-        Answer::Value(n) => n as i32,
-        Answer::Refused(r) => -(refusal::number(r) as i32),
+        Ok(n) => n as i32,
+        Err(r) => -(r.number() as i32),
     }
 }
 

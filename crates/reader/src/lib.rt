@@ -75,18 +75,18 @@ pub fn read(text: &[u8], block: &mut [u8]) -> Answer
     ensures numbered { Numbered text.now }
 {
     if TEXT_BYTES < text.len() {
-        return Answer::Refused(Refusal::Length);
+        return Err(Refusal::Length);
     }
     if block.len() != BLOCK_BYTES {
-        return Answer::Refused(Refusal::Length);
+        return Err(Refusal::Length);
     }
     let mut blank = [0u8; BLOCK_BYTES];
     match read_into(text, &mut blank) {
         Step::Next(_) => {
             block.copy_from_slice(&blank);
-            Answer::Value(0)
+            Ok(0)
         }
-        Step::Refused(r, _) => Answer::Refused(r),
+        Step::Refused(r, _) => Err(r),
     }
 }
 
@@ -95,11 +95,11 @@ pub fn read_at(text: &[u8]) -> Answer
     ensures { Answers (stop_rules text.now) (StopsAt text.now (read_text text.now)) result }
 {
     if TEXT_BYTES < text.len() {
-        return Answer::Refused(Refusal::Length);
+        return Err(Refusal::Length);
     }
     let mut blank = [0u8; BLOCK_BYTES];
     match read_into(text, &mut blank) {
-        Step::Next(_) => Answer::Value(text.len()),
-        Step::Refused(_, at) => Answer::Value(at),
+        Step::Next(_) => Ok(text.len()),
+        Step::Refused(_, at) => Ok(at),
     }
 }

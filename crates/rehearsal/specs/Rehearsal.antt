@@ -4,7 +4,7 @@ use Rattle.std.specs.Prelude.{List, [], ◌∷◌, ◌++◌, ◌⊎◌, ◌≡�
 use Rattle.block.specs.Layout.{Block}
 use Rattle.block.specs.Refusal.{Rule, ◌when◌, Answers, NoValue, Kept, RoomAfter}
 use Rattle.block.specs.declared.refusal.Refusal.TheVariants as refusal
-use Rattle.block.specs.declared.refusal.Answer.{Answer}
+use Rattle.block.specs.Refusal.{Answer}
 use Rattle.game.specs.Rbatl.{Computation}
 use Rattle.game.specs.Position.{Arena, Position, Reply, number, full}
 use Rattle.game.specs.Play.{Objective, next, always, until, True, Play, states, From, Paid}

@@ -31,13 +31,13 @@ fn turned_down(
     ensures { Answers (admission_rules block.now i s script report room) NoValue result }
 {
     if SCRIPT_BYTES < script {
-        return Answer::Refused(Refusal::Length);
+        return Err(Refusal::Length);
     }
     if report != REPORT_BYTES {
-        return Answer::Refused(Refusal::Length);
+        return Err(Refusal::Length);
     }
     if room != sizes::ROOM_BYTES {
-        return Answer::Refused(Refusal::Length);
+        return Err(Refusal::Length);
     }
     admission::state(block, i, s)
 }
@@ -71,15 +71,15 @@ fn rehearse_row(
     let ready = ready::prepare(block, i, &mut ways, room);
     let rank = buffers::rank_at(room, positions::full(block, i, s));
     if !rankings::claims(layout::kind(block, i), rank) {
-        return Answer::Refused(Refusal::WrongSide);
+        return Err(Refusal::WrongSide);
     }
     match script::play(block, i, ready, &ways, room, s, script) {
         Ending::After(moves, finished, last) => {
             let position = last.state * ready.row.places + last.place;
             store(report, moves, finished, position);
-            Answer::Value(0)
+            Ok(0)
         }
-        Ending::NoReply => Answer::Refused(Refusal::Reply),
+        Ending::NoReply => Err(Refusal::Reply),
     }
 }
 
@@ -97,14 +97,14 @@ pub fn rehearse(
     ensures demand3 { Demand3 block.now i }
 {
     match turned_down(block, i, s, script.len(), report.len(), room.len()) {
-        Answer::Value(_) => {
+        Ok(_) => {
             let answer = rehearse_row(block, i, s, script, report, room);
             fill::zeros(room, 0);
             answer
         }
-        Answer::Refused(r) => {
+        Err(r) => {
             fill::leave(room, r);
-            Answer::Refused(r)
+            Err(r)
         }
     }
 }

@@ -19,14 +19,14 @@ use Rattle.text.specs.Text.{text_bytes, blank, read_text, read_call, answer_to, 
 use Rattle.text.proofs.Formats.{never}
 use Rattle.text.proofs.Accepts.{accepts}
 use Rattle.turns.specs.Sizes.{room_bytes, moves_bytes}
-use Rattle.block.specs.declared.refusal.Answer.{Answer}
-use Rattle.block.specs.declared.refusal.Answer.TheVariants.{Value, Refused}
+use Rattle.block.specs.Refusal.{Answer}
+use Rattle.std.specs.Prelude.{Ok, Err}
 use Rattle.report.specs.Call.{listing_bytes, Filled, list_rules, ListingOf, ListingCall}
 
 -- the answer and the block afterwards tell the outcome, but for where a refused text stops
 abbrev pub Tells : Answer → Block → Outcome → Type 0
-Tells (Value n) c o = o ≡ accepted c
-Tells (Refused r) c o = (stop : List ℕ) × (o ≡ refused r stop)
+Tells (Ok n) c o = o ≡ accepted c
+Tells (Err r) c o = (stop : List ℕ) × (o ≡ refused r stop)
 
 pub outcome_told : (o : Outcome) (b c : Block) (a : Answer) → a ≡ answer_to o → c ≡ block_after b o → Tells a c o
 outcome_told (accepted d) b c a answer after = subst (λ (a : Answer). Tells a c (accepted d)) (sym answer) (ap accepted (sym after))
@@ -59,9 +59,9 @@ called text out ranks moves out-long ranks_long moves_long o out' a is came =
     past (λ h. h out-long) (past (λ h. h ranks_long) (past (λ h. h moves_long) (record { tried = subst (λ (o : Outcome). ListingOf o out' a) (sym is) came })))
 
 -- a length is at most that of the buffer
-pub listing_fits : (text out ranks moves out' ranks' moves' : List ℕ) (n : ℕ) → ListingCall text out ranks moves out' ranks' moves' (Value n) → n ≤ listing_bytes
+pub listing_fits : (text out ranks moves out' ranks' moves' : List ℕ) (n : ℕ) → ListingCall text out ranks moves out' ranks' moves' (Ok n) → n ≤ listing_bytes
 listing_fits text out ranks moves out' ranks' moves' n call = go (read_call text blank) (rest call.answer)
   where
-    go : (o : Outcome) → ListingOf o out' (Value n) → n ≤ listing_bytes
+    go : (o : Outcome) → ListingOf o out' (Ok n) → n ≤ listing_bytes
     go (accepted b) (value (bytes, (listed, filled))) = filled.fits
     go (refused r stop) e = no_refusal e

@@ -6,8 +6,8 @@ use Rattle.block.specs.declared.refusal.Refusal.TheVariants.{Length}
 use Rattle.text.specs.Format.{Outcome, accepted, refused}
 use Rattle.text.specs.Text.{text_bytes, blank, read_call}
 use Rattle.turns.specs.Sizes.{room_bytes, moves_bytes}
-use Rattle.block.specs.declared.refusal.Answer.{Answer}
-use Rattle.block.specs.declared.refusal.Answer.TheVariants.{Refused}
+use Rattle.block.specs.Refusal.{Answer}
+use Rattle.std.specs.Prelude.{Err}
 use Rattle.report.specs.Listing.{Listed}
 
 -- the listing is at most as long as a text, so its buffer has the length of one
@@ -39,7 +39,7 @@ list_rules out ranks moves =
 -- then what reading the text comes to: the listing and its length, or the refusal, 1 too for a text that is too long
 abbrev pub ListingOf : Outcome → List ℕ → Answer → Type 0
 ListingOf (accepted b) out = Gives (ListingIn b out)
-ListingOf (refused r rest) out = λ a. a ≡ Refused r
+ListingOf (refused r rest) out = λ a. a ≡ Err r
 
 -- listing, ranks and moves, before the call and after it; ranks and moves are working room
 pub record ListingCall (text out ranks moves out' ranks' moves' : List ℕ) (a : Answer) : Type 0 where

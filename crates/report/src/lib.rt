@@ -40,21 +40,21 @@ pub fn listing(text: &[u8], out: &mut [u8], ranks: &mut [u8], moves: &mut [u8]) 
     ensures { ListingCall text.now out.old ranks.old moves.old out.new ranks.new moves.new result }
 {
     if out.len() != LISTING_BYTES {
-        return Answer::Refused(Refusal::Length);
+        return Err(Refusal::Length);
     }
     if ranks.len() != sizes::ROOM_BYTES {
-        return Answer::Refused(Refusal::Length);
+        return Err(Refusal::Length);
     }
     if moves.len() != sizes::MOVES_BYTES {
-        return Answer::Refused(Refusal::Length);
+        return Err(Refusal::Length);
     }
     let mut block = [0u8; layout::BLOCK_BYTES];
     match reader::read(text, &mut block) {
-        Answer::Value(_) => Answer::Value(list_job(&block, out, ranks, moves)),
-        Answer::Refused(r) => {
+        Ok(_) => Ok(list_job(&block, out, ranks, moves)),
+        Err(r) => {
             fill::leave(ranks, r);
             fill::leave(moves, r);
-            Answer::Refused(r)
+            Err(r)
         }
     }
 }
@@ -63,7 +63,7 @@ pub fn listing(text: &[u8], out: &mut [u8], ranks: &mut [u8], moves: &mut [u8]) 
 pub fn refused_line(line: &mut [u8; REFUSED_BYTES], r: Refusal) -> usize
     ensures { Filled (refused_line (number_of r)) line.new refused_bytes result }
 {
-    let n = printing::refused_line(line, 0, refusal::number(r));
+    let n = printing::refused_line(line, 0, r.number());
     fill::zeros(line, n);
     n
 }

@@ -10,7 +10,7 @@ use Rattle.block.specs.Layout.{Block}
 use Rattle.block.specs.Inner.Valid.{Valid}
 use Rattle.block.specs.Refusal.{◌when◌, Tried, Gives, value, Answers}
 use Rattle.block.specs.declared.refusal.Refusal.TheVariants as refusal
-use Rattle.block.specs.declared.refusal.Answer.{Answer}
+use Rattle.block.specs.Refusal.{Answer}
 use Rattle.block.proofs.Passing.{stable}
 use Rattle.block.proofs.Refusals.{past, Fails, after, apart, one_answer, room_cleared, not_length}
 use Rattle.game.specs.Position.{position}

@@ -3,8 +3,8 @@ use Rattle.std.specs.Prelude.{List, ◌∷◌, ◌≡◌, ℕ, suc, ◌+◌, ◌
 use Rattle.block.specs.Layout.{Block, max_resources}
 use Rattle.block.specs.Refusal.{Rule, ◌when◌, number_of, Answers, NoValue, Kept, RoomAfter}
 use Rattle.block.specs.declared.refusal.Refusal.TheVariants.{Length}
-use Rattle.block.specs.declared.refusal.Answer.{Answer}
-use Rattle.block.specs.declared.refusal.Answer.TheVariants as answer
+use Rattle.block.specs.Refusal.{Answer}
+use Rattle.std.specs.Prelude.{Ok, Err}
 use Rattle.turns.specs.Sizes.{room_bytes}
 use Rattle.turns.specs.Buffers.{rank_in}
 use Rattle.admission.specs.Admission.{row_rules}
@@ -46,8 +46,8 @@ sheet_rules b i list words room =
 
 -- an answer as a word: the move, or 256 plus the number of the refusal
 abbrev pub word_for : Answer → ℕ
-word_for (answer.Value m) = m
-word_for (answer.Refused r) = 256 + number_of r
+word_for (Ok m) = m
+word_for (Err r) = 256 + number_of r
 
 -- w is the word for what the team's move call answers at a position, lent the same room: its contract lets it answer so, and not otherwise
 pub record Single (b : Block) (i s : ℕ) (stocks room room' : List ℕ) (w : ℕ) : Type 0 where

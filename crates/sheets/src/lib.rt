@@ -35,16 +35,16 @@ fn turned_down(block: &[u8], i: usize, list: usize, words: usize, room: usize) -
     ensures { Answers (sheet_rules block.now i list words room) NoValue result }
 {
     if SHEET_BYTES < list {
-        return Answer::Refused(Refusal::Length);
+        return Err(Refusal::Length);
     }
     if list % POSITION_BYTES != 0 {
-        return Answer::Refused(Refusal::Length);
+        return Err(Refusal::Length);
     }
     if words != 2 * (list / POSITION_BYTES) {
-        return Answer::Refused(Refusal::Length);
+        return Err(Refusal::Length);
     }
     if room != sizes::ROOM_BYTES {
-        return Answer::Refused(Refusal::Length);
+        return Err(Refusal::Length);
     }
     admission::row(block, i)
 }
@@ -67,7 +67,7 @@ fn answer_at(
     let s = wide(list[at]);
     let stocks = &list[at + 1..at + POSITION_BYTES];
     if admission::no_position(block, i, s, stocks) {
-        return Answer::Refused(Refusal::Position);
+        return Err(Refusal::Position);
     }
     spots::ready_move(block, i, ready, ways, ranks, s, stocks)
 }
@@ -77,8 +77,8 @@ fn word(a: Answer) -> usize
     ensures { result ≡ word_for a }
 {
     match a {
-        Answer::Value(m) => m,
-        Answer::Refused(r) => REFUSED + wide(refusal::number(r)),
+        Ok(m) => m,
+        Err(r) => REFUSED + wide(r.number()),
     }
 }
 
@@ -121,14 +121,14 @@ pub fn worksheet(block: &[u8], i: usize, list: &[u8], words: &mut [u8], room: &m
     ensures demand3 { Demand3 block.now i }
 {
     match turned_down(block, i, list.len(), words.len(), room.len()) {
-        Answer::Value(_) => {
+        Ok(_) => {
             fill_sheet(block, i, list, words, room);
             fill::zeros(room, 0);
-            Answer::Value(0)
+            Ok(0)
         }
-        Answer::Refused(r) => {
+        Err(r) => {
             fill::leave(room, r);
-            Answer::Refused(r)
+            Err(r)
         }
     }
 }

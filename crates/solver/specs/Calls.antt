@@ -5,7 +5,7 @@ use Rattle.block.specs.Layout.{Block}
 use Rattle.block.specs.Refusal.{Rule, ◌when◌, Answers, NoValue, Kept, RoomAfter}
 use Rattle.block.specs.Check.{block_rules}
 use Rattle.block.specs.declared.refusal.Refusal.TheVariants.{Length}
-use Rattle.block.specs.declared.refusal.Answer.{Answer}
+use Rattle.block.specs.Refusal.{Answer}
 use Rattle.game.specs.Position.{positions}
 use Rattle.turns.specs.Sizes.{sets_bytes, room_bytes, moves_bytes}
 use Rattle.turns.specs.Buffers.{rank_in, word_in, table_in}

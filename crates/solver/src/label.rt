@@ -101,23 +101,23 @@ pub fn label(block: &[u8], sets: &mut [u8], room: &mut [u8]) -> Answer
     ensures { LabelCall block.now sets.old room.old sets.new room.new result }
 {
     if sets.len() != sizes::SETS_BYTES {
-        return Answer::Refused(Refusal::Length);
+        return Err(Refusal::Length);
     }
     if room.len() != sizes::ROOM_BYTES {
-        return Answer::Refused(Refusal::Length);
+        return Err(Refusal::Length);
     }
     match validate::check(block) {
-        Answer::Value(_) => {
+        Ok(_) => {
             fill::zeros(sets, 0);
             let mut ways = [0u8; lines::WAYS_BYTES];
             let n = layout::rows(block);
             label_rows(block, n, ALL_ROWS, sets, &mut ways, room);
             fill::zeros(room, 0);
-            Answer::Value(0)
+            Ok(0)
         }
-        Answer::Refused(r) => {
+        Err(r) => {
             fill::leave(room, r);
-            Answer::Refused(r)
+            Err(r)
         }
     }
 }

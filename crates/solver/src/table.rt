@@ -30,16 +30,12 @@ pub fn table(block: &[u8], i: usize, ranks: &mut [u8], moves: &mut [u8]) -> Answ
     ensures demand3 { Demand3 block.now i }
 {
     if ranks.len() != sizes::ROOM_BYTES {
-        return Answer::Refused(Refusal::Length);
+        return Err(Refusal::Length);
     }
     if moves.len() != sizes::MOVES_BYTES {
-        return Answer::Refused(Refusal::Length);
+        return Err(Refusal::Length);
     }
-    match admission::row(block, i) {
-        Answer::Value(_) => {
-            fill_table(block, i, ranks, moves);
-            Answer::Value(0)
-        }
-        Answer::Refused(r) => Answer::Refused(r),
-    }
+    admission::row(block, i)?;
+    fill_table(block, i, ranks, moves);
+    Ok(0)
 }

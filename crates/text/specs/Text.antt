@@ -5,8 +5,8 @@ use Rattle.block.specs.Refusal.{Rule, ◌when◌, Meets}
 use Rattle.block.specs.Check.{block_rules, Passes}
 use Rattle.block.specs.declared.refusal.Refusal.{Refusal}
 use Rattle.block.specs.declared.refusal.Refusal.TheVariants.{Length, Form}
-use Rattle.block.specs.declared.refusal.Answer.{Answer}
-use Rattle.block.specs.declared.refusal.Answer.TheVariants.{Value, Refused}
+use Rattle.block.specs.Refusal.{Answer}
+use Rattle.std.specs.Prelude.{Ok, Err}
 use Rattle.text.specs.Format.{Outcome, accepted, refused, write, Spells, read, Stop, nowhere, stopped, stop}
 use Rattle.text.specs.Numeral.{Found, found, missing, after}
 use Rattle.text.specs.Job.{either, job_word, job}
@@ -46,8 +46,8 @@ read_call t b = cond (either (ltb text_bytes (length t)) (not (eqb (length b) bl
 
 -- the answer of a call that comes to an outcome, and the lent block afterwards
 abbrev pub answer_to : Outcome → Answer
-answer_to (accepted b) = Value 0
-answer_to (refused r rest) = Refused r
+answer_to (accepted b) = Ok 0
+answer_to (refused r rest) = Err r
 
 abbrev pub block_after : Block → Outcome → Block
 block_after b (accepted c) = c

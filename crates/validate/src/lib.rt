@@ -12,25 +12,25 @@ pub fn check(block: &[u8]) -> Answer
     ensures { Verdict block.now result }
 {
     if block.len() != layout::BLOCK_BYTES {
-        return Answer::Refused(Refusal::Length);
+        return Err(Refusal::Length);
     }
     if sizes::bad(block) {
-        return Answer::Refused(Refusal::Sizes);
+        return Err(Refusal::Sizes);
     }
     if states::bad(block) {
-        return Answer::Refused(Refusal::State);
+        return Err(Refusal::State);
     }
     if charges::bad(block) {
-        return Answer::Refused(Refusal::Charge);
+        return Err(Refusal::Charge);
     }
     if nexts::bad(block) {
-        return Answer::Refused(Refusal::Next);
+        return Err(Refusal::Next);
     }
     if rows::bad(block) {
-        return Answer::Refused(Refusal::Row);
+        return Err(Refusal::Row);
     }
     if unused::bad(block) {
-        return Answer::Refused(Refusal::Unused);
+        return Err(Refusal::Unused);
     }
-    Answer::Value(0)
+    Ok(0)
 }

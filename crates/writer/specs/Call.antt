@@ -4,7 +4,7 @@ use Rattle.block.specs.Layout.{Block}
 use Rattle.block.specs.Refusal.{Rule, ◌when◌, Answers, Kept}
 use Rattle.block.specs.Check.{block_rules}
 use Rattle.block.specs.declared.refusal.Refusal.TheVariants.{Length}
-use Rattle.block.specs.declared.refusal.Answer.{Answer}
+use Rattle.block.specs.Refusal.{Answer}
 use Rattle.text.specs.Text.{text_bytes, text_of, RoundTrip}
 
 -- a text buffer of another length, and then the block

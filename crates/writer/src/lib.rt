@@ -19,14 +19,10 @@ pub fn write(block: &[u8], text: &mut [u8]) -> Answer
     ensures { WriteCall block.now text.old text.new result }
 {
     if text.len() != TEXT_BYTES {
-        return Answer::Refused(Refusal::Length);
+        return Err(Refusal::Length);
     }
-    match validate::check(block) {
-        Answer::Value(_) => {
-            let length = job(block, text);
-            fill::zeros(text, length);
-            Answer::Value(length)
-        }
-        Answer::Refused(r) => Answer::Refused(r),
-    }
+    validate::check(block)?;
+    let length = job(block, text);
+    fill::zeros(text, length);
+    Ok(length)
 }

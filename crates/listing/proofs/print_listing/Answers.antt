@@ -7,8 +7,8 @@ use Rattle.listing.proofs.print_listing.Goals as goal
 
 -- the length that was found
 pub slice_bounds-out-end : goal.slice_bounds-out-end
-slice_bounds-out-end g c = omega (arith, listing_fits _ _ _ _ _ _ _ c.in-Value.n (rw c.in-Value.is at c.listing.ensures), c.listing.auto.out)
+slice_bounds-out-end g c = omega (arith, listing_fits _ _ _ _ _ _ _ c.in-Ok.n (rw c.in-Ok.is at c.listing.ensures), c.listing.auto.out)
 
 pub slice_bounds-print-end : goal.slice_bounds-print-end
-slice_bounds-print-end g c = sym (length-take-le c.in-Value.n c.listing.new.out
-    (omega (arith, listing_fits _ _ _ _ _ _ _ c.in-Value.n (rw c.in-Value.is at c.listing.ensures), c.listing.auto.out)))
+slice_bounds-print-end g c = sym (length-take-le c.in-Ok.n c.listing.new.out
+    (omega (arith, listing_fits _ _ _ _ _ _ _ c.in-Ok.n (rw c.in-Ok.is at c.listing.ensures), c.listing.auto.out)))

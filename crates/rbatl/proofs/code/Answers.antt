@@ -16,7 +16,7 @@ abbrev At-After-number : Type 0
 At-After-number = lts.After-number tie.the-claims reads.Pre reads.Post
 
 pub overflow_cast-result : goal.overflow_cast-result
-overflow_cast-result c = small (subst Small c.in-Value.is c.requires)
+overflow_cast-result c = small (subst Small c.in-Ok.is c.requires)
 
 below : (c : At-After-number) → c.number.result < 256
 below c = c.number.type_inv
@@ -24,8 +24,8 @@ below c = c.number.type_inv
 pub overflow_sub-result : goal.overflow_sub-result
 overflow_sub-result c = subst (SFits w32) (sym (minus c.number.result (below c))) (small_minus c.number.result (below c))
 
-pub returns-in-Value : goal.returns-in-Value
-returns-in-Value c = to_z-of_z (small (subst Small c.in-Value.is c.requires)) ∙ sym (ap answer_code c.in-Value.is)
+pub returns-in-Ok : goal.returns-in-Ok
+returns-in-Ok c = to_z-of_z (small (subst Small c.in-Ok.is c.requires)) ∙ sym (ap answer_code c.in-Ok.is)
 
-pub returns-in-Refused : goal.returns-in-Refused
-returns-in-Refused c = to_z-of_z (overflow_sub-result c) ∙ minus c.number.result (below c) ∙ ap (λ (n : ℕ). neg_ℤ (pos n)) c.number.ensures ∙ sym (ap answer_code c.in-Refused.is)
+pub returns-in-Err : goal.returns-in-Err
+returns-in-Err c = to_z-of_z (overflow_sub-result c) ∙ minus c.number.result (below c) ∙ ap (λ (n : ℕ). neg_ℤ (pos n)) c.number.ensures ∙ sym (ap answer_code c.in-Err.is)

@@ -3,8 +3,8 @@ use mathlib.Core.Path.{◌≡◌, refl, sym, ap, subst, ◌∙◌}
 use Prim.Native.Nat.{ℕ}
 use lib.ListN.{replicate}
 use Rattle.block.specs.Refusal.{value}
-use Rattle.block.specs.declared.refusal.Answer.{Answer}
-use Rattle.block.specs.declared.refusal.Answer.TheVariants.{Value, Refused}
+use Rattle.block.specs.Refusal.{Answer}
+use Rattle.std.specs.Prelude.{Ok, Err}
 use Rattle.block.proofs.Refusals.{no_refusal, turned_down, past, room_left, room_cleared}
 use Rattle.text.specs.Format.{accepted, refused}
 use Rattle.text.specs.Text.{blank, read_call}
@@ -17,8 +17,8 @@ use Rattle.report.proofs.listing.Tie as tie
 abbrev At-After-block-2-1 : Type 0
 At-After-block-2-1 = lts.After-block2 tie.the-claims reads.Pre reads.Post tie.handed_clauses
 
-abbrev At-In-Value : Type 0
-At-In-Value = lts.Past-After-enum_told tie.the-claims reads.Pre reads.Post tie.handed_clauses
+abbrev At-In-Ok : Type 0
+At-In-Ok = lts.Past-After-enum_told tie.the-claims reads.Pre reads.Post tie.handed_clauses
 
 pub returns-then-out-ne-LISTING_BYTES : goal.returns-then-out-ne-LISTING_BYTES
 returns-then-out-ne-LISTING_BYTES c = record { answer = turned_down c.if-out-ne-LISTING_BYTES.true; kept = refl; ranks_after = room_left; moves_after = room_left }
@@ -39,25 +39,25 @@ came : (c : At-After-block-2-1) → Tells c.read.result c.read.new.block (read_c
 unfolding blank
 came c = outcome_told (read_call c.args.text.now blank) blank c.read.new.block c.read.result c.read.ensures.value c.read.ensures.block_after
 
-accepted_as : (c : At-In-Value) → read_call c.args.text.now blank ≡ accepted c.read.new.block
-accepted_as c = subst (λ (a : Answer). Tells a c.read.new.block (read_call c.args.text.now blank)) c.in-Value.is (came c.before)
+accepted_as : (c : At-In-Ok) → read_call c.args.text.now blank ≡ accepted c.read.new.block
+accepted_as c = subst (λ (a : Answer). Tells a c.read.new.block (read_call c.args.text.now blank)) c.in-Ok.is (came c.before)
 
 pub list_job-requires : goal.list_job-requires
 list_job-requires c = record { valid = read_valid c.args.text.now blank _ (accepted_as c.before.before.before.before.before); out_len = (c.if-out-ne-LISTING_BYTES.false, c.if-ranks-ne-ROOM_BYTES.false, c.if-moves-ne-MOVES_BYTES.false) }
 
-pub returns-in-Value : goal.returns-in-Value
-returns-in-Value c = record {
-  answer = called c.args.text.now c.args.out.now c.args.ranks.now c.args.moves.now c.if-out-ne-LISTING_BYTES.false c.if-ranks-ne-ROOM_BYTES.false c.if-moves-ne-MOVES_BYTES.false (accepted c.read.new.block) c.list_job.new.out (Value c.list_job.result) (accepted_as c.before.before.before.before.before.before.before.before.before.before.before.before) (value c.list_job.ensures.listing_in);
+pub returns-in-Ok : goal.returns-in-Ok
+returns-in-Ok c = record {
+  answer = called c.args.text.now c.args.out.now c.args.ranks.now c.args.moves.now c.if-out-ne-LISTING_BYTES.false c.if-ranks-ne-ROOM_BYTES.false c.if-moves-ne-MOVES_BYTES.false (accepted c.read.new.block) c.list_job.new.out (Ok c.list_job.result) (accepted_as c.before.before.before.before.before.before.before.before.before.before.before.before) (value c.list_job.ensures.listing_in);
   kept = tt;
   ranks_after = room_cleared no_refusal (c.list_job.ensures.ranks_after.0 ∙ ap (λ (n : ℕ). replicate n 0) (sym c.if-ranks-ne-ROOM_BYTES.false));
   moves_after = room_cleared no_refusal (c.list_job.ensures.ranks_after.1 ∙ ap (λ (n : ℕ). replicate n 0) (sym c.if-moves-ne-MOVES_BYTES.false));
 }
 
-pub returns-in-Refused : goal.returns-in-Refused
-returns-in-Refused c = let (stop, is) = subst (λ (a : Answer). Tells a c.read.new.block (read_call c.args.text.now blank)) c.in-Refused.is (came c.before.before.before.before.before.before.before.before.before.before) in
+pub returns-in-Err : goal.returns-in-Err
+returns-in-Err c = let (stop, is) = subst (λ (a : Answer). Tells a c.read.new.block (read_call c.args.text.now blank)) c.in-Err.is (came c.before.before.before.before.before.before.before.before.before.before) in
     record {
-      answer = called c.args.text.now c.args.out.now c.args.ranks.now c.args.moves.now c.if-out-ne-LISTING_BYTES.false c.if-ranks-ne-ROOM_BYTES.false c.if-moves-ne-MOVES_BYTES.false (refused c.in-Refused.r stop) c.args.out.now (Refused c.in-Refused.r) is refl;
+      answer = called c.args.text.now c.args.out.now c.args.ranks.now c.args.moves.now c.if-out-ne-LISTING_BYTES.false c.if-ranks-ne-ROOM_BYTES.false c.if-moves-ne-MOVES_BYTES.false (refused c.in-Err.r stop) c.args.out.now (Err c.in-Err.r) is refl;
       kept = refl;
       ranks_after = c.leave.ensures;
-      moves_after = c.leave-in-Refused.ensures;
+      moves_after = c.leave-in-Err.ensures;
     }

@@ -11,11 +11,11 @@ use Rattle.sheets.proofs.Sheets.{sheet_admitted, single}
 use Rattle.sheets.proofs.worksheet.Goals as goal
 
 pub fill_sheet-requires : goal.fill_sheet-requires
-fill_sheet-requires c = let (_, (valid, (chosen, (words, room)))) = sheet_admitted c.args.block.now c.args.i (length c.args.list.now) (length c.args.words.now) (length c.args.room.now) (none_holds (rw c.in-Value.is at c.turned_down.ensures)) in
+fill_sheet-requires c = let (_, (valid, (chosen, (words, room)))) = sheet_admitted c.args.block.now c.args.i (length c.args.list.now) (length c.args.words.now) (length c.args.room.now) (none_holds (rw c.in-Ok.is at c.turned_down.ensures)) in
     record { valid = valid; i_bound = (chosen.0, chosen.1, room); words_len = words }
 
-pub returns-in-Value : goal.returns-in-Value
-returns-in-Value c = let told = rw c.in-Value.is at c.turned_down.ensures in
+pub returns-in-Ok : goal.returns-in-Ok
+returns-in-Ok c = let told = rw c.in-Ok.is at c.turned_down.ensures in
     let (row, (_, (_, (words, room)))) = sheet_admitted c.args.block.now c.args.i (length c.args.list.now) (length c.args.words.now) (length c.args.room.now) (none_holds told) in
     let zeros = cleared c.fill_sheet.new.room c.zeros.new.buffer (length c.args.room.now) c.zeros.ensures c.fill_sheet.ensures.1 in record {
       sheet_call = record {
@@ -34,10 +34,10 @@ returns-in-Value c = let told = rw c.in-Value.is at c.turned_down.ensures in
       demand3 = row_demanded c.args.block.now c.args.i;
     }
 
-pub returns-in-Refused : goal.returns-in-Refused
-returns-in-Refused c = record {
+pub returns-in-Err : goal.returns-in-Err
+returns-in-Err c = record {
   sheet_call = record {
-    answer = refused [] (rw c.in-Refused.is at c.turned_down.ensures);
+    answer = refused [] (rw c.in-Err.is at c.turned_down.ensures);
     kept = refl;
     room_after = c.leave.ensures;
   };

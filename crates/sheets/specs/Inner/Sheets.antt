@@ -3,7 +3,7 @@ use Rattle.std.specs.Prelude.{List, ◌∷◌, ◌≡◌, ℕ, ◌<◌}
 use Rattle.block.specs.Layout.{Block}
 use Rattle.block.specs.Refusal.{Rule, ◌when◌, Answers}
 use Rattle.block.specs.declared.refusal.Refusal.TheVariants as refusal
-use Rattle.block.specs.declared.refusal.Answer.{Answer}
+use Rattle.block.specs.Refusal.{Answer}
 use Rattle.game.specs.Position.{position}
 use Rattle.game.specs.Demand.{RowMove}
 use Rattle.turns.specs.Buffers.{rank_in}

@@ -6,7 +6,7 @@ use Rattle.block.specs.Refusal.{Answers, NoValue}
 use Rattle.block.specs.Layout.{Block}
 use Rattle.block.specs.Check.{block_rules, Verdict}
 use Rattle.block.specs.Inner.Valid.{Sized, Counted}
-use Rattle.block.specs.declared.refusal.Answer.{Answer}
+use Rattle.block.specs.Refusal.{Answer}
 use Rattle.block.proofs.Decide as D
 use Rattle.block.proofs.Passing.{sized, counted}
 use Rattle.block.proofs.Refusals.{turned_down, past, answered}

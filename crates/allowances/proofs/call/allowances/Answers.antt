@@ -9,19 +9,19 @@ use Rattle.allowances.proofs.call.allowances.Goals as goal
 
 pub find-n-requires : goal.find-n-requires
 find-n-requires c =
-    let (valid, (inside, long)) = allowances_admitted c.args.block.now c.args.i c.args.s (length c.args.list.now) (length c.args.room.now) (none_holds (rw c.in-Value.is at c.turned_down.ensures)) in
+    let (valid, (inside, long)) = allowances_admitted c.args.block.now c.args.i c.args.s (length c.args.list.now) (length c.args.room.now) (none_holds (rw c.in-Ok.is at c.turned_down.ensures)) in
     record { valid = valid; i_bound = inside; list_len = long }
 
-pub returns-in-Value : goal.returns-in-Value
-returns-in-Value c = record {
-  answer = passed (rw c.in-Value.is at c.turned_down.ensures) (answered c.find-n.ensures.0);
+pub returns-in-Ok : goal.returns-in-Ok
+returns-in-Ok c = record {
+  answer = passed (rw c.in-Ok.is at c.turned_down.ensures) (answered c.find-n.ensures.0);
   kept = tt;
   room_after = room_cleared no_refusal (cleared c.find-n.new.room c.zeros.new.buffer (length c.args.room.now) c.zeros.ensures c.find-n.auto.room);
 }
 
-pub returns-in-Refused : goal.returns-in-Refused
-returns-in-Refused c = record {
-  answer = refused [] (rw c.in-Refused.is at c.turned_down.ensures);
+pub returns-in-Err : goal.returns-in-Err
+returns-in-Err c = record {
+  answer = refused [] (rw c.in-Err.is at c.turned_down.ensures);
   kept = refl;
   room_after = c.leave.ensures;
 }

@@ -14,11 +14,11 @@ pub returns-then-room-ne-ROOM_BYTES : goal.returns-then-room-ne-ROOM_BYTES
 returns-then-room-ne-ROOM_BYTES c = record { move_call = record { answer = turned_down c.if-room-ne-ROOM_BYTES.true; room_after = room_left }; demand3 = row_demanded c.args.block.now c.args.i }
 
 pub coalition_at-answer-requires : goal.coalition_at-answer-requires
-coalition_at-answer-requires c = let (valid, (row, fits)) = position_admitted c.args.block.now c.args.i c.args.s _ (none_holds (rw c.in-Value.is at c.position.ensures)) in
+coalition_at-answer-requires c = let (valid, (row, fits)) = position_admitted c.args.block.now c.args.i c.args.s _ (none_holds (rw c.in-Ok.is at c.position.ensures)) in
     record { valid = valid; i_bound = (row.0, row.1, omega (arith, valid.sized.resources_fit), omega (arith, c.if-room-ne-ROOM_BYTES.false)); position = fits }
 
-pub returns-in-Value : goal.returns-in-Value
-returns-in-Value c = let told = rw c.in-Value.is at c.position.ensures in
+pub returns-in-Ok : goal.returns-in-Ok
+returns-in-Ok c = let told = rw c.in-Ok.is at c.position.ensures in
     record {
       move_call = record {
         answer = past (λ h. h c.if-room-ne-ROOM_BYTES.false) (passed told c.coalition_at-answer.ensures.answers);
@@ -27,10 +27,10 @@ returns-in-Value c = let told = rw c.in-Value.is at c.position.ensures in
       demand3 = row_demanded c.args.block.now c.args.i;
     }
 
-pub returns-in-Refused : goal.returns-in-Refused
-returns-in-Refused c = let p = position c.args.s (c.args.stock0 ∷ c.args.stock1 ∷ []) in record {
+pub returns-in-Err : goal.returns-in-Err
+returns-in-Err c = let p = position c.args.s (c.args.stock0 ∷ c.args.stock1 ∷ []) in record {
   move_call = record {
-    answer = past (λ h. h c.if-room-ne-ROOM_BYTES.false) (refused (side_rules c.args.block.now c.args.i p) (rw c.in-Refused.is at c.position.ensures));
+    answer = past (λ h. h c.if-room-ne-ROOM_BYTES.false) (refused (side_rules c.args.block.now c.args.i p) (rw c.in-Err.is at c.position.ensures));
     room_after = c.leave.ensures;
   };
   demand3 = row_demanded c.args.block.now c.args.i;

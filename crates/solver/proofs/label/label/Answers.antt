@@ -20,16 +20,16 @@ pub returns-then-room-ne-ROOM_BYTES : goal.returns-then-room-ne-ROOM_BYTES
 returns-then-room-ne-ROOM_BYTES c = record { answer = past (λ h. h c.if-sets-ne-SETS_BYTES.false) (turned_down c.if-room-ne-ROOM_BYTES.true); kept = refl; room_after = room_left }
 
 pub rows-n-requires : goal.rows-n-requires
-rows-n-requires c = (passing {b = c.args.block.now} (rw c.in-Value.is at c.check.ensures)).sized.bytes
+rows-n-requires c = (passing {b = c.args.block.now} (rw c.in-Ok.is at c.check.ensures)).sized.bytes
 
 pub label_rows-requires : goal.label_rows-requires
-label_rows-requires c = let valid = passing {b = c.args.block.now} (rw c.in-Value.is at c.check.ensures) in
+label_rows-requires c = let valid = passing {b = c.args.block.now} (rw c.in-Ok.is at c.check.ensures) in
     let few : c.rows-n.result ≤ L.rows c.args.block.now = omega (arith, c.rows-n.ensures) in
     record { valid = valid; n_bound = (few, omega (arith, c.zeros.auto.buffer, c.if-sets-ne-SETS_BYTES.false), length-replicate {A = ℕ} 6704 0, omega (arith, c.if-room-ne-ROOM_BYTES.false)); closed = all_closed c.args.block.now valid c.rows-n.result few }
 
-pub returns-in-Value : goal.returns-in-Value
-returns-in-Value c = let first = cleared c.args.sets.now c.zeros.new.buffer 128 c.zeros.ensures c.if-sets-ne-SETS_BYTES.false in
-    let told = rw c.in-Value.is at c.check.ensures in
+pub returns-in-Ok : goal.returns-in-Ok
+returns-in-Ok c = let first = cleared c.args.sets.now c.zeros.new.buffer 128 c.zeros.ensures c.if-sets-ne-SETS_BYTES.false in
+    let told = rw c.in-Ok.is at c.check.ensures in
     let valid = passing {b = c.args.block.now} told in
     record {
       answer = past (λ h. h c.if-sets-ne-SETS_BYTES.false) (past (λ h. h c.if-room-ne-ROOM_BYTES.false) (passed told (answered (
@@ -40,12 +40,12 @@ returns-in-Value c = let first = cleared c.args.sets.now c.zeros.new.buffer 128 
             (omega (arith, c.label_rows.ensures.rows_labelled.long, c.zeros.auto.buffer, c.if-sets-ne-SETS_BYTES.false)),
       ))));
       kept = tt;
-      room_after = room_cleared no_refusal (cleared c.label_rows.new.ranks c.zeros-in-Value.new.buffer (length c.args.room.now) c.zeros-in-Value.ensures c.label_rows.ensures.ways_len_unchanged.1);
+      room_after = room_cleared no_refusal (cleared c.label_rows.new.ranks c.zeros-in-Ok.new.buffer (length c.args.room.now) c.zeros-in-Ok.ensures c.label_rows.ensures.ways_len_unchanged.1);
     }
 
-pub returns-in-Refused : goal.returns-in-Refused
-returns-in-Refused c = record {
-  answer = past (λ h. h c.if-sets-ne-SETS_BYTES.false) (past (λ h. h c.if-room-ne-ROOM_BYTES.false) (refused [] (rw c.in-Refused.is at c.check.ensures)));
+pub returns-in-Err : goal.returns-in-Err
+returns-in-Err c = record {
+  answer = past (λ h. h c.if-sets-ne-SETS_BYTES.false) (past (λ h. h c.if-room-ne-ROOM_BYTES.false) (refused [] (rw c.in-Err.is at c.check.ensures)));
   kept = refl;
   room_after = c.leave.ensures;
 }

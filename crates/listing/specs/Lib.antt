@@ -1,2 +1,0 @@
--- What reading the input comes to.
-pub mod Input
