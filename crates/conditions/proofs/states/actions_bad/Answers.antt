@@ -1,9 +1,6 @@
 -- `actions_bad` tries an agent's count and looks for a bad cost over its actions.
 use mathlib.Core.Path.{refl}
 use Rattle.std.proofs.Common.{rules}
-use Rattle.block.specs.Check.{BadCost}
-use Rattle.block.specs.Decide.{Some}
-use Rattle.block.specs.Layout.{resources}
 use Rattle.block.proofs.Chains.{any_below}
 use Rattle.block.proofs.Decide as D
 use Rattle.conditions.proofs.states.actions_bad.Goals as goal
@@ -13,4 +10,4 @@ returns-then-outside c = D.or_first (rw c.count-n.ensures at c.outside.ensures) 
 
 pub returns-else-outside : goal.returns-else-outside
 returns-else-outside c = D.or_second (rw c.count-n.ensures at c.outside.ensures) c.if-outside.false
-    (any_below {P = λ k. Some (resources c.args.block.now) (BadCost c.args.block.now c.args.s c.args.a k)} (λ k b q h r. search rules) c.any.ensures.ran refl c.count-n.ensures)
+    (any_below (λ k b q h r. search rules) c.any.ensures.ran refl c.count-n.ensures)
