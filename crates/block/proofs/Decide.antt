@@ -1,7 +1,8 @@
 -- Laws of tests that decide a statement (specs' Decides), and of searches (specs' Some).
 -- Assumes nothing.
 use mathlib.Core.Bool.{Bool, true, false, not}
-use mathlib.Core.Path.{◌≡◌, refl}
+use mathlib.Core.Logic.{◌⊎◌, inl, inr, ⊎_elim}
+use mathlib.Core.Path.{◌≡◌, refl, sym, subst}
 use Prim.Native.Nat.{ℕ, ◌<◌, ◌≤◌}
 use native.Mathlib.Omega.{arith}
 use lib.Dec.{ltb, leb, eqb}
@@ -26,6 +27,26 @@ same (fails q) f g = fails (λ x. q (g x))
 pub opposite : {P Q : Type 0} {t : Bool} → Decides P t → (P → Q → ⊥) → ((P → ⊥) → Q) → Decides Q (not t)
 opposite (holds p) f g = fails (f p)
 opposite (fails q) f g = holds (g q)
+
+-- a test whose outcome is known
+pub yes : {P : Type 0} {t : Bool} → t ≡ true → P → Decides P t
+yes {P} e p = subst (Decides P) (sym e) (holds p)
+
+pub no : {P : Type 0} {t : Bool} → t ≡ false → (P → ⊥) → Decides P t
+no {P} e q = subst (Decides P) (sym e) (fails q)
+
+-- `||` and `&&`: the first test's value where that settles it, and otherwise the second's
+pub or_first : {P Q : Type 0} {t : Bool} → Decides P t → t ≡ true → Decides (P ⊎ Q) t
+or_first d e = yes e (inl (truth d e))
+
+pub or_second : {P Q : Type 0} {t u : Bool} → Decides P t → t ≡ false → Decides Q u → Decides (P ⊎ Q) u
+or_second d e f = same f inr (λ x. ⊎_elim (λ p. absurd (falsity d e p)) (λ q. q) x)
+
+pub and_first : {P Q : Type 0} {t : Bool} → Decides P t → t ≡ false → Decides (P × Q) t
+and_first d e = no e (λ x. falsity d e x.0)
+
+pub and_second : {P Q : Type 0} {t u : Bool} → Decides P t → t ≡ true → Decides Q u → Decides (P × Q) u
+and_second d e f = same f (λ q. (truth d e, q)) (λ x. x.1)
 
 -- the tests on numbers
 by_truth : {P : Type 0} (t : Bool) → (t ≡ true → P) → (t ≡ false → P → ⊥) → Decides P t

@@ -22,18 +22,23 @@ BadCost b s a k j = ((max_units < cost b s a k j) × (cost b s a k j < charge_by
 
 -- a count that is not 1 to 4, or a bad cost of an action that the agent has
 abbrev pub BadActions : Block → ℕ → ℕ → Type 0
-BadActions b s a = Outside 1 max_actions (count b s a) ⊎ Some (count b s a) (λ k. Some (resources b) (λ j. BadCost b s a k j))
+BadActions b s a = Outside 1 max_actions (count b s a) ⊎ Some (count b s a) (λ k. Some (resources b) (BadCost b s a k))
 
 -- 3: in some state, a mask with a bit at or above P, or bad actions of some agent
 abbrev pub BadState : Block → ℕ → Type 0
 BadState b s = BitFrom (propositions b) (mask b s) ⊎ Some (agents b) (BadActions b s)
 
--- in some state, a charge on a resource of this kind by an action that an agent has
+-- a charge on a resource of this kind
 abbrev pub ChargeOn : ℕ → Block → ℕ → ℕ → ℕ → ℕ → Type 0
 ChargeOn kind b s a k j = (resource_kind b j ≡ kind) × (charge_byte ≤ cost b s a k j)
 
+-- by an action that the agent has
+abbrev pub ActionsOn : ℕ → Block → ℕ → ℕ → Type 0
+ActionsOn kind b s a = Some (count b s a) (λ k. Some (resources b) (ChargeOn kind b s a k))
+
+-- by an action that some agent has in state s
 abbrev pub ChargesOn : ℕ → Block → ℕ → Type 0
-ChargesOn kind b s = Some (agents b) (λ a. Some (count b s a) (λ k. Some (resources b) (λ j. ChargeOn kind b s a k j)))
+ChargesOn kind b s = Some (agents b) (ActionsOn kind b s)
 
 -- 13: on a max resource
 abbrev pub BadCharge : Block → ℕ → ℕ → ℕ → ℕ → Type 0

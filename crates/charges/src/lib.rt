@@ -5,7 +5,7 @@ ghost use Rattle.std.specs.Prelude.{◌≡◌, ℕ, ◌<◌};
 ghost use Rattle.block.specs.Decide.{Some};
 ghost use Rattle.block.specs.Inner.Tests.{Decides};
 ghost use Rattle.block.specs.Layout.{max_states, max_agents, max_actions, max_resources, resources, agents, states, count, resource_kind};
-ghost use Rattle.block.specs.Check.{ChargeOn, ChargesOn, BadCharges};
+ghost use Rattle.block.specs.Check.{ChargeOn, ActionsOn, ChargesOn, BadCharges};
 ghost use Rattle.block.specs.Inner.Valid.{Sized, Counted};
 
 use block::layout;
@@ -15,10 +15,8 @@ fn charge_on(block: &[u8], kind: usize, s: usize, a: usize, k: usize, j: usize) 
     requires s_lt_max_states { (s < max_states) × (a < max_agents) × (k < max_actions) × (j < max_resources) }
     ensures { Decides (ChargeOn kind block.now s a k j) result }
 {
-    if layout::resource_kind(block, j) != kind {
-        return false;
-    }
-    layout::CHARGE_BYTE <= layout::cost_byte(block, s, a, k, j)
+    layout::resource_kind(block, j) == kind
+        && layout::CHARGE_BYTE <= layout::cost_byte(block, s, a, k, j)
 }
 
 fn action_on(block: &[u8], kind: usize, s: usize, a: usize, k: usize) -> bool
@@ -26,27 +24,15 @@ fn action_on(block: &[u8], kind: usize, s: usize, a: usize, k: usize) -> bool
     requires s_lt_max_states { (s < max_states) × (a < max_agents) × (k < max_actions) }
     ensures { Decides (Some (resources block.now) (ChargeOn kind block.now s a k)) result }
 {
-    let n = layout::resources(block);
-    for j in 0..n {
-        if charge_on(block, kind, s, a, k, j) {
-            return true;
-        }
-    }
-    false
+    (0..layout::resources(block)).any(|j| charge_on(block, kind, s, a, k, j))
 }
 
 fn actions_on(block: &[u8], kind: usize, s: usize, a: usize) -> bool
     requires sized { Sized block.now × Counted block.now }
     requires s_bound { (s < states block.now) × (a < agents block.now) }
-    ensures { Decides (Some (count block.now s a) (λ k. Some (resources block.now) (ChargeOn kind block.now s a k))) result }
+    ensures { Decides (ActionsOn kind block.now s a) result }
 {
-    let n = layout::count(block, s, a);
-    for k in 0..n {
-        if action_on(block, kind, s, a, k) {
-            return true;
-        }
-    }
-    false
+    (0..layout::count(block, s, a)).any(|k| action_on(block, kind, s, a, k))
 }
 
 fn state_on(block: &[u8], kind: usize, s: usize) -> bool
@@ -54,26 +40,14 @@ fn state_on(block: &[u8], kind: usize, s: usize) -> bool
     requires s_bound { s < states block.now }
     ensures { Decides (ChargesOn kind block.now s) result }
 {
-    let n = layout::agents(block);
-    for a in 0..n {
-        if actions_on(block, kind, s, a) {
-            return true;
-        }
-    }
-    false
+    (0..layout::agents(block)).any(|a| actions_on(block, kind, s, a))
 }
 
 pub fn any(block: &[u8], kind: usize) -> bool
     requires { Sized block.now × Counted block.now }
     ensures { Decides (Some (states block.now) (ChargesOn kind block.now)) result }
 {
-    let n = layout::states(block);
-    for s in 0..n {
-        if state_on(block, kind, s) {
-            return true;
-        }
-    }
-    false
+    (0..layout::states(block)).any(|s| state_on(block, kind, s))
 }
 
 // Whether a resource is of this kind.
@@ -81,13 +55,7 @@ fn has_kind(block: &[u8], kind: usize) -> bool
     requires { Sized block.now }
     ensures { Decides (Some (resources block.now) (λ (j : ℕ). resource_kind block.now j ≡ kind)) result }
 {
-    let n = layout::resources(block);
-    for j in 0..n {
-        if layout::resource_kind(block, j) == kind {
-            return true;
-        }
-    }
-    false
+    (0..layout::resources(block)).any(|j| layout::resource_kind(block, j) == kind)
 }
 
 // Few jobs have a max resource, and only in those is there anything to look for.
@@ -95,8 +63,5 @@ pub fn bad(block: &[u8]) -> bool
     requires { Sized block.now × Counted block.now }
     ensures { Decides (Some (states block.now) (BadCharges block.now)) result }
 {
-    if !has_kind(block, layout::MAX_KIND) {
-        return false;
-    }
-    any(block, layout::MAX_KIND)
+    has_kind(block, layout::MAX_KIND) && any(block, layout::MAX_KIND)
 }

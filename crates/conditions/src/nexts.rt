@@ -14,10 +14,7 @@ fn next_bad(block: &[u8], s: usize, joint: usize) -> bool
     requires s_lt_max_states { (s < max_states) × (joint < max_joint) }
     ensures { Decides (BadNext block.now s joint) result }
 {
-    if available(block, s, joint) {
-        return layout::states(block) <= layout::next(block, s, joint);
-    }
-    false
+    available(block, s, joint) && layout::states(block) <= layout::next(block, s, joint)
 }
 
 fn joints_bad(block: &[u8], s: usize) -> bool
@@ -25,23 +22,12 @@ fn joints_bad(block: &[u8], s: usize) -> bool
     requires s_lt_max_states { s < max_states }
     ensures { Decides (Some max_joint (BadNext block.now s)) result }
 {
-    for joint in 0..layout::JOINT_ACTIONS {
-        if next_bad(block, s, joint) {
-            return true;
-        }
-    }
-    false
+    (0..layout::JOINT_ACTIONS).any(|joint| next_bad(block, s, joint))
 }
 
 pub fn bad(block: &[u8]) -> bool
     requires { Sized block.now }
     ensures { Decides (Some (states block.now) (λ s. Some max_joint (BadNext block.now s))) result }
 {
-    let n = layout::states(block);
-    for s in 0..n {
-        if joints_bad(block, s) {
-            return true;
-        }
-    }
-    false
+    (0..layout::states(block)).any(|s| joints_bad(block, s))
 }

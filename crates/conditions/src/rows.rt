@@ -16,10 +16,7 @@ fn bound_bad(block: &[u8], i: usize, j: usize) -> bool
     ensures { Decides (BadBound block.now i j) result }
 {
     let n = layout::bound(block, i, j);
-    if n <= layout::MAX_UNITS {
-        return false;
-    }
-    n != layout::UNLIMITED
+    layout::MAX_UNITS < n && n != layout::UNLIMITED
 }
 
 fn bounds_bad(block: &[u8], i: usize) -> bool
@@ -27,13 +24,7 @@ fn bounds_bad(block: &[u8], i: usize) -> bool
     requires i_lt_max_rows { i < max_rows }
     ensures { Decides (Some (resources block.now) (BadBound block.now i)) result }
 {
-    let n = layout::resources(block);
-    for j in 0..n {
-        if bound_bad(block, i, j) {
-            return true;
-        }
-    }
-    false
+    (0..layout::resources(block)).any(|j| bound_bad(block, i, j))
 }
 
 // The fields that only strategic rows have.
@@ -43,13 +34,7 @@ fn team_bad(block: &[u8], i: usize) -> bool
     ensures { Decides (BadTeam block.now i) result }
 {
     let t = layout::team(block, i);
-    if t == 0 {
-        return true;
-    }
-    if bit_from(t, layout::agents(block)) {
-        return true;
-    }
-    bounds_bad(block, i)
+    t == 0 || bit_from(t, layout::agents(block)) || bounds_bad(block, i)
 }
 
 // The proposition or the rows that row i names.
@@ -61,15 +46,10 @@ fn operands_bad(block: &[u8], i: usize) -> bool
     let k = layout::kind(block, i);
     let l = layout::left(block, i);
     if k == layout::PROP_KIND {
-        return layout::propositions(block) <= l;
+        layout::propositions(block) <= l
+    } else {
+        i <= l || (binary(k) && i <= layout::right(block, i))
     }
-    if i <= l {
-        return true;
-    }
-    if binary(k) {
-        return i <= layout::right(block, i);
-    }
-    false
 }
 
 fn row_bad(block: &[u8], i: usize) -> bool
@@ -77,27 +57,13 @@ fn row_bad(block: &[u8], i: usize) -> bool
     requires i_lt_max_rows { i < max_rows }
     ensures { Decides (BadRow block.now i) result }
 {
-    if layout::UNTIL_KIND < layout::kind(block, i) {
-        return true;
-    }
-    if operands_bad(block, i) {
-        return true;
-    }
-    if strategic(layout::kind(block, i)) {
-        return team_bad(block, i);
-    }
-    false
+    let k = layout::kind(block, i);
+    layout::UNTIL_KIND < k || operands_bad(block, i) || (strategic(k) && team_bad(block, i))
 }
 
 pub fn bad(block: &[u8]) -> bool
     requires { Sized block.now }
     ensures { Decides (Some (rows block.now) (BadRow block.now)) result }
 {
-    let n = layout::rows(block);
-    for i in 0..n {
-        if row_bad(block, i) {
-            return true;
-        }
-    }
-    false
+    (0..layout::rows(block)).any(|i| row_bad(block, i))
 }

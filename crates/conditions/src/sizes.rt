@@ -11,13 +11,7 @@ use block::layout;
 pub fn outside(n: usize, high: usize) -> bool
     ensures { Decides (Outside 1 high n) result }
 {
-    if n < 1 {
-        return true;
-    }
-    if high < n {
-        return true;
-    }
-    false
+    n < 1 || high < n
 }
 
 // Whether the kind of some resource is neither sum nor max.
@@ -25,33 +19,17 @@ fn kinds_bad(block: &[u8]) -> bool
     requires { (length block.now ≡ block_bytes) × (resources block.now ≤ max_resources) }
     ensures { Decides (Some (resources block.now) (λ j. max_kind < resource_kind block.now j)) result }
 {
-    let n = layout::resources(block);
-    for j in 0..n {
-        if layout::MAX_KIND < layout::resource_kind(block, j) {
-            return true;
-        }
-    }
-    false
+    (0..layout::resources(block)).any(|j| layout::MAX_KIND < layout::resource_kind(block, j))
 }
 
 pub fn bad(block: &[u8]) -> bool
     requires { length block.now ≡ block_bytes }
     ensures { Decides (BadSizes block.now) result }
 {
-    if outside(layout::agents(block), layout::MAX_AGENTS) {
-        return true;
-    }
-    if outside(layout::resources(block), layout::MAX_RESOURCES) {
-        return true;
-    }
-    if outside(layout::states(block), layout::MAX_STATES) {
-        return true;
-    }
-    if outside(layout::propositions(block), layout::MAX_PROPOSITIONS) {
-        return true;
-    }
-    if outside(layout::rows(block), layout::MAX_ROWS) {
-        return true;
-    }
-    kinds_bad(block)
+    outside(layout::agents(block), layout::MAX_AGENTS)
+        || outside(layout::resources(block), layout::MAX_RESOURCES)
+        || outside(layout::states(block), layout::MAX_STATES)
+        || outside(layout::propositions(block), layout::MAX_PROPOSITIONS)
+        || outside(layout::rows(block), layout::MAX_ROWS)
+        || kinds_bad(block)
 }

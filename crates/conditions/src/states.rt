@@ -17,12 +17,10 @@ fn cost_bad(block: &[u8], s: usize, a: usize, k: usize, j: usize) -> bool
 {
     let c = layout::cost_byte(block, s, a, k, j);
     if k == 0 {
-        return 0 < c;
+        0 < c
+    } else {
+        layout::MAX_UNITS < c && c < layout::CHARGE_BYTE
     }
-    if c <= layout::MAX_UNITS {
-        return false;
-    }
-    c < layout::CHARGE_BYTE
 }
 
 fn action_bad(block: &[u8], s: usize, a: usize, k: usize) -> bool
@@ -30,13 +28,7 @@ fn action_bad(block: &[u8], s: usize, a: usize, k: usize) -> bool
     requires s_lt_max_states { (s < max_states) × (a < max_agents) × (k < max_actions) }
     ensures { Decides (Some (resources block.now) (BadCost block.now s a k)) result }
 {
-    let n = layout::resources(block);
-    for j in 0..n {
-        if cost_bad(block, s, a, k, j) {
-            return true;
-        }
-    }
-    false
+    (0..layout::resources(block)).any(|j| cost_bad(block, s, a, k, j))
 }
 
 fn actions_bad(block: &[u8], s: usize, a: usize) -> bool
@@ -45,15 +37,7 @@ fn actions_bad(block: &[u8], s: usize, a: usize) -> bool
     ensures { Decides (BadActions block.now s a) result }
 {
     let n = layout::count(block, s, a);
-    if outside(n, layout::MAX_ACTIONS) {
-        return true;
-    }
-    for k in 0..n {
-        if action_bad(block, s, a, k) {
-            return true;
-        }
-    }
-    false
+    outside(n, layout::MAX_ACTIONS) || (0..n).any(|k| action_bad(block, s, a, k))
 }
 
 fn agents_bad(block: &[u8], s: usize) -> bool
@@ -61,13 +45,7 @@ fn agents_bad(block: &[u8], s: usize) -> bool
     requires s_lt_max_states { s < max_states }
     ensures { Decides (Some (agents block.now) (BadActions block.now s)) result }
 {
-    let n = layout::agents(block);
-    for a in 0..n {
-        if actions_bad(block, s, a) {
-            return true;
-        }
-    }
-    false
+    (0..layout::agents(block)).any(|a| actions_bad(block, s, a))
 }
 
 fn state_bad(block: &[u8], s: usize) -> bool
@@ -75,21 +53,12 @@ fn state_bad(block: &[u8], s: usize) -> bool
     requires s_lt_max_states { s < max_states }
     ensures { Decides (BadState block.now s) result }
 {
-    if bit_from(layout::mask(block, s), layout::propositions(block)) {
-        return true;
-    }
-    agents_bad(block, s)
+    bit_from(layout::mask(block, s), layout::propositions(block)) || agents_bad(block, s)
 }
 
 pub fn bad(block: &[u8]) -> bool
     requires { Sized block.now }
     ensures { Decides (Some (states block.now) (BadState block.now)) result }
 {
-    let n = layout::states(block);
-    for s in 0..n {
-        if state_bad(block, s) {
-            return true;
-        }
-    }
-    false
+    (0..layout::states(block)).any(|s| state_bad(block, s))
 }

@@ -20,38 +20,26 @@ fn uses_field(block: &[u8], k: usize, f: usize) -> bool
     ensures { Decides (UsesField block.now k f) result }
 {
     if f <= layout::LEFT_BYTE {
-        return true;
+        true
+    } else if f == layout::RIGHT_BYTE {
+        binary(k)
+    } else {
+        strategic(k) && f < layout::BOUND_BYTE + layout::resources(block)
     }
-    if f == layout::RIGHT_BYTE {
-        return binary(k);
-    }
-    if strategic(k) {
-        return f < layout::BOUND_BYTE + layout::resources(block);
-    }
-    false
 }
 
 fn agent_in_use(block: &[u8], s: usize, a: usize) -> bool
     requires { Sized block.now }
     ensures { Decides (InUse block.now (Place.Count s a)) result }
 {
-    if s < layout::states(block) {
-        return a < layout::agents(block);
-    }
-    false
+    s < layout::states(block) && a < layout::agents(block)
 }
 
 fn cost_in_use(block: &[u8], s: usize, a: usize, k: usize, j: usize) -> bool
     requires { Sized block.now }
     ensures { Decides (InUse block.now (Place.Cost s a k j)) result }
 {
-    if !agent_in_use(block, s, a) {
-        return false;
-    }
-    if k < layout::count(block, s, a) {
-        return j < layout::resources(block);
-    }
-    false
+    agent_in_use(block, s, a) && k < layout::count(block, s, a) && j < layout::resources(block)
 }
 
 fn next_in_use(block: &[u8], s: usize, joint: usize) -> bool
@@ -59,20 +47,14 @@ fn next_in_use(block: &[u8], s: usize, joint: usize) -> bool
     requires joint_lt_max_joint { joint < max_joint }
     ensures { Decides (InUse block.now (Place.Next s joint)) result }
 {
-    if s < layout::states(block) {
-        return available(block, s, joint);
-    }
-    false
+    s < layout::states(block) && available(block, s, joint)
 }
 
 fn field_in_use(block: &[u8], i: usize, f: usize) -> bool
     requires { Sized block.now }
     ensures { Decides (InUse block.now (Place.Field i f)) result }
 {
-    if i < layout::rows(block) {
-        return uses_field(block, layout::kind(block, i), f);
-    }
-    false
+    i < layout::rows(block) && uses_field(block, layout::kind(block, i), f)
 }
 
 fn in_use(block: &[u8], x: Place) -> bool
@@ -96,20 +78,12 @@ fn place_bad(block: &[u8], p: usize) -> bool
     requires p_lt_block_bytes { p < block_bytes }
     ensures { Decides (BadPlace block.now p) result }
 {
-    if layout::byte_at(block, p) == 0 {
-        return false;
-    }
-    !in_use(block, layout::place_at(p))
+    layout::byte_at(block, p) != 0 && !in_use(block, layout::place_at(p))
 }
 
 pub fn bad(block: &[u8]) -> bool
     requires { Sized block.now × Counted block.now }
     ensures { Decides (Some block_bytes (BadPlace block.now)) result }
 {
-    for p in 0..layout::BLOCK_BYTES {
-        if place_bad(block, p) {
-            return true;
-        }
-    }
-    false
+    (0..layout::BLOCK_BYTES).any(|p| place_bad(block, p))
 }

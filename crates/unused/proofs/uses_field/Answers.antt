@@ -2,7 +2,7 @@
 use Prim.Native.Nat.{◌+◌}
 use mathlib.Core.Logic.{inl, inr, ⊎_elim}
 use native.Mathlib.Omega.{arith}
-use Rattle.block.specs.Inner.Tests.{holds, fails}
+use Rattle.block.specs.Inner.Tests.{holds}
 use Rattle.block.proofs.Decide as D
 use Rattle.unused.proofs.uses_field.Goals as goal
 
@@ -19,6 +19,6 @@ returns-then-strategic c = D.same (D.less c.args.f (4 + c.resources.result))
     (λ h. inr (inr (D.truth c.strategic.ensures c.if-strategic.true, (omega arith, omega arith))))
     (λ x. ⊎_elim (λ h. absurd (omega arith)) (λ y. ⊎_elim (λ z. absurd (omega (arith, z.0))) (λ z. omega (arith, z.1)) y) x)
 
-pub returns : goal.returns
-returns c = fails
+pub returns-else-strategic : goal.returns-else-strategic
+returns-else-strategic c = D.no c.if-strategic.false
     (λ x. ⊎_elim (λ h. omega arith) (λ y. ⊎_elim (λ z. omega (arith, z.0)) (λ z. D.falsity c.strategic.ensures c.if-strategic.false z.0) y) x)

@@ -1,7 +1,6 @@
 -- `operands_bad` tells a row that names what it may not.
 use mathlib.Core.Logic.{⊎_elim}
 use native.Mathlib.Omega.{arith}
-use Rattle.block.specs.Inner.Tests.{holds, fails}
 use Rattle.block.specs.Check.{prop_range, left_range, right_range}
 use Rattle.block.proofs.Decide as D
 use Rattle.conditions.proofs.rows.operands_bad.Goals as goal
@@ -17,7 +16,7 @@ returns-then-k-eq-PROP_KIND c = D.same (D.at_most c.propositions.result c.left-l
     ])
 
 pub returns-then-i-l : goal.returns-then-i-l
-returns-then-i-l c = holds (left_range (omega arith) (omega arith))
+returns-then-i-l c = D.same (D.at_most c.args.i c.left-l.result) (λ h. left_range (omega arith) (omega arith)) (λ x. c.if-i-l.true)
 
 pub returns-then-binary : goal.returns-then-binary
 returns-then-binary c = D.same (D.at_most c.args.i c.right.result)
@@ -29,8 +28,8 @@ returns-then-binary c = D.same (D.at_most c.args.i c.right.result)
       | right_range t h ↦ omega arith
     ])
 
-pub returns : goal.returns
-returns c = fails
+pub returns-else-binary : goal.returns-else-binary
+returns-else-binary c = D.no c.if-binary.false
     (λ x.
     elim x [
       | prop_range e h ↦ absurd (omega arith)

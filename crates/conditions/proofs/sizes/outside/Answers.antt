@@ -1,14 +1,10 @@
 -- `outside` tells whether a number is not from 1 to a limit.
-use mathlib.Core.Logic.{inl, inr, ⊎_elim}
-use native.Mathlib.Omega.{arith}
-use Rattle.block.specs.Inner.Tests.{holds, fails}
+use Rattle.std.proofs.Common.{rules, tests}
+use Rattle.block.proofs.Decide as D
 use Rattle.conditions.proofs.sizes.outside.Goals as goal
 
 pub returns-then-n-lt1 : goal.returns-then-n-lt1
-returns-then-n-lt1 c = holds (inl c.if-n-lt1.true)
+returns-then-n-lt1 c = D.or_first (D.less c.args.n 1) (search (rules, tests))
 
-pub returns-then-high-n : goal.returns-then-high-n
-returns-then-high-n c = holds (inr c.if-high-n.true)
-
-pub returns : goal.returns
-returns c = fails (λ x. ⊎_elim (λ h. omega (arith, h)) (λ h. omega (arith, h)) x)
+pub returns-else-n-lt1 : goal.returns-else-n-lt1
+returns-else-n-lt1 c = D.or_second (D.less c.args.n 1) (search (rules, tests)) (D.less c.args.high c.args.n)

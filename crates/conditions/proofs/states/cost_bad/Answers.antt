@@ -1,7 +1,6 @@
 -- `cost_bad` tells a cost of idle, and a byte 16 to 240.
 use mathlib.Core.Logic.{inl, inr, ⊎_elim}
 use native.Mathlib.Omega.{arith}
-use Rattle.block.specs.Inner.Tests.{fails}
 use Rattle.block.proofs.Decide as D
 use Rattle.conditions.proofs.states.cost_bad.Goals as goal
 
@@ -10,10 +9,12 @@ returns-then-k-eq0 c = D.same (D.less 0 c.cost_byte-c.result)
     (λ h. inr (omega arith, omega arith))
     (λ x. ⊎_elim (λ h. omega arith) (λ h. omega arith) x)
 
-pub returns-then-c-le-MAX_UNITS : goal.returns-then-c-le-MAX_UNITS
-returns-then-c-le-MAX_UNITS c = fails (λ x. ⊎_elim (λ h. omega arith) (λ h. c.if-k-eq0.false h.0) x)
-
-pub returns : goal.returns
-returns c = D.same (D.less c.cost_byte-c.result _)
+pub returns-then-c-gt-MAX_UNITS : goal.returns-then-c-gt-MAX_UNITS
+returns-then-c-gt-MAX_UNITS c = D.same (D.less c.cost_byte-c.result _)
     (λ h. inl (omega arith))
+    (λ x. ⊎_elim (λ h. omega arith) (λ h. absurd (c.if-k-eq0.false h.0)) x)
+
+pub returns-else-c-gt-MAX_UNITS : goal.returns-else-c-gt-MAX_UNITS
+returns-else-c-gt-MAX_UNITS c = D.same (D.less _ c.cost_byte-c.result)
+    (λ h. absurd (omega arith))
     (λ x. ⊎_elim (λ h. omega arith) (λ h. absurd (c.if-k-eq0.false h.0)) x)
