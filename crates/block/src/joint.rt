@@ -15,25 +15,25 @@ pub fn digit(joint: usize, a: usize) -> usize
     requires { a < max_agents }
     ensures { (result ≡ L.digit joint a) × (result < max_actions) }
 {
-    if a == 0 {
-        return joint % layout::MAX_ACTIONS;
+    match a {
+        0 => joint % layout::MAX_ACTIONS,
+        1 => joint / layout::MAX_ACTIONS % layout::MAX_ACTIONS,
+        _ => joint / PAIRS % layout::MAX_ACTIONS,
     }
-    if a == 1 {
-        return joint / layout::MAX_ACTIONS % layout::MAX_ACTIONS;
-    }
-    joint / PAIRS % layout::MAX_ACTIONS
 }
 
-// Whether k is an action of agent a, or 0 where there is no such agent.
-fn acts(block: &[u8], s: usize, a: usize, k: usize) -> bool
+// Whether agent a can do its action of a joint action in state s: that is 0 where there is no such agent.
+fn acts(block: &[u8], s: usize, joint: usize, a: usize) -> bool
     requires sized { Sized block.now }
     requires s_lt_max_states { (s < max_states) × (a < max_agents) }
-    ensures { Decides (Acts block.now s a k) result }
+    ensures { Decides (Acts block.now s a (L.digit joint a)) result }
 {
+    let k = digit(joint, a);
     if a < layout::agents(block) {
-        return k < layout::count(block, s, a);
+        k < layout::count(block, s, a)
+    } else {
+        k == 0
     }
-    k == 0
 }
 
 pub fn available(block: &[u8], s: usize, joint: usize) -> bool
@@ -41,11 +41,5 @@ pub fn available(block: &[u8], s: usize, joint: usize) -> bool
     requires s_lt_max_states { (s < max_states) × (joint < max_joint) }
     ensures { Decides (Available block.now s joint) result }
 {
-    if !acts(block, s, 0, digit(joint, 0)) {
-        return false;
-    }
-    if !acts(block, s, 1, digit(joint, 1)) {
-        return false;
-    }
-    acts(block, s, 2, digit(joint, 2))
+    (0..layout::MAX_AGENTS).all(|a| acts(block, s, joint, a))
 }

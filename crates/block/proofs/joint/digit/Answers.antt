@@ -4,12 +4,12 @@ use native.Mathlib.Omega.{arith}
 use Rattle.block.proofs.Digits.{digit_zero}
 use Rattle.block.proofs.joint.digit.Goals as goal
 
-pub returns-then-a-eq0 : goal.returns-then-a-eq0
-returns-then-a-eq0 c = rw (c.if-a-eq0.true, digit_zero) (refl, omega arith)
+pub returns-in-0 : goal.returns-in-0
+returns-in-0 c = rw (c.in-0.is, digit_zero) (refl, omega arith)
 
-pub returns-then-a-eq1 : goal.returns-then-a-eq1
-returns-then-a-eq1 c = rw c.if-a-eq1.true (refl, omega arith)
+pub returns-in-1 : goal.returns-in-1
+returns-in-1 c = rw c.in-1.is (refl, omega arith)
 
-pub returns : goal.returns
-returns c = let last : c.args.a ≡ 2 = omega arith in
+pub returns-in_default : goal.returns-in_default
+returns-in_default c = let last : c.args.a ≡ 2 = omega arith in
     rw last (refl, omega arith)
