@@ -138,15 +138,12 @@ fn first_enough(
     ensures first_enough { FirstEnough block.now ask.row ask.state x range.first range.end result }
     ensures lent_2 { Lent block.now ask copy.new ways.new ranks.new }
 {
-    let first = range.first;
-    let mut y = range.end;
-    while first < y {
-        if !enough(block, ask, x, y - 1, copy, ways, ranks) {
-            return y;
+    for y in (range.first..range.end).rev() {
+        if !enough(block, ask, x, y, copy, ways, ranks) {
+            return y + 1;
         }
-        y -= 1;
     }
-    y
+    range.first
 }
 
 // What is asked for, made ready: where nothing charges, the row is solved once, with the largest bounds.

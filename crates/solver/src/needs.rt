@@ -42,9 +42,7 @@ pub fn needed(block: &[u8], i: usize) -> usize
     ensures { (j : ℕ) → Bit result j ↔ Needs block.now i j }
 {
     let mut w = with_named(block, 0, i);
-    let mut j = i;
-    while 0 < j {
-        j -= 1;
+    for j in (0..i).rev() {
         if buffers::has_bit(w, j) {
             w = with_named(block, w, j);
         }

@@ -2,11 +2,11 @@
 use mathlib.Core.List.{List, [], ◌∷◌, ◌++◌, append_assoc, append-nil}
 use mathlib.Core.Path.{◌≡◌, refl, sym, ap, ◌∙◌}
 use Prim.Native.Nat.{ℕ, zero, suc, ◌+◌, ◌-◌, ◌≤◌, ◌<◌}
-use native.Mathlib.Nat.{add-zero, zero-add, suc-add}
+use native.Mathlib.Nat.{zero-add, suc-add}
 use native.Mathlib.Numerals.{add-one}
 use native.Mathlib.Omega.{arith}
-use lib.ListN.{length, get_or, take, drop, set}
-use lib.Seq.{take-suc, take-suc-set, take_all, drop-nil, drop-set-lt}
+use lib.ListN.{length, take, drop, set}
+use lib.Seq.{take-suc-set, drop-nil}
 use Rattle.text.specs.Inner.Adding.{Adds, Untouched}
 
 -- a byte stored at a place
@@ -23,23 +23,6 @@ pub untouched_later : (t u : List ℕ) (m n : ℕ) → m ≤ n → Untouched t u
 untouched_later t u m n later same =
     let sum : m + (n - m) ≡ n = omega arith in
     ap (λ (k : ℕ). drop k u) (sym sum) ∙ drop_more m (n - m) u ∙ ap (drop (n - m)) same ∙ sym (drop_more m (n - m) t) ∙ ap (λ (k : ℕ). drop k t) sum
-
--- i bytes of a word have been stored
-pub record Begun (w t : List ℕ) (at : ℕ) (u : List ℕ) (i : ℕ) : Type 0 where
-  pub so : take (at + i) u ≡ take at t ++ take i w
-  pub after : Untouched t u (at + i)
-
-pub begun_none : {w t : List ℕ} {at : ℕ} → Begun w t at t 0
-begun_none {w} {t} {at} = record { so = rw (add-zero, append-nil) refl; after = refl }
-
-module _ {w t u : List ℕ} {at i : ℕ} (b : Begun w t at u i) where
-  pub begun_more : i < length w → at + i < length u → Begun w t at (set u (at + i) (get_or w i 0)) (i + 1)
-  begun_more h l =
-      let next : at + (i + 1) ≡ suc (at + i) = omega arith in
-      record { so = rw (next, take-suc-set u (at + i) (get_or w i 0), add-one, take-suc w i 0, ← append_assoc) (ap (λ (l : List ℕ). l ++ get_or w i 0 ∷ []) b.so); after = drop-set-lt (at + (i + 1)) u (at + i) (get_or w i 0) (omega arith) ∙ untouched_later t u (at + i) (at + (i + 1)) (omega arith) b.after }
-
-  pub begun_all : length w ≤ i → Adds w t at u (at + i)
-  begun_all h rest = rw (b.so, take_all i w h, append_assoc) refl
 
 -- one word after another
 pub adds_then : (v w t u x : List ℕ) (at next last : ℕ) → Adds v t at u next → Adds w u next x last → Adds (v ++ w) t at x last

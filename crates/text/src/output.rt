@@ -52,8 +52,6 @@ pub fn word(text: &mut [u8], at: usize, w: &[u8]) -> usize
     ensures { Adds w.now text.old at text.new result × (result ≡ at + length w.now) × Untouched text.old text.new result }
 {
     let n = w.len();
-    for i in 0..n {
-        text[at + i] = w[i];
-    }
+    text[at..at + n].copy_from_slice(w);
     at + n
 }

@@ -6,7 +6,4 @@ use Rattle.allowances.proofs.pairs.first_enough.Given as goal
 
 abbrev pub invariant-loop-y : goal.invariant-loop-y
 invariant-loop-y l =
-    ((l.first ≤ l.y) × (l.y ≤ l.initial.y)) × (l.y < l.initial.y → Enough l.block l.ask.row l.ask.state l.x l.y) × Lent l.block l.ask l.copy l.ways l.ranks
-
-abbrev pub decreases-loop-y : goal.decreases-loop-y
-decreases-loop-y l = l.y
+    ((l.fn.range.first ≤ l.y) × (l.y ≤ l.initial.y)) × (l.y < l.initial.y → Enough l.block l.ask.row l.ask.state l.x l.y) × Lent l.block l.ask l.copy l.ways l.ranks

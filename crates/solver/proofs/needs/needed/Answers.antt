@@ -18,9 +18,6 @@ with_named-w-requires c = record { valid = c.requires.valid; i_bound = (c.requir
 pub loop-j-init : goal.loop-j-init
 loop-j-init c = needs_first c.args.block.now c.requires.valid c.args.i c.requires.i_bound c.with_named-w.ensures
 
-pub overflow_sub-j : goal.overflow_sub-j
-overflow_sub-j c = omega arith
-
 -- the row that is looked at
 below : (c : At-In-loop-j) → (c.loop-j.j - 1 < c.args.i) × (c.loop-j.j ≡ c.loop-j.j - 1 + 1)
 below c = (omega (arith, c.loop-j-test.true, c.loop-j.invariant.few), omega (arith, c.loop-j-test.true))
@@ -31,14 +28,8 @@ has_bit-requires c = omega (arith, (below c.before).0, c.requires.i_bound, c.req
 pub with_named-w-requires-then-has_bit : goal.with_named-w-requires-then-has_bit
 with_named-w-requires-then-has_bit c = record { valid = c.requires.valid; i_bound = (omega (arith, (below c.before.before.before).0, c.requires.i_bound), c.loop-j.invariant.small) }
 
-pub loop-j-smaller-then-has_bit : goal.loop-j-smaller-then-has_bit
-loop-j-smaller-then-has_bit c = omega (arith, c.loop-j-test.true)
-
 pub loop-j-preserved-then-has_bit : goal.loop-j-preserved-then-has_bit
 loop-j-preserved-then-has_bit c = needs_with c.args.block.now c.requires.valid c.args.i c.requires.i_bound c.loop-j.invariant (c.loop-j.j - 1) (below c.before.before.before.before).1 (D.truth c.has_bit.ensures c.if-has_bit.true) c.with_named-w-then-has_bit.ensures
-
-pub loop-j-smaller : goal.loop-j-smaller
-loop-j-smaller c = omega (arith, c.loop-j-test.true)
 
 pub loop-j-preserved : goal.loop-j-preserved
 loop-j-preserved c = needs_skip c.args.block.now c.requires.valid c.args.i c.requires.i_bound c.loop-j.invariant (c.loop-j.j - 1) (below c.before.before.before).1 (D.falsity c.has_bit.ensures c.if-has_bit.false)

@@ -4,6 +4,3 @@ use Rattle.solver.proofs.needs.needed.Given as goal
 
 abbrev pub invariant-loop-j : goal.invariant-loop-j
 invariant-loop-j l = NeedsFrom l.block l.i l.j l.w
-
-abbrev pub decreases-loop-j : goal.decreases-loop-j
-decreases-loop-j l = l.j

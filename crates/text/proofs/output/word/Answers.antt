@@ -1,28 +1,16 @@
--- `word` stores the bytes of a word from the left.
+-- `word` copies the bytes of a word to their place.
+use mathlib.Core.List.{append_assoc}
 use mathlib.Core.Path.{◌≡◌, refl}
+use Prim.Native.Nat.{◌+◌, ◌-◌}
 use native.Mathlib.Omega.{arith}
-use lib.ListN.{length, length-set}
-use Rattle.text.proofs.Adding.{begun_none, begun_more, begun_all}
+use lib.ListN.{length}
+use Rattle.std.proofs.lemmas.Slice.{take-put_mid, drop-put_mid}
 use Rattle.text.proofs.output.word.Goals as goal
 
-pub loop-i-init : goal.loop-i-init
-loop-i-init c = (omega arith, (refl, begun_none))
-
-pub bounds-w-i : goal.bounds-w-i
-bounds-w-i c = omega arith
-
-pub bounds-text-at : goal.bounds-text-at
-bounds-text-at c = omega arith
-
-pub loop-i-smaller : goal.loop-i-smaller
-loop-i-smaller c = omega arith
-
-pub loop-i-preserved : goal.loop-i-preserved
-loop-i-preserved c = (omega arith, (simp length-set (omega arith), begun_more c.loop-i.invariant.1.1 (omega arith) (omega arith)))
-
-pub shape_of-text : goal.shape_of-text
-shape_of-text c = omega arith
-
 pub returns : goal.returns
-returns c = let all : c.loop-i.i ≡ length c.args.w.now = omega arith in
-    (rw all at (begun_all c.loop-i.invariant.1.1 (omega arith)), omega arith, rw all at c.loop-i.invariant.1.1.after)
+returns c =
+    let room = c.requires in
+    let len : length c.copy_from_slice.new.self ≡ length c.args.w.now = omega (arith, c.copy_from_slice.ensures.len) in
+    let begun = take-put_mid c.args.at (c.args.at + length c.args.w.now - c.args.at) c.args.text.now c.copy_from_slice.new.self (c.args.at + length c.args.w.now) (omega arith) (omega arith) in
+    let after = drop-put_mid c.args.at (c.args.at + length c.args.w.now - c.args.at) c.args.text.now c.copy_from_slice.new.self (c.args.at + length c.args.w.now) (omega arith) (omega arith) (omega arith) in
+    (λ rest. rw (begun, c.copy_from_slice.ensures.after, append_assoc) refl, refl, after)
