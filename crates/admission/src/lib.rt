@@ -66,15 +66,8 @@ pub fn no_position(block: &[u8], i: usize, s: usize, stocks: &[u8]) -> bool
     requires i_bound { (i < L.rows block.now) × L.Strategic (L.kind block.now i) × (L.max_resources ≤ length stocks.now) }
     ensures { Decides (NoPosition block.now i s stocks.now) result }
 {
-    if layout::states(block) <= s {
-        return true;
-    }
-    for j in 0..layout::MAX_RESOURCES {
-        if above(block, i, j, wide(stocks[j])) {
-            return true;
-        }
-    }
-    false
+    layout::states(block) <= s
+        || (0..layout::MAX_RESOURCES).any(|j| above(block, i, j, wide(stocks[j])))
 }
 
 // A position of such a row.

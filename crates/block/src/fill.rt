@@ -9,9 +9,7 @@ pub fn zeros(buffer: &mut [u8], at: usize)
     requires { at ≤ length buffer.old }
     ensures { buffer.new ≡ take at buffer.old ++ replicate (length buffer.old - at) 0 }
 {
-    for i in at..buffer.len() {
-        buffer[i] = 0;
-    }
+    buffer[at..].fill(0);
 }
 
 // Working room as a refusal leaves it: under number 1 as it was lent, and else filled with zeros.

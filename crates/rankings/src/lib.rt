@@ -13,13 +13,11 @@ use turns::{buffers, sizes};
 pub fn claims(kind: usize, rank: usize) -> bool
     ensures { Decides (ClaimsBy kind rank) result }
 {
-    if kind == layout::NEXT_KIND {
-        return rank == 1;
+    match kind {
+        layout::NEXT_KIND => rank == 1,
+        layout::ALWAYS_KIND => rank == sizes::NEVER,
+        _ => rank < sizes::NEVER,
     }
-    if kind == layout::ALWAYS_KIND {
-        return rank == sizes::NEVER;
-    }
-    rank < sizes::NEVER
 }
 
 // Whether the opponents aim at an outcome in state q with this rank, from a position of rank own.
@@ -27,13 +25,11 @@ pub fn counters(kind: usize, left: usize, own: usize, q: usize, rank: usize) -> 
     requires { q < set_bits }
     ensures { Decides (CounterBy kind left own q rank) result }
 {
-    if kind == layout::NEXT_KIND {
-        return !buffers::has_bit(left, q);
+    match kind {
+        layout::NEXT_KIND => !buffers::has_bit(left, q),
+        layout::ALWAYS_KIND => rank < own,
+        _ => sizes::NEVER <= rank,
     }
-    if kind == layout::ALWAYS_KIND {
-        return rank < own;
-    }
-    !(rank < sizes::NEVER)
 }
 
 // Whether the row has failed already in state q, at a position of rank own.
@@ -41,14 +37,9 @@ pub fn failed(kind: usize, left: usize, right: usize, own: usize, q: usize) -> b
     requires { q < set_bits }
     ensures { Decides (FailedBy kind left right own q) result }
 {
-    if kind == layout::NEXT_KIND {
-        return false;
+    match kind {
+        layout::NEXT_KIND => false,
+        layout::ALWAYS_KIND => own == 0,
+        _ => !buffers::has_bit(left, q) && !buffers::has_bit(right, q),
     }
-    if kind == layout::ALWAYS_KIND {
-        return own == 0;
-    }
-    if buffers::has_bit(left, q) {
-        return false;
-    }
-    !buffers::has_bit(right, q)
 }

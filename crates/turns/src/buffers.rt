@@ -13,9 +13,7 @@ pub fn rank_at(ranks: &[u8], p: usize) -> usize
     requires { 2 * p + 1 < length ranks.now }
     ensures { (result ≡ rank_in ranks.now p) × (result < rank_end) }
 {
-    let low = wide(ranks[2 * p]);
-    let high = wide(ranks[2 * p + 1]);
-    low + 256 * high
+    u16::from_le_bytes([ranks[2 * p], ranks[2 * p + 1]]) as usize
 }
 
 // Stores the rank of position p.
@@ -23,8 +21,7 @@ pub fn set_rank(ranks: &mut [u8], p: usize, v: usize)
     requires { (2 * p + 1 < length ranks.old) × (v < rank_end) }
     ensures { Stored rank_in ranks.old ranks.new p v }
 {
-    ranks[2 * p] = (v % 256) as u8;
-    ranks[2 * p + 1] = (v / 256 % 256) as u8;
+    ranks[2 * p..2 * p + 2].copy_from_slice(&(v as u16).to_le_bytes());
 }
 
 // Lowers the rank of position p to v, unless it is as low already. Tells whether it did.
@@ -44,11 +41,12 @@ pub fn word_at(sets: &[u8], i: usize) -> usize
     requires { 4 * i + 3 < length sets.now }
     ensures { (result ≡ word_in sets.now i) × (result < 2 ^ set_bits) }
 {
-    let b0 = wide(sets[4 * i]);
-    let b1 = wide(sets[4 * i + 1]);
-    let b2 = wide(sets[4 * i + 2]);
-    let b3 = wide(sets[4 * i + 3]);
-    b0 + 256 * b1 + 65536 * b2 + 16777216 * b3
+    u32::from_le_bytes([
+        sets[4 * i],
+        sets[4 * i + 1],
+        sets[4 * i + 2],
+        sets[4 * i + 3],
+    ]) as usize
 }
 
 // Stores the set of row i.
@@ -56,10 +54,7 @@ pub fn set_word(sets: &mut [u8], i: usize, w: usize)
     requires { (4 * i + 3 < length sets.old) × (w < 2 ^ set_bits) }
     ensures { Stored word_in sets.old sets.new i w }
 {
-    sets[4 * i] = (w % 256) as u8;
-    sets[4 * i + 1] = (w / 256 % 256) as u8;
-    sets[4 * i + 2] = (w / 65536 % 256) as u8;
-    sets[4 * i + 3] = (w / 16777216 % 256) as u8;
+    sets[4 * i..4 * i + 4].copy_from_slice(&(w as u32).to_le_bytes());
 }
 
 // A set of states of three bytes, the i-th of a buffer.
@@ -67,10 +62,7 @@ pub fn narrow_at(sets: &[u8], i: usize) -> usize
     requires { 3 * i + 2 < length sets.now }
     ensures { (result ≡ narrow_in sets.now i) × (result < 2 ^ narrow_bits) }
 {
-    let b0 = wide(sets[3 * i]);
-    let b1 = wide(sets[3 * i + 1]);
-    let b2 = wide(sets[3 * i + 2]);
-    b0 + 256 * b1 + 65536 * b2
+    u32::from_le_bytes([sets[3 * i], sets[3 * i + 1], sets[3 * i + 2], 0]) as usize
 }
 
 // Stores it.
@@ -78,9 +70,7 @@ pub fn set_narrow(sets: &mut [u8], i: usize, w: usize)
     requires { (3 * i + 2 < length sets.old) × (w < 2 ^ narrow_bits) }
     ensures { Stored narrow_in sets.old sets.new i w }
 {
-    sets[3 * i] = (w % 256) as u8;
-    sets[3 * i + 1] = (w / 256 % 256) as u8;
-    sets[3 * i + 2] = (w / 65536 % 256) as u8;
+    sets[3 * i..3 * i + 3].copy_from_slice(&(w as u32).to_le_bytes()[..3]);
 }
 
 // Whether the word w has bit s.
@@ -96,8 +86,5 @@ pub fn with_bit(w: usize, s: usize) -> usize
     requires { (s < set_bits) × (w < 2 ^ set_bits) }
     ensures { ((n : ℕ) → s < n → w < 2 ^ n → result < 2 ^ n) × ((x : ℕ) → Bit result x ↔ (Bit w x ⊎ (x ≡ s))) }
 {
-    if has_bit(w, s) {
-        return w;
-    }
-    w + (1 << s)
+    w | 1 << s
 }

@@ -25,12 +25,10 @@ fn combined(kind: usize, x: i32, y: i32) -> i32
     ensures { result ≡ combined_cost kind x y }
 {
     if kind == layout::SUM_KIND {
-        return x + y;
+        x + y
+    } else {
+        x.max(y)
     }
-    if x < y {
-        return y;
-    }
-    x
 }
 
 // What the move m of a team costs of resource j in state s: the costs of the team's agents, combined; less than nothing where it gives.
@@ -61,14 +59,7 @@ pub fn joint_actions(block: &[u8]) -> usize
     requires { Valid block.now }
     ensures { (result ≡ max_actions ^ agents block.now) × (result ≤ max_joint) }
 {
-    let n = layout::agents(block);
-    if n == 1 {
-        return 4;
-    }
-    if n == 2 {
-        return 16;
-    }
-    layout::JOINT_ACTIONS
+    1 << (2 * layout::agents(block))
 }
 
 // Whether m is the number of a move of a team in state s: it is the team's part of itself, and a joint action that can be done there.

@@ -72,30 +72,21 @@ fn net(block: &[u8], i: usize, s: usize, m: usize, j: usize) -> i32
 fn positive(c: i32) -> usize
     ensures { result ≡ C.positive c }
 {
-    if c < 0 {
-        return 0;
-    }
-    c as usize
+    c.max(0) as usize
 }
 
 fn negative(c: i32) -> usize
     requires { C.negative c ≤ L.max_agents * L.max_units }
     ensures { result ≡ C.negative c }
 {
-    if c < 0 {
-        return (0 - c) as usize;
-    }
-    0
+    (-c).max(0) as usize
 }
 
 // The smaller of two numbers.
 pub fn smaller(a: usize, b: usize) -> usize
     ensures { result ≡ min a b }
 {
-    if a < b {
-        return a;
-    }
-    b
+    a.min(b)
 }
 
 // What the move m of row i's team takes of resource j in state s.

@@ -1,31 +1,27 @@
--- `with_bit` adds the bit where the word does not have it.
-use mathlib.Core.Logic.{inl, ⊎_elim}
-use mathlib.Core.Path.{◌≡◌}
-use Prim.Native.Nat.{◌*◌, ◌%◌, ◌^◌, ◌≤◌}
+-- `with_bit` adds the bit.
+use mathlib.Core.Logic.{◌↔◌, ◌⊎◌, inl, inr, ⊎_elim}
+use mathlib.Core.Path.{◌≡◌, sym, ◌∙◌, subst}
+use Prim.Native.Nat.{ℕ, ◌*◌, ◌%◌, ◌^◌, ◌<◌}
 use native.Mathlib.Omega.{arith}
-use lib.Pow.{pow_mono, shl_exact}
-use Rattle.block.proofs.Decide as D
-use Rattle.turns.proofs.Bytes.{bit_besides, bits_short}
+use Rattle.std.specs.Int.{w64}
+use Rattle.std.specs.Int.Bits.{bit_or}
+use Rattle.std.proofs.lemmas.Nat.Bits.{bit_at_set_same, bit_at_set_other}
+use Rattle.block.specs.Decide.{Bit}
+use Rattle.turns.proofs.Bytes.{bits_short}
+use Rattle.game.proofs.Numbers.Decide.{eq?}
 use Rattle.turns.proofs.buffers.with_bit.Goals as goal
-use Rattle.turns.proofs.buffers.with_bit.Lts as lts
-use Rattle.turns.proofs.buffers.with_bit.Reads as reads
-use Rattle.turns.proofs.buffers.with_bit.Tie as tie
 
-abbrev At-Start : Type 0
-At-Start = lts.Start tie.the-claims reads.Pre reads.Post
+module _ (w s : ℕ) (within : s < 64) where
+  abbrev more : ℕ
+  more = bit_or w (1 * 2 ^ s % 18446744073709551616)
 
--- the bit's value fits
-power : (c : At-Start) → 1 * 2 ^ c.args.s % 18446744073709551616 ≡ 2 ^ c.args.s
-power c = omega (arith, shl_exact {a = 1} 1 c.args.s 64 (omega arith) (omega arith))
-
-pub returns-then-has_bit : goal.returns-then-has_bit
-returns-then-has_bit c = let has = D.truth c.has_bit.ensures c.if-has_bit.true in
-    ((λ n _ small. small), λ x. ((λ one. inl one), ⊎_elim (λ one. one) (λ e. rw e has)))
-
-pub overflow_add-result : goal.overflow_add-result
-overflow_add-result c = let bound : 2 ^ c.args.s ≤ 2 ^ 32 = pow_mono {j = 32} (omega arith) in
-    record { fits = omega (arith, power c.before.before) }
+  bits : (x : ℕ) → Bit more x ↔ (Bit w x ⊎ (x ≡ s))
+  bits x = go (eq? x s)
+    where
+      go : Dec (x ≡ s) → Bit more x ↔ (Bit w x ⊎ (x ≡ s))
+      go (yes e) = (λ _. inr e, λ _. subst (Bit more) (sym e) (bit_at_set_same w64 w s within))
+      go (no ne) = let same = bit_at_set_other w64 w s within x ne in
+          (λ one. inl (sym same ∙ one), ⊎_elim (λ one. same ∙ one) (λ e. absurd (ne e)))
 
 pub returns : goal.returns
-returns c = let bits = bit_besides c.args.w c.args.s (D.falsity c.has_bit.ensures c.if-has_bit.false) in
-    rw (power c.before.before) (bits_short bits, bits)
+returns c = let bits = bits c.args.w c.args.s (omega arith) in (bits_short bits, bits)

@@ -1,25 +1,16 @@
--- `joint_actions` knows the powers of four.
-use mathlib.Core.Path.{◌≡◌, sym, ◌∙◌, ap}
-use Prim.Native.Nat.{ℕ, ◌^◌}
+-- `joint_actions` raises four to the number of agents by a shift.
+use mathlib.Core.Path.{◌≡◌, refl}
+use Prim.Native.Nat.{ℕ, zero, suc, ◌*◌, ◌%◌, ◌^◌, ◌≤◌}
 use native.Mathlib.Omega.{arith}
-use Rattle.block.specs.Layout as L
 use Rattle.turns.proofs.moves.joint_actions.Goals as goal
-use Rattle.turns.proofs.moves.joint_actions.Lts as lts
-use Rattle.turns.proofs.moves.joint_actions.Reads as reads
-use Rattle.turns.proofs.moves.joint_actions.Tie as tie
 
-abbrev At-Start : Type 0
-At-Start = lts.Start tie.the-claims reads.Pre reads.Post
-
--- the power for a number of agents that is known
-power : (start : At-Start) (n : ℕ) → L.agents start.args.block.now ≡ n → 4 ^ n ≡ 4 ^ L.agents start.args.block.now
-power start n e = ap (λ (k : ℕ). 4 ^ k) (sym e)
-
-pub returns-then-n-eq1 : goal.returns-then-n-eq1
-returns-then-n-eq1 c = (power c.before.before.before.before 1 (sym c.agents-n.ensures ∙ c.if-n-eq1.true), omega arith)
-
-pub returns-then-n-eq2 : goal.returns-then-n-eq2
-returns-then-n-eq2 c = (power c.before.before.before.before.before 2 (sym c.agents-n.ensures ∙ c.if-n-eq2.true), omega arith)
+-- there are at most three agents
+power : (n : ℕ) → n ≤ 3 → (1 * 2 ^ (2 * n) % 18446744073709551616 ≡ 4 ^ n) × (4 ^ n ≤ 64)
+power zero h = (refl, omega arith)
+power (suc zero) h = (refl, omega arith)
+power (suc (suc zero)) h = (refl, omega arith)
+power (suc (suc (suc zero))) h = (refl, omega arith)
+power (suc (suc (suc (suc n)))) h = absurd (omega arith)
 
 pub returns : goal.returns
-returns c = (power c.before.before.before.before.before 3 (omega (arith, c.agents-n.ensures, c.if-n-eq1.false, c.if-n-eq2.false, c.requires.sized.agents_fit)), omega arith)
+returns c = let few = power c.agents.result (omega arith) in rw (few.0, c.agents.ensures) (refl, rw c.agents.ensures at few.1)
