@@ -1,7 +1,7 @@
 // A field with spellings of its own, by the leaves of its sort.
 ghost use Rattle.std.specs.Prelude.{◌≡◌, ◌≤◌, ◌<◌, length, drop};
 ghost use Rattle.text.specs.Numeral.{numbers, search};
-ghost use Rattle.tokens.specs.Inner.Found.{found_at, InsideNumeral};
+ghost use Rattle.tokens.specs.Inner.Found.{found_at, InsideFound};
 ghost use Rattle.spellings.specs.Inner.Spelled.{spelling_of};
 
 use crate::bounds::{bound_allowed, bound_at, bound_byte};
@@ -9,7 +9,7 @@ use crate::costs::{cost_allowed, cost_at, cost_byte, cost_refusal};
 use crate::kinds::{kind_at, resource_at};
 use block::refusal::Refusal;
 use text::sizes::Edition;
-use tokens::numeral::Numeral;
+use tokens::numeral::Found;
 
 // A field with spellings of its own: a bound, the word of a row, the kind of a resource before so many further ones, and
 // the cost in a resource of a kind, of an action, before so many further ones.
@@ -22,10 +22,10 @@ pub enum Spelled {
 }
 
 // The spelling that stands at a place of the text.
-pub fn spelling_at(text: &[u8], at: usize, what: Spelled) -> Numeral
+pub fn spelling_at(text: &[u8], at: usize, what: Spelled) -> Option<Found>
     requires { at ≤ length text.now }
     ensures text_value { search (spelling_of what).spell (spelling_of what).options (drop at text.now) ≡ found_at text.now result }
-    ensures inside_numeral { InsideNumeral text.now result }
+    ensures inside_found { InsideFound text.now result }
 {
     match what {
         Spelled::Bound => bound_at(text, at),

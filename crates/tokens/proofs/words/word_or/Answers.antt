@@ -12,7 +12,7 @@ use Rattle.tokens.proofs.words.word_or.Goals as goal
 pub returns-then-stands : goal.returns-then-stands
 returns-then-stands c = let s = D.truth c.stands.ensures c.if-stands.true in
     let r = room_for c.args.word.now c.args.text.now c.args.at s in
-    record { result_value = sym (after_found c.args.k c.args.word.now (drop c.args.at c.args.text.now) s.0 _ s.1 ∙ ap (found c.args.k) (rest_is c.args.word.now c.args.text.now c.args.at s)); inside_numeral = omega arith }
+    record { result_value = sym (after_found c.args.k c.args.word.now (drop c.args.at c.args.text.now) s.0 _ s.1 ∙ ap (found c.args.k) (rest_is c.args.word.now c.args.text.now c.args.at s)); inside_found = omega arith }
 
 pub returns : goal.returns
-returns c = record { result_value = sym (after_other c.args.k c.args.word.now (drop c.args.at c.args.text.now) _ (D.falsity c.stands.ensures c.if-stands.false)); inside_numeral = search rules }
+returns c = record { result_value = sym (after_other c.args.k c.args.word.now (drop c.args.at c.args.text.now) _ (D.falsity c.stands.ensures c.if-stands.false)); inside_found = search rules }
