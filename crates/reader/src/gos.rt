@@ -79,7 +79,7 @@ fn next_field(
 {
     let acted = go_actions(text, at, z, s, joint)?;
     let range = Range {
-        sep: next_end(z.edition, counts, joint) as usize,
+        sep: usize::from(next_end(z.edition, counts, joint)),
         low: 0,
         limit: z.states,
         refusal: Refusal::Next,
@@ -104,9 +104,10 @@ fn next_field_if(
     ensures inside_2 { Inside text.now result }
 {
     if possible(counts, joint) {
-        return next_field(text, at, job, z, s, counts, joint);
+        next_field(text, at, job, z, s, counts, joint)
+    } else {
+        Ok(at)
     }
-    Ok(at)
 }
 
 // The next states of a state.

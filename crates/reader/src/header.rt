@@ -95,7 +95,7 @@ pub fn header(text: &[u8], job: &mut [u8], e: Edition) -> Result<Valued<Sizes>, 
         COMMA,
         MAX_PROPOSITIONS,
     )?;
-    let sep = sizes_end(e) as usize;
+    let sep = usize::from(sizes_end(e));
     let w = size(text, p.next, job, ROWS_BYTE, sep, MAX_ROWS)?;
     let kinds = resources(text, w.next, job, e, r.value)?;
     let told = kinds.value;

@@ -30,9 +30,10 @@ fn edition(text: &[u8]) -> Edition
     ensures { result ≡ edition_of text.now }
 {
     if text.starts_with(b"job2,") {
-        return Edition::Second;
+        Edition::Second
+    } else {
+        Edition::First
     }
-    Edition::First
 }
 
 // All lines of the text.

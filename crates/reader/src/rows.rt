@@ -56,10 +56,7 @@ fn team(text: &[u8], at: usize, job: &mut [u8], z: Sizes, i: usize, k: usize) ->
 fn left_end(k: usize) -> usize
     ensures { (result ≡ cond (J.binary k) comma line_end) × Ends result }
 {
-    if binary(k) {
-        return COMMA;
-    }
-    LINE_END
+    if binary(k) { COMMA } else { LINE_END }
 }
 
 // What the left field must be below: the propositions or the row itself.
@@ -67,9 +64,10 @@ fn left_limit(propositions: usize, i: usize, k: usize) -> usize
     ensures { result ≡ cond (eqb k prop_kind) propositions i }
 {
     if k == layout::PROP_KIND {
-        return propositions;
+        propositions
+    } else {
+        i
     }
-    i
 }
 
 // The right field, where the kind has one.

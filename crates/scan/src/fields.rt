@@ -14,7 +14,7 @@ use block::layout;
 use block::layout::Place;
 use block::refusal::Refusal;
 use spellings::spelled::{Spelled, allowed, byte_of, refusal_of, spelling_at};
-use text::{COMMA, NUMBERS};
+use text::COMMA;
 use tokens::numeral::number;
 use tokens::words::word_or;
 
@@ -56,7 +56,7 @@ fn put(job: &mut [u8], x: Place, v: usize)
     ensures { job.new ≡ set job.old (place_of x) v }
 {
     let p = layout::offset(x);
-    job[p] = (v % NUMBERS) as u8;
+    job[p] = v as u8;
 }
 
 // A number of a range, stored at a place of the block.

@@ -18,20 +18,14 @@ const COST_LIMIT: usize = layout::MAX_UNITS + 1;
 fn cost_limit(k: usize) -> usize
     ensures { result ≡ J.cost_limit k }
 {
-    if k == 0 {
-        return 1;
-    }
-    COST_LIMIT
+    if k == 0 { 1 } else { COST_LIMIT }
 }
 
 // The units that it takes or gives.
 fn cost_units(o: usize) -> usize
     ensures { result ≡ J.cost_units o }
 {
-    if o < NUMBERS {
-        return o;
-    }
-    o - LAST_NUMBER
+    if o < NUMBERS { o } else { o - LAST_NUMBER }
 }
 
 // Whether it may stand there, as a cost of action k in a resource of a kind.
@@ -46,9 +40,10 @@ pub fn cost_refusal(k: usize, o: usize) -> Refusal
     ensures { result ≡ (J.cost_spelling Edition.Second 0 k 0).refusal o }
 {
     if cost_units(o) < cost_limit(k) {
-        return Refusal::Charge;
+        Refusal::Charge
+    } else {
+        Refusal::State
     }
-    Refusal::State
 }
 
 // The byte that it stands for.
@@ -57,9 +52,10 @@ pub fn cost_byte(o: usize) -> usize
     ensures { (result ≡ (J.cost_spelling Edition.Second 0 0 0).byte o) × (result < numbers) }
 {
     if o < NUMBERS {
-        return o;
+        o
+    } else {
+        layout::BYTE_VALUES - (o - LAST_NUMBER)
     }
-    layout::BYTE_VALUES - (o - LAST_NUMBER)
 }
 
 // The spelling of a cost, before left further ones: edition 1 has numbers only.
@@ -68,7 +64,7 @@ pub fn cost_at(text: &[u8], at: usize, e: Edition, left: usize) -> Option<Found>
     ensures text_value { search (J.cost_spelling e 0 0 left).spell (J.cost_spellings e) (drop at text.now) ≡ found_at text.now result }
     ensures inside_found { InsideFound text.now result }
 {
-    let sep = list_end(left) as usize;
+    let sep = usize::from(list_end(left));
     match e {
         Edition::First => number(text, at, sep),
         Edition::Second => signed(text, at, sep),

@@ -7,7 +7,6 @@ ghost use Rattle.text.specs.declared.sizes.Edition.TheVariants as Edition;
 ghost use Rattle.text.specs.Job as J;
 ghost use Rattle.tokens.specs.Inner.Found.{found_at, InsideFound};
 
-use block::widths::wide;
 use text::{LAST_NUMBER, MINUS, NINE, NUMBERS, ZERO};
 
 // A number and the place after it and its comma or line end.
@@ -21,7 +20,7 @@ pub struct Found {
 pub fn byte(text: &[u8], at: usize) -> usize
     ensures { result ≡ get_or text.now at 0 }
 {
-    text.get(at).map_or(0, |x| wide(*x))
+    text.get(at).map_or(0, |x| usize::from(*x))
 }
 
 fn is_digit(x: usize) -> bool

@@ -14,8 +14,8 @@ returns-then-starts_with c =
     let is = starts_is Decides-eqb t (job_word Second) c.starts_with.result c.starts_with.ensures.value in
     sym (ap told_by (after_found 0 (job_word Second) t _ _ (is.0 c.if-starts_with.true)))
 
-pub returns : goal.returns
-returns c =
+pub returns-else-starts_with : goal.returns-else-starts_with
+returns-else-starts_with c =
     let t = c.args.text.now in
     let is = starts_is Decides-eqb t (job_word Second) c.starts_with.result c.starts_with.ensures.value in
     sym (ap told_by (after_other 0 (job_word Second) t _ (λ s. let z = sym c.if-starts_with.false ∙ is.1 s.0 s.1 in cc)))

@@ -76,7 +76,7 @@ returns-in_err-p-clause-text_value c =
 pub returns-in_err-w-clause-text_value : goal.returns-in_err-w-clause-text_value
 unfolding J.header_line
 returns-in_err-w-clause-text_value c =
-    let rows_read = rw c.sizes_end-sep.ensures.0 at c.in_err-w.ensures.by_index in
+    let rows_read = rw (c.from-sep.ensures, c.sizes_end.ensures.0) at c.in_err-w.ensures.by_index in
     λ f. c.in_ok-named.ensures.text_value (from_agents c.args.e f) c.args.job.now
     ∙ c.in_ok-n.ensures.by_index (from_resources c.args.e f)
     ∙ c.in_ok-r.ensures.by_index (from_states c.args.e f c.in_ok-n.n.value)
@@ -88,7 +88,7 @@ returns-in_err-w-clause-text_value c =
 pub returns-in_err-kinds-clause-text_value : goal.returns-in_err-kinds-clause-text_value
 unfolding J.header_line
 returns-in_err-kinds-clause-text_value c =
-    let rows_read = rw c.sizes_end-sep.ensures.0 at c.in_ok-w.ensures.by_index in
+    let rows_read = rw (c.from-sep.ensures, c.sizes_end.ensures.0) at c.in_ok-w.ensures.by_index in
     λ f. c.in_ok-named.ensures.text_value (from_agents c.args.e f) c.args.job.now
     ∙ c.in_ok-n.ensures.by_index (from_resources c.args.e f)
     ∙ c.in_ok-r.ensures.by_index (from_states c.args.e f c.in_ok-n.n.value)
@@ -101,7 +101,7 @@ returns-in_err-kinds-clause-text_value c =
 pub returns-clause-text_value : goal.returns-clause-text_value
 unfolding J.header_line
 returns-clause-text_value c =
-    let rows_read = rw c.sizes_end-sep.ensures.0 at c.in_ok-w.ensures.by_index in
+    let rows_read = rw (c.from-sep.ensures, c.sizes_end.ensures.0) at c.in_ok-w.ensures.by_index in
     λ f. c.in_ok-named.ensures.text_value (from_agents c.args.e f) c.args.job.now
     ∙ c.in_ok-n.ensures.by_index (from_resources c.args.e f)
     ∙ c.in_ok-r.ensures.by_index (from_states c.args.e f c.in_ok-n.n.value)
