@@ -88,28 +88,6 @@ fn next_field(
     Ok(state.next)
 }
 
-// The same, where the joint action can be done.
-fn next_field_if(
-    text: &[u8],
-    at: usize,
-    job: &mut [u8],
-    z: Sizes,
-    s: usize,
-    counts: [usize; layout::MAX_AGENTS],
-    joint: usize,
-) -> Result<usize, Stop>
-    requires inside { (at ≤ length text.now) × (length job.old ≡ block_bytes) }
-    requires fitting { Fitting z × ((s < max_states) × (joint < max_joint)) }
-    ensures job_value { (f : Format) → read (cond (J.possible counts joint) (J.next_field z s counts joint f) f) job.old (drop at text.now) ≡ resume text.now result (read f job.new) }
-    ensures inside_2 { Inside text.now result }
-{
-    if possible(counts, joint) {
-        next_field(text, at, job, z, s, counts, joint)
-    } else {
-        Ok(at)
-    }
-}
-
 // The next states of a state.
 pub fn gos(
     text: &[u8],
@@ -126,7 +104,9 @@ pub fn gos(
 {
     let mut next = go_state(text, at, z, s)?;
     for joint in 0..layout::JOINT_ACTIONS {
-        next = next_field_if(text, next, job, z, s, counts, joint)?;
+        if possible(counts, joint) {
+            next = next_field(text, next, job, z, s, counts, joint)?;
+        }
     }
     Ok(next)
 }

@@ -16,7 +16,7 @@ use block::refusal::Refusal;
 use spellings::spelled::{Spelled, allowed, byte_of, refusal_of, spelling_at};
 use text::COMMA;
 use tokens::numeral::number;
-use tokens::words::word_or;
+use tokens::words;
 
 // The refusal of a field that does not have the form.
 fn bad_form(at: usize) -> Stop
@@ -32,7 +32,7 @@ pub fn word(text: &[u8], at: usize, word: &[u8]) -> Result<usize, Stop>
     ensures text_value { (f : Format) (b : Block) → read (exactly word.now f) b (drop at text.now) ≡ resume text.now result (read f b) }
     ensures inside { Inside text.now result }
 {
-    let found = word_or(text, at, word, 0, None).ok_or(bad_form(at))?;
+    let found = words::word(text, at, word, 0).ok_or(bad_form(at))?;
     Ok(found.next)
 }
 

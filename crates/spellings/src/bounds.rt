@@ -7,7 +7,7 @@ ghost use Rattle.tokens.specs.Inner.Found.{found_at, InsideFound};
 use block::layout;
 use text::{COMMA, NUMBERS};
 use tokens::numeral::{Found, number};
-use tokens::words::word_or;
+use tokens::words::word;
 
 // The spellings of a bound past those of the numbers: inf, and nothing.
 const INF_BOUND: usize = NUMBERS;
@@ -39,7 +39,7 @@ pub fn bound_at(text: &[u8], at: usize) -> Option<Found>
     ensures text_value { search (J.bound).spell J.bound_spellings (drop at text.now) ≡ found_at text.now result }
     ensures inside_found { InsideFound text.now result }
 {
-    let n = number(text, at, COMMA);
-    let inf = word_or(text, at, b"inf,", INF_BOUND, n);
-    word_or(text, at, b",", EMPTY_BOUND, inf)
+    word(text, at, b",", EMPTY_BOUND)
+        .or(word(text, at, b"inf,", INF_BOUND))
+        .or(number(text, at, COMMA))
 }

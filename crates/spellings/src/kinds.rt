@@ -9,7 +9,7 @@ ghost use Rattle.tokens.specs.Inner.Found.{found_at, InsideFound};
 use block::layout;
 use text::sizes::Edition;
 use tokens::numeral::Found;
-use tokens::words::word_or;
+use tokens::words::word;
 
 // The word of a row that stands there.
 pub fn kind_at(text: &[u8], at: usize) -> Option<Found>
@@ -17,12 +17,12 @@ pub fn kind_at(text: &[u8], at: usize) -> Option<Found>
     ensures text_value { search J.kind_word kinds (drop at text.now) ≡ found_at text.now result }
     ensures inside_found { InsideFound text.now result }
 {
-    let a = word_or(text, at, b"prop,", layout::PROP_KIND, None);
-    let b = word_or(text, at, b"not,", layout::NOT_KIND, a);
-    let c = word_or(text, at, b"or,", layout::OR_KIND, b);
-    let d = word_or(text, at, b"next,", layout::NEXT_KIND, c);
-    let e = word_or(text, at, b"always,", layout::ALWAYS_KIND, d);
-    word_or(text, at, b"until,", layout::UNTIL_KIND, e)
+    word(text, at, b"until,", layout::UNTIL_KIND)
+        .or(word(text, at, b"always,", layout::ALWAYS_KIND))
+        .or(word(text, at, b"next,", layout::NEXT_KIND))
+        .or(word(text, at, b"or,", layout::OR_KIND))
+        .or(word(text, at, b"not,", layout::NOT_KIND))
+        .or(word(text, at, b"prop,", layout::PROP_KIND))
 }
 
 // The kind of a resource, before left further ones. Edition 1 has no word for it, and each is sum.
@@ -46,9 +46,9 @@ fn resource_word(text: &[u8], at: usize, left: usize) -> Option<Found>
     ensures inside_found { InsideFound text.now result }
 {
     if left == 0 {
-        let sum = word_or(text, at, b"sum\n", layout::SUM_KIND, None);
-        return word_or(text, at, b"max\n", layout::MAX_KIND, sum);
+        let sum = word(text, at, b"sum\n", layout::SUM_KIND);
+        return word(text, at, b"max\n", layout::MAX_KIND).or(sum);
     }
-    let sum = word_or(text, at, b"sum,", layout::SUM_KIND, None);
-    word_or(text, at, b"max,", layout::MAX_KIND, sum)
+    let sum = word(text, at, b"sum,", layout::SUM_KIND);
+    word(text, at, b"max,", layout::MAX_KIND).or(sum)
 }

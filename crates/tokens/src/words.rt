@@ -1,7 +1,7 @@
 // Fixed words in the text.
 ghost use Rattle.std.specs.Prelude.{◌≡◌, ◌≤◌, length, drop};
 ghost use Rattle.block.specs.Inner.Tests.{Decides};
-ghost use Rattle.text.specs.Numeral.{Starts, after};
+ghost use Rattle.text.specs.Numeral.{Starts, missing, after};
 ghost use Rattle.tokens.specs.Inner.Found.{found_at, InsideFound};
 
 use crate::numeral::Found;
@@ -14,17 +14,15 @@ pub fn stands(text: &[u8], at: usize, word: &[u8]) -> bool
     text[at..].starts_with(word)
 }
 
-// Spelling k, where the word stands at a place of the text; else the other.
-pub fn word_or(text: &[u8], at: usize, word: &[u8], k: usize, other: Option<Found>) -> Option<Found>
-    requires { (at ≤ length text.now) × InsideFound text.now other }
-    ensures result_value { found_at text.now result ≡ after k word.now (drop at text.now) (found_at text.now other) }
+// Spelling k, where the word stands at a place of the text.
+pub fn word(text: &[u8], at: usize, word: &[u8], k: usize) -> Option<Found>
+    requires { at ≤ length text.now }
+    ensures result_value { found_at text.now result ≡ after k word.now (drop at text.now) missing }
     ensures inside_found { InsideFound text.now result }
 {
-    if stands(text, at, word) {
-        return Some(Found {
-            number: k,
-            next: at + word.len(),
-        });
+    if !stands(text, at, word) {
+        return None;
     }
-    other
+    let next = at + word.len();
+    Some(Found { number: k, next })
 }
