@@ -31,7 +31,8 @@ fn cost(
 ) -> Result<usize, Stop>
     requires inside { (at ≤ length text.now) × (length job.old ≡ block_bytes) }
     requires state_lt_max_states { (who.state < max_states) × (who.agent < max_agents) × (k < max_actions) × (j < max_resources) }
-    ensures job_value { (f : Format) → read (value (J.cost_spelling z.edition (get_or z.kinds j sum_kind) k left) (Place.Cost who.state who.agent k j) (λ v. f)) job.old (drop at text.now) ≡ resume text.now result (read f job.new) }
+    ensures job_value { (f : Format) → read (value (J.cost_spelling z.edition (get_or z.kinds j sum_kind) k left) (Place.Cost who.state who.agent k j) (λ v. f)) job.old (drop at text.now)
+        ≡ resume text.now result (read f job.new) }
     ensures inside_2 { Inside text.now result }
 {
     let place = Place::Cost(who.state, who.agent, k, j);

@@ -74,7 +74,8 @@ fn left_limit(propositions: usize, i: usize, k: usize) -> usize
 fn right(text: &[u8], at: usize, job: &mut [u8], i: usize, k: usize) -> Result<usize, Stop>
     requires inside { (at ≤ length text.now) × (length job.old ≡ block_bytes) }
     requires i_lt_max_rows { i < max_rows }
-    ensures job_value { (f : Format) → read (cond (J.binary k) (value (J.number line_end 0 i Refusal.Row) (Place.Field i right_byte) (λ v. f)) f) job.old (drop at text.now) ≡ resume text.now result (read f job.new) }
+    ensures job_value { (f : Format) → read (cond (J.binary k) (value (J.number line_end 0 i Refusal.Row) (Place.Field i right_byte) (λ v. f)) f) job.old (drop at text.now)
+        ≡ resume text.now result (read f job.new) }
     ensures inside_2 { Inside text.now result }
 {
     if !binary(k) {

@@ -37,7 +37,8 @@ fn state_line(text: &[u8], at: usize, job: &mut [u8], z: Sizes, s: usize) -> Res
 fn moves(text: &[u8], at: usize, job: &mut [u8], z: Sizes, s: usize) -> Result<usize, Stop>
     requires inside { (at ≤ length text.now) × (length job.old ≡ block_bytes) }
     requires fitting { Fitting z × (s < max_states) }
-    ensures job_value { (f : Format) → read (J.agent_lines z s z.agents 0 J.no_counts (λ counts. J.go_state z s (J.next_fields z s counts max_joint 0 f))) job.old (drop at text.now) ≡ resume text.now result (read f job.new) }
+    ensures job_value { (f : Format) → read (J.agent_lines z s z.agents 0 J.no_counts (λ counts. J.go_state z s (J.next_fields z s counts max_joint 0 f))) job.old (drop at text.now)
+        ≡ resume text.now result (read f job.new) }
     ensures inside_2 { Inside text.now result }
 {
     let agents = z.agents;

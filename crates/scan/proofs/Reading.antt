@@ -29,6 +29,7 @@ pub stopped : (t : List ℕ) (r : Result ℕ Stop) (stop : Stop) (k : List ℕ �
 stopped t (Ok next) stop k same = elim same [ ]
 stopped t (Err e) stop k same = ap (λ (s : Stop). refused s.refusal (drop s.at t)) (sym same)
 
-pub stopped_with : {A : Type 0} (t : List ℕ) (r : Result (Valued A) Stop) (stop : Stop) (k : A → List ℕ → Outcome) → IsErrAnd r (λ e. e ≡ stop) → refused stop.refusal (drop stop.at t) ≡ resume_with t r k
+pub stopped_with : {A : Type 0} (t : List ℕ) (r : Result (Valued A) Stop) (stop : Stop) (k : A → List ℕ → Outcome) → IsErrAnd r (λ e. e ≡ stop) →
+    refused stop.refusal (drop stop.at t) ≡ resume_with t r k
 stopped_with {A = A} t (Ok v) stop k same = elim same [ ]
 stopped_with {A = A} t (Err e) stop k same = ap (λ (s : Stop). refused s.refusal (drop s.at t)) (sym same)

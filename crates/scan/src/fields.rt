@@ -69,7 +69,8 @@ pub fn field(
 ) -> Result<Valued<usize>, Stop>
     requires at_in_bounds { (at ≤ length text.now) × Ends range.sep }
     requires job_len { (length job.old ≡ block_bytes) × InLayout x }
-    ensures by_index { (k : ℕ → Format) → read (value (J.number range.sep range.low range.limit range.refusal) x k) job.old (drop at text.now) ≡ resume_with text.now result (λ v rest. read (k v) job.new rest) }
+    ensures by_index { (k : ℕ → Format) → read (value (J.number range.sep range.low range.limit range.refusal) x k) job.old (drop at text.now)
+        ≡ resume_with text.now result (λ v rest. read (k v) job.new rest) }
     ensures inside_with { InsideWith text.now result }
     ensures ranged { Ranged range.low range.limit result }
 {

@@ -2,7 +2,7 @@
 -- Assumes nothing.
 use mathlib.Core.Bool.{Bool, true, false, cond}
 use mathlib.Core.List.{List, [], ◌∷◌}
-use mathlib.Core.Path.{◌≡◌, refl, sym, ap, ◌∙◌}
+use mathlib.Core.Path.{◌≡◌, refl, sym, ap, subst, ◌∙◌}
 use Prim.Native.Nat.{ℕ, ◌+◌, ◌-◌, ◌≤◌}
 use native.Mathlib.Omega.{arith}
 use lib.ListN.{length, drop, length-append, length-drop}
@@ -12,7 +12,7 @@ use Rattle.std.specs.Prelude.{Option, Some, None}
 use Rattle.std.specs.Option.{option_or}
 use Rattle.text.specs.Numeral.{Starts, Found, found, missing, after}
 use Rattle.tokens.specs.declared.numeral.Found as place
-use Rattle.tokens.specs.Inner.Found.{found_at}
+use Rattle.tokens.specs.Inner.Found.{found_at, InsideFound}
 
 module _ (w text : List ℕ) (at : ℕ) where
   pub room_for : Starts w (drop at text) → length w ≤ length text - at
@@ -43,3 +43,8 @@ pub found_or : (t : List ℕ) (a b : Option place.Found) (k : ℕ) (w u : List �
 unfolding or_other
 found_or t (Some x) b k w u e = ap (λ (f : Found). or_other f (found_at t b)) e ∙ sym (after_or k w u (found_at t b))
 found_or t None b k w u e = ap (λ (f : Found). or_other f (found_at t b)) e ∙ sym (after_or k w u (found_at t b))
+
+-- and the place after what is found so lies within the text
+pub inside_or : (t : List ℕ) (a b r : Option place.Found) → r ≡ option_or a b → InsideFound t a → InsideFound t b → InsideFound t r
+inside_or t (Some x) b r e h k = subst (InsideFound t) (sym e) h
+inside_or t None b r e h k = subst (InsideFound t) (sym e) k

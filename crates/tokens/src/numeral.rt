@@ -9,7 +9,7 @@ ghost use Rattle.tokens.specs.Inner.Found.{found_at, InsideFound};
 
 use text::{LAST_NUMBER, MINUS, NINE, NUMBERS, ZERO};
 
-// A number and the place after it and its comma or line end.
+// A number, its own or that of a spelling, and the place after what stands for it with its comma or line end.
 #[derive(Clone, Copy)]
 pub struct Found {
     pub number: usize,

@@ -8,7 +8,9 @@ use Rattle.reader.proofs.Progress.{Reached}
 use Rattle.reader.proofs.gos.gos.Given as goal
 
 abbrev pub invariant-loop-joint : goal.invariant-loop-joint
-invariant-loop-joint l = (l.next ≤ length l.text) × (length l.job ≡ block_bytes) × (l.joint ≤ 64) × Reached (J.next_fields l.z l.s l.counts) l.text 64 l.initial.next l.initial.job l.next l.job l.joint
+invariant-loop-joint l =
+    (l.next ≤ length l.text) × (length l.job ≡ block_bytes) × (l.joint ≤ 64) ×
+    Reached (J.next_fields l.z l.s l.counts) l.text 64 l.initial.next l.initial.job l.next l.job l.joint
 
 abbrev pub decreases-loop-joint : goal.decreases-loop-joint
 decreases-loop-joint l = 64 - l.joint

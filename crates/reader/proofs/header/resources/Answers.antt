@@ -7,7 +7,9 @@ use Rattle.scan.proofs.Reading.{stopped_with}
 use Rattle.reader.proofs.header.resources.Goals as goal
 
 pub returns-in_err-kind-clause-by_index : goal.returns-in_err-kind-clause-by_index
-returns-in_err-kind-clause-by_index c = λ f. collected_stop c.loop-j.invariant.4 c.loop-j-test.true c.in_err-kind.ensures.by_index f ∙ stopped_with _ _ _ _ c.from_residual.ensures.1
+returns-in_err-kind-clause-by_index c =
+    λ f. collected_stop c.loop-j.invariant.4 c.loop-j-test.true c.in_err-kind.ensures.by_index f
+    ∙ stopped_with _ _ _ _ c.from_residual.ensures.1
 
 pub loop-j-preserved : goal.loop-j-preserved
 loop-j-preserved c = (

@@ -14,10 +14,12 @@ pub returns-in_err-team-clause-job_value : goal.returns-in_err-team-clause-job_v
 unfolding J.team_fields
 returns-in_err-team-clause-job_value c =
     let last : Format → Format = λ f. J.bound_fields c.args.i c.args.z.resources 0 f in
-    rw (sym (strategic_is c.strategic.ensures) ∙ c.if-not-strategic.false, ← c.masks.ensures.0) (λ f. c.in_err-team.ensures.by_index (λ t. last f) ∙ stopped _ _ _ _ c.from_residual.ensures.1)
+    rw (sym (strategic_is c.strategic.ensures) ∙ c.if-not-strategic.false, ← c.masks.ensures.0)
+    (λ f. c.in_err-team.ensures.by_index (λ t. last f) ∙ stopped _ _ _ _ c.from_residual.ensures.1)
 
 pub returns-clause-job_value : goal.returns-clause-job_value
 unfolding J.team_fields
 returns-clause-job_value c =
     let last : Format → Format = λ f. J.bound_fields c.args.i c.args.z.resources 0 f in
-    rw (sym (strategic_is c.strategic.ensures) ∙ c.if-not-strategic.false, ← c.masks.ensures.0) (λ f. c.in_ok-team.ensures.by_index (λ t. last f) ∙ c.bounds.ensures.job_value f)
+    rw (sym (strategic_is c.strategic.ensures) ∙ c.if-not-strategic.false, ← c.masks.ensures.0)
+    (λ f. c.in_ok-team.ensures.by_index (λ t. last f) ∙ c.bounds.ensures.job_value f)

@@ -9,7 +9,9 @@ use Rattle.scan.proofs.Reading.{stopped}
 use Rattle.reader.proofs.states.moves.Goals as goal
 
 pub returns-in_err-agent-clause-job_value : goal.returns-in_err-agent-clause-job_value
-returns-in_err-agent-clause-job_value c = λ f. collected_stop c.loop-a.invariant.4 c.loop-a-test.true c.in_err-agent.ensures.by_index (λ counts. J.go_state c.args.z c.args.s (J.next_fields c.args.z c.args.s counts max_joint 0 f)) ∙ stopped _ _ _ _ c.from_residual.ensures.1
+returns-in_err-agent-clause-job_value c =
+    λ f. collected_stop c.loop-a.invariant.4 c.loop-a-test.true c.in_err-agent.ensures.by_index (λ counts. J.go_state c.args.z c.args.s (J.next_fields c.args.z c.args.s counts max_joint 0 f))
+    ∙ stopped _ _ _ _ c.from_residual.ensures.1
 
 pub loop-a-preserved : goal.loop-a-preserved
 loop-a-preserved c = (
@@ -21,4 +23,6 @@ loop-a-preserved c = (
 )
 
 pub returns-clause-job_value : goal.returns-clause-job_value
-returns-clause-job_value c = λ f. collected_all c.loop-a.invariant.4 c.loop-a-test.false (λ counts. J.go_state c.args.z c.args.s (J.next_fields c.args.z c.args.s counts max_joint 0 f)) ∙ c.gos.ensures.job_value f
+returns-clause-job_value c =
+    λ f. collected_all c.loop-a.invariant.4 c.loop-a-test.false (λ counts. J.go_state c.args.z c.args.s (J.next_fields c.args.z c.args.s counts max_joint 0 f))
+    ∙ c.gos.ensures.job_value f
