@@ -56,10 +56,10 @@ fn costs(
     ensures job_value { (f : Format) → read (J.costs z who.state who.agent n k z.resources 0 f) job.old (drop at text.now) ≡ resume text.now result (read f job.new) }
     ensures inside_2 { Inside text.now result }
 {
-    let resources = z.resources;
     let mut next = at;
-    for j in 0..resources {
-        next = cost(text, next, job, z, who, k, j, n + (resources - (j + 1)))?;
+    for j in 0..z.resources {
+        let left = n + (z.resources - (j + 1));
+        next = cost(text, next, job, z, who, k, j, left)?;
     }
     Ok(next)
 }

@@ -133,9 +133,8 @@ pub fn rows(text: &[u8], at: usize, job: &mut [u8], z: Sizes) -> Result<usize, S
     ensures job_value { (f : Format) → read (J.row_lines z z.rows 0 f) job.old (drop at text.now) ≡ resume text.now result (read f job.new) }
     ensures inside_2 { Inside text.now result }
 {
-    let rows = z.rows;
     let mut next = at;
-    for i in 0..rows {
+    for i in 0..z.rows {
         next = row(text, next, job, z, i)?;
     }
     Ok(next)

@@ -41,10 +41,9 @@ fn moves(text: &[u8], at: usize, job: &mut [u8], z: Sizes, s: usize) -> Result<u
         ≡ resume text.now result (read f job.new) }
     ensures inside_2 { Inside text.now result }
 {
-    let agents = z.agents;
     let mut counts = [1usize; layout::MAX_AGENTS];
     let mut next = at;
-    for a in 0..agents {
+    for a in 0..z.agents {
         let agent = acts(text, next, job, z, s, a)?;
         counts[a] = agent.value;
         next = agent.next;
@@ -68,9 +67,8 @@ pub fn states(text: &[u8], at: usize, job: &mut [u8], z: Sizes) -> Result<usize,
     ensures job_value { (f : Format) → read (J.states z z.states 0 f) job.old (drop at text.now) ≡ resume text.now result (read f job.new) }
     ensures inside_2 { Inside text.now result }
 {
-    let states = z.states;
     let mut next = at;
-    for s in 0..states {
+    for s in 0..z.states {
         next = state_lines(text, next, job, z, s)?;
     }
     Ok(next)

@@ -1,4 +1,4 @@
--- One step of reading (specs' read) for each kind of field, from what was found in the text.
+-- One step of reading (specs' read) past a known number, from what was found in the text; and the end of reading, as `?` hands it on.
 -- Assumes nothing.
 use mathlib.Core.List.{List, [], ◌∷◌, ◌++◌}
 use mathlib.Core.Path.{◌≡◌, sym, ap}

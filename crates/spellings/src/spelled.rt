@@ -41,8 +41,7 @@ pub fn allowed(what: Spelled, o: usize) -> bool
 {
     match what {
         Spelled::Bound => bound_allowed(o),
-        Spelled::Row => true,
-        Spelled::Resource(_, _) => true,
+        Spelled::Row | Spelled::Resource(..) => true,
         Spelled::Cost(_, kind, k, _) => cost_allowed(kind, k, o),
     }
 }
@@ -52,9 +51,8 @@ pub fn refusal_of(what: Spelled, o: usize) -> Refusal
     ensures { result ≡ (spelling_of what).refusal o }
 {
     match what {
-        Spelled::Bound => Refusal::Row,
-        Spelled::Row => Refusal::Row,
-        Spelled::Resource(_, _) => Refusal::Sizes,
+        Spelled::Bound | Spelled::Row => Refusal::Row,
+        Spelled::Resource(..) => Refusal::Sizes,
         Spelled::Cost(_, _, k, _) => cost_refusal(k, o),
     }
 }
@@ -66,8 +64,7 @@ pub fn byte_of(what: Spelled, o: usize) -> usize
 {
     match what {
         Spelled::Bound => bound_byte(o),
-        Spelled::Row => o,
-        Spelled::Resource(_, _) => o,
-        Spelled::Cost(_, _, _, _) => cost_byte(o),
+        Spelled::Row | Spelled::Resource(..) => o,
+        Spelled::Cost(..) => cost_byte(o),
     }
 }

@@ -9,8 +9,8 @@ use Rattle.reader.proofs.actions.costs.Given as goal
 
 abbrev pub invariant-loop-j : goal.invariant-loop-j
 invariant-loop-j l =
-    (l.next ≤ length l.text) × (length l.job ≡ block_bytes) × (l.j ≤ l.resources) ×
-    Reached (J.costs l.z l.who.state l.who.agent l.n l.k) l.text l.resources l.initial.next l.initial.job l.next l.job l.j
+    (l.next ≤ length l.text) × (length l.job ≡ block_bytes) × (l.j ≤ l.z.resources) ×
+    Reached (J.costs l.z l.who.state l.who.agent l.n l.k) l.text l.z.resources l.initial.next l.initial.job l.next l.job l.j
 
 abbrev pub decreases-loop-j : goal.decreases-loop-j
-decreases-loop-j l = l.resources - l.j
+decreases-loop-j l = l.z.resources - l.j
