@@ -1,5 +1,5 @@
 // The go lines of a state.
-ghost use Rattle.std.specs.Prelude.{cond, ◌≡◌, ◌≤◌, ◌<◌, length};
+ghost use Rattle.std.specs.Prelude.{cond, ◌≡◌, ◌≤◌, ◌<◌, length, drop};
 ghost use Rattle.block.specs.Layout.{Block, block_bytes, max_states, max_agents, max_joint};
 ghost use Rattle.text.specs.Format.{Format, read};
 ghost use Rattle.text.specs.Job as J;
@@ -9,57 +9,55 @@ use block::joint::digit;
 use block::layout;
 use block::layout::Place;
 use block::refusal::Refusal;
-use scan::step::{Range, Step};
-use scan::steps::{past_field, past_index, past_word};
+use scan::fields::{field, index, word};
+use scan::step::{Range, Stop};
 use text::ends::next_end;
 use text::joint::possible;
 use text::sizes::{Edition, Sizes};
 
 // The actions of a joint action, one for each agent.
-fn joint_fields(text: &[u8], at: Step, joint: usize, agents: usize) -> Step
-    requires { Inside text.now at × (agents ≤ max_agents) }
-    ensures b_value { (f : Format) (b : Block) → resume text.now at (read (J.joint_fields joint agents 0 f) b) ≡ resume text.now result (read f b) }
+fn joint_fields(text: &[u8], at: usize, joint: usize, agents: usize) -> Result<usize, Stop>
+    requires { (at ≤ length text.now) × (agents ≤ max_agents) }
+    ensures b_value { (f : Format) (b : Block) → read (J.joint_fields joint agents 0 f) b (drop at text.now) ≡ resume text.now result (read f b) }
     ensures inside { Inside text.now result }
 {
     let mut next = at;
     for a in 0..agents {
-        next = past_index(text, next, digit(joint, a));
+        next = index(text, next, digit(joint, a))?;
     }
-    next
+    Ok(next)
 }
 
 // go,s,
-fn go_word(text: &[u8], at: Step, s: usize) -> Step
-    requires { Inside text.now at × (s < max_states) }
-    ensures b_value { (f : Format) (b : Block) → resume text.now at (read (J.go_word s f) b) ≡ resume text.now result (read f b) }
+fn go_word(text: &[u8], at: usize, s: usize) -> Result<usize, Stop>
+    requires { (at ≤ length text.now) × (s < max_states) }
+    ensures b_value { (f : Format) (b : Block) → read (J.go_word s f) b (drop at text.now) ≡ resume text.now result (read f b) }
     ensures inside { Inside text.now result }
 {
-    let named = past_word(text, at, b"go,");
-    past_index(text, named, s)
+    let named = word(text, at, b"go,")?;
+    index(text, named, s)
 }
 
 // The beginning of a joint action's line, where it has one.
-fn go_actions(text: &[u8], at: Step, z: Sizes, s: usize, joint: usize) -> Step
-    requires { Inside text.now at × Fitting z × (s < max_states) }
-    ensures b_value { (f : Format) (b : Block) → resume text.now at (read (J.go_actions z s joint f) b) ≡ resume text.now result (read f b) }
+fn go_actions(text: &[u8], at: usize, z: Sizes, s: usize, joint: usize) -> Result<usize, Stop>
+    requires { (at ≤ length text.now) × Fitting z × (s < max_states) }
+    ensures b_value { (f : Format) (b : Block) → read (J.go_actions z s joint f) b (drop at text.now) ≡ resume text.now result (read f b) }
     ensures inside { Inside text.now result }
 {
-    let e = z.edition;
-    match e {
-        Edition::First => joint_fields(text, go_word(text, at, s), joint, z.agents),
-        Edition::Second => at,
+    match z.edition {
+        Edition::First => joint_fields(text, go_word(text, at, s)?, joint, z.agents),
+        Edition::Second => Ok(at),
     }
 }
 
 // The beginning of the state's line, where it has one.
-fn go_state(text: &[u8], at: Step, z: Sizes, s: usize) -> Step
-    requires { Inside text.now at × (s < max_states) }
-    ensures b_value { (f : Format) (b : Block) → resume text.now at (read (J.go_state z s f) b) ≡ resume text.now result (read f b) }
+fn go_state(text: &[u8], at: usize, z: Sizes, s: usize) -> Result<usize, Stop>
+    requires { (at ≤ length text.now) × (s < max_states) }
+    ensures b_value { (f : Format) (b : Block) → read (J.go_state z s f) b (drop at text.now) ≡ resume text.now result (read f b) }
     ensures inside { Inside text.now result }
 {
-    let e = z.edition;
-    match e {
-        Edition::First => at,
+    match z.edition {
+        Edition::First => Ok(at),
         Edition::Second => go_word(text, at, s),
     }
 }
@@ -67,73 +65,48 @@ fn go_state(text: &[u8], at: Step, z: Sizes, s: usize) -> Step
 // The next state of a joint action.
 fn next_field(
     text: &[u8],
-    at: Step,
+    at: usize,
     job: &mut [u8],
     z: Sizes,
     s: usize,
     counts: [usize; layout::MAX_AGENTS],
     joint: usize,
-) -> Step
-    requires inside { Inside text.now at × (length job.old ≡ block_bytes) }
+) -> Result<usize, Stop>
+    requires inside { (at ≤ length text.now) × (length job.old ≡ block_bytes) }
     requires fitting { Fitting z × ((s < max_states) × (joint < max_joint)) }
-    ensures job_value { (f : Format) → resume text.now at (read (J.next_field z s counts joint f) job.old) ≡ resume text.now result (read f job.new) }
+    ensures job_value { (f : Format) → read (J.next_field z s counts joint f) job.old (drop at text.now) ≡ resume text.now result (read f job.new) }
     ensures inside_2 { Inside text.now result }
 {
-    let acted = go_actions(text, at, z, s, joint);
-    let e = z.edition;
-    let sep = next_end(e, counts, joint) as usize;
-    past_field(
-        text,
-        acted,
-        job,
-        Place::Next(s, joint),
-        Range {
-            sep: sep,
-            low: 0,
-            limit: z.states,
-            refusal: Refusal::Next,
-        },
-    )
-}
-
-// The same, where the joint action can be done.
-fn next_field_if(
-    text: &[u8],
-    at: Step,
-    job: &mut [u8],
-    z: Sizes,
-    s: usize,
-    counts: [usize; layout::MAX_AGENTS],
-    joint: usize,
-) -> Step
-    requires inside { Inside text.now at × (length job.old ≡ block_bytes) }
-    requires fitting { Fitting z × ((s < max_states) × (joint < max_joint)) }
-    ensures job_value { (f : Format) → resume text.now at (read (cond (J.possible counts joint) (J.next_field z s counts joint f) f) job.old) ≡ resume text.now result (read f job.new) }
-    ensures inside_2 { Inside text.now result }
-{
-    if possible(counts, joint) {
-        return next_field(text, at, job, z, s, counts, joint);
-    }
-    at
+    let acted = go_actions(text, at, z, s, joint)?;
+    let range = Range {
+        sep: usize::from(next_end(z.edition, counts, joint)),
+        low: 0,
+        limit: z.states,
+        refusal: Refusal::Next,
+    };
+    let state = field(text, acted, job, Place::Next(s, joint), range)?;
+    Ok(state.next)
 }
 
 // The next states of a state.
 pub fn gos(
     text: &[u8],
-    at: Step,
+    at: usize,
     job: &mut [u8],
     z: Sizes,
     s: usize,
     counts: [usize; layout::MAX_AGENTS],
-) -> Step
-    requires inside { Inside text.now at × (length job.old ≡ block_bytes) }
+) -> Result<usize, Stop>
+    requires inside { (at ≤ length text.now) × (length job.old ≡ block_bytes) }
     requires fitting { Fitting z × (s < max_states) }
-    ensures job_value { (f : Format) → resume text.now at (read (J.go_state z s (J.next_fields z s counts max_joint 0 f)) job.old) ≡ resume text.now result (read f job.new) }
+    ensures job_value { (f : Format) → read (J.go_state z s (J.next_fields z s counts max_joint 0 f)) job.old (drop at text.now) ≡ resume text.now result (read f job.new) }
     ensures inside_2 { Inside text.now result }
 {
-    let mut next = go_state(text, at, z, s);
+    let mut next = go_state(text, at, z, s)?;
     for joint in 0..layout::JOINT_ACTIONS {
-        next = next_field_if(text, next, job, z, s, counts, joint);
+        if possible(counts, joint) {
+            next = next_field(text, next, job, z, s, counts, joint)?;
+        }
     }
-    next
+    Ok(next)
 }

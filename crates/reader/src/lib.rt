@@ -20,8 +20,7 @@ use block::layout::BLOCK_BYTES;
 use block::refusal::{Answer, Refusal};
 use header::header;
 use rows::rows;
-use scan::step::Step;
-use scan::steps::starts;
+use scan::step::Stop;
 use states::states;
 use text::TEXT_BYTES;
 use text::sizes::Edition;
@@ -30,41 +29,37 @@ use text::sizes::Edition;
 fn edition(text: &[u8]) -> Edition
     ensures { result ≡ edition_of text.now }
 {
-    if starts(text, b"job2,") {
-        return Edition::Second;
+    if text.starts_with(b"job2,") {
+        Edition::Second
+    } else {
+        Edition::First
     }
-    Edition::First
 }
 
 // All lines of the text.
-fn lines(text: &[u8], job: &mut [u8]) -> Step
+fn lines(text: &[u8], job: &mut [u8]) -> Result<usize, Stop>
     requires { length job.old ≡ block_bytes }
     ensures text_value { read (J.job (edition_of text.now)) job.old text.now ≡ resume text.now result (read end job.new) }
     ensures inside { Inside text.now result }
 {
-    let opened = header(text, job, edition(text));
-    let z = opened.z;
-    let first = opened.next;
-    let next = states(text, first, job, z);
+    let header = header(text, job, edition(text))?;
+    let z = header.value;
+    let next = states(text, header.next, job, z)?;
     rows(text, next, job, z)
 }
 
 // Reads the text into a block; nothing may follow its last line.
-fn read_into(text: &[u8], job: &mut [u8]) -> Step
+fn read_into(text: &[u8], job: &mut [u8]) -> Result<usize, Stop>
     requires { length job.old ≡ block_bytes }
     ensures text_value { read (J.job (edition_of text.now)) job.old text.now ≡ outcome_at text.now result job.new }
     ensures inside { Inside text.now result }
 {
-    match lines(text, job) {
-        Step::Next(at) => {
-            if at < text.len() {
-                Step::Refused(Refusal::Form, at)
-            } else {
-                Step::Next(at)
-            }
-        }
-        Step::Refused(r, at) => Step::Refused(r, at),
+    let at = lines(text, job)?;
+    if at < text.len() {
+        let refusal = Refusal::Form;
+        return Err(Stop { refusal, at });
     }
+    Ok(at)
 }
 
 // Reads a text into a block, which keeps its bytes where the text is refused.
@@ -82,11 +77,11 @@ pub fn read(text: &[u8], block: &mut [u8]) -> Answer
     }
     let mut blank = [0u8; BLOCK_BYTES];
     match read_into(text, &mut blank) {
-        Step::Next(_) => {
+        Ok(_) => {
             block.copy_from_slice(&blank);
             Ok(0)
         }
-        Step::Refused(r, _) => Err(r),
+        Err(stop) => Err(stop.refusal),
     }
 }
 
@@ -99,7 +94,7 @@ pub fn read_at(text: &[u8]) -> Answer
     }
     let mut blank = [0u8; BLOCK_BYTES];
     match read_into(text, &mut blank) {
-        Step::Next(_) => Ok(text.len()),
-        Step::Refused(_, at) => Ok(at),
+        Ok(_) => Ok(text.len()),
+        Err(stop) => Ok(stop.at),
     }
 }

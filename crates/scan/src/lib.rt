@@ -2,6 +2,5 @@
 // the block then holds is the program's choice: the reader hands nothing of it on.
 #![tactic(auto)]
 
-mod fields;
+pub mod fields;
 pub mod step;
-pub mod steps;

@@ -1,25 +1,18 @@
 // How far reading has come.
 use block::refusal::Refusal;
 
-// The next place of the text; or the refusal that ends reading, and the place of the field that it ends at.
+// The refusal that ends reading, and the place of the field that it ends at.
 #[derive(Clone, Copy)]
-pub enum Step {
-    Next(usize),
-    Refused(Refusal, usize),
+pub struct Stop {
+    pub refusal: Refusal,
+    pub at: usize,
 }
 
-// A byte of the block and the next place of the text; or the refusal and its place.
+// What is read, as a byte of the block, and the next place of the text.
 #[derive(Clone, Copy)]
-pub enum Value {
-    At(usize, usize),
-    Refused(Refusal, usize),
-}
-
-// A byte of the block, or what stands in for it after a refusal, and the step past it.
-#[derive(Clone, Copy)]
-pub struct Valued {
-    pub value: usize,
-    pub next: Step,
+pub struct Valued<T> {
+    pub value: T,
+    pub next: usize,
 }
 
 // What a number may be: the byte after it, the least, the first past the last, and the refusal of any other.

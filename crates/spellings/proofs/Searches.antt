@@ -2,6 +2,8 @@
 use mathlib.Core.List.{List, [], ◌∷◌, ◌++◌}
 use mathlib.Core.Path.{◌≡◌, refl, ap, ◌∙◌}
 use Prim.Native.Nat.{ℕ, suc}
+use Rattle.std.specs.Prelude.{Option, Some, None}
+use Rattle.std.specs.Option.{option_or}
 use Rattle.block.specs.Layout.{sum_kind, max_kind, prop_kind, not_kind, or_kind, next_kind, always_kind, until_kind, kinds}
 use Rattle.text.specs.declared.sizes.Edition.TheVariants.{Second}
 use Rattle.text.specs.Numeral.{ascii, comma, numbers, decimal, found, missing, after, search}
@@ -29,3 +31,13 @@ resource_search left t = refl
 pub silent_search : (t : List ℕ) → search (λ k. []) (suc sum_kind) t ≡ found sum_kind t
 unfolding search after
 silent_search t = refl
+
+-- what is tried first, second and so on, in either way of bracketing
+module _ {A : Type 0} where
+  pub or_assoc : (a b c : Option A) → option_or (option_or a b) c ≡ option_or a (option_or b c)
+  or_assoc None b c = refl
+  or_assoc (Some x) b c = refl
+
+  pub or_nothing : (a : Option A) → option_or a None ≡ a
+  or_nothing None = refl
+  or_nothing (Some x) = refl

@@ -2,12 +2,12 @@
 ghost use Rattle.std.specs.Prelude.{◌≡◌, ◌≤◌, ◌<◌, length, drop};
 ghost use Rattle.text.specs.Numeral.{numbers, search};
 ghost use Rattle.text.specs.Job as J;
-ghost use Rattle.tokens.specs.Inner.Found.{found_at, InsideNumeral};
+ghost use Rattle.tokens.specs.Inner.Found.{found_at, InsideFound};
 
 use block::layout;
 use text::{COMMA, NUMBERS};
-use tokens::numeral::{Numeral, number};
-use tokens::words::word_or;
+use tokens::numeral::{Found, number};
+use tokens::words::word;
 
 // The spellings of a bound past those of the numbers: inf, and nothing.
 const INF_BOUND: usize = NUMBERS;
@@ -18,10 +18,7 @@ const EMPTY_BOUND: usize = INF_BOUND + 1;
 pub fn bound_allowed(o: usize) -> bool
     ensures { result ≡ (J.bound).allowed o }
 {
-    if o <= layout::MAX_UNITS {
-        return true;
-    }
-    INF_BOUND <= o
+    o <= layout::MAX_UNITS || INF_BOUND <= o
 }
 
 // The byte that a spelling of a bound stands for.
@@ -37,12 +34,12 @@ pub fn bound_byte(o: usize) -> usize
 }
 
 // The spelling of a bound that stands at a place of the text.
-pub fn bound_at(text: &[u8], at: usize) -> Numeral
+pub fn bound_at(text: &[u8], at: usize) -> Option<Found>
     requires { at ≤ length text.now }
     ensures text_value { search (J.bound).spell J.bound_spellings (drop at text.now) ≡ found_at text.now result }
-    ensures inside_numeral { InsideNumeral text.now result }
+    ensures inside_found { InsideFound text.now result }
 {
-    let n = number(text, at, COMMA);
-    let inf = word_or(text, at, b"inf,", INF_BOUND, n);
-    word_or(text, at, b",", EMPTY_BOUND, inf)
+    word(text, at, b",", EMPTY_BOUND)
+        .or(word(text, at, b"inf,", INF_BOUND))
+        .or(number(text, at, COMMA))
 }

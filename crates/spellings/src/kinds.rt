@@ -4,48 +4,51 @@ ghost use Rattle.block.specs.Layout.{kinds};
 ghost use Rattle.text.specs.Numeral.{search};
 ghost use Rattle.text.specs.declared.sizes.Edition.TheVariants as Edition;
 ghost use Rattle.text.specs.Job as J;
-ghost use Rattle.tokens.specs.Inner.Found.{found_at, InsideNumeral};
+ghost use Rattle.tokens.specs.Inner.Found.{found_at, InsideFound};
 
 use block::layout;
 use text::sizes::Edition;
-use tokens::numeral::Numeral;
-use tokens::words::word_or;
+use tokens::numeral::Found;
+use tokens::words::word;
 
 // The word of a row that stands there.
-pub fn kind_at(text: &[u8], at: usize) -> Numeral
+pub fn kind_at(text: &[u8], at: usize) -> Option<Found>
     requires { at ≤ length text.now }
     ensures text_value { search J.kind_word kinds (drop at text.now) ≡ found_at text.now result }
-    ensures inside_numeral { InsideNumeral text.now result }
+    ensures inside_found { InsideFound text.now result }
 {
-    let a = word_or(text, at, b"prop,", layout::PROP_KIND, Numeral::Missing);
-    let b = word_or(text, at, b"not,", layout::NOT_KIND, a);
-    let c = word_or(text, at, b"or,", layout::OR_KIND, b);
-    let d = word_or(text, at, b"next,", layout::NEXT_KIND, c);
-    let e = word_or(text, at, b"always,", layout::ALWAYS_KIND, d);
-    word_or(text, at, b"until,", layout::UNTIL_KIND, e)
+    word(text, at, b"until,", layout::UNTIL_KIND)
+        .or(word(text, at, b"always,", layout::ALWAYS_KIND))
+        .or(word(text, at, b"next,", layout::NEXT_KIND))
+        .or(word(text, at, b"or,", layout::OR_KIND))
+        .or(word(text, at, b"not,", layout::NOT_KIND))
+        .or(word(text, at, b"prop,", layout::PROP_KIND))
 }
 
 // The kind of a resource, before left further ones. Edition 1 has no word for it, and each is sum.
-pub fn resource_at(text: &[u8], at: usize, e: Edition, left: usize) -> Numeral
+pub fn resource_at(text: &[u8], at: usize, e: Edition, left: usize) -> Option<Found>
     requires { at ≤ length text.now }
     ensures text_value { search (J.resource_spelling e left).spell (J.resource_spelling e left).options (drop at text.now) ≡ found_at text.now result }
-    ensures inside_numeral { InsideNumeral text.now result }
+    ensures inside_found { InsideFound text.now result }
 {
     match e {
-        Edition::First => Numeral::Found(layout::SUM_KIND, at),
+        Edition::First => Some(Found {
+            number: layout::SUM_KIND,
+            next: at,
+        }),
         Edition::Second => resource_word(text, at, left),
     }
 }
 
-fn resource_word(text: &[u8], at: usize, left: usize) -> Numeral
+fn resource_word(text: &[u8], at: usize, left: usize) -> Option<Found>
     requires { at ≤ length text.now }
     ensures text_value { search (J.resource_spelling Edition.Second left).spell (J.resource_spelling Edition.Second left).options (drop at text.now) ≡ found_at text.now result }
-    ensures inside_numeral { InsideNumeral text.now result }
+    ensures inside_found { InsideFound text.now result }
 {
     if left == 0 {
-        let sum = word_or(text, at, b"sum\n", layout::SUM_KIND, Numeral::Missing);
-        return word_or(text, at, b"max\n", layout::MAX_KIND, sum);
+        let sum = word(text, at, b"sum\n", layout::SUM_KIND);
+        return word(text, at, b"max\n", layout::MAX_KIND).or(sum);
     }
-    let sum = word_or(text, at, b"sum,", layout::SUM_KIND, Numeral::Missing);
-    word_or(text, at, b"max,", layout::MAX_KIND, sum)
+    let sum = word(text, at, b"sum,", layout::SUM_KIND);
+    word(text, at, b"max,", layout::MAX_KIND).or(sum)
 }

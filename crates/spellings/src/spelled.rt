@@ -1,7 +1,7 @@
 // A field with spellings of its own, by the leaves of its sort.
 ghost use Rattle.std.specs.Prelude.{◌≡◌, ◌≤◌, ◌<◌, length, drop};
 ghost use Rattle.text.specs.Numeral.{numbers, search};
-ghost use Rattle.tokens.specs.Inner.Found.{found_at, InsideNumeral};
+ghost use Rattle.tokens.specs.Inner.Found.{found_at, InsideFound};
 ghost use Rattle.spellings.specs.Inner.Spelled.{spelling_of};
 
 use crate::bounds::{bound_allowed, bound_at, bound_byte};
@@ -9,7 +9,7 @@ use crate::costs::{cost_allowed, cost_at, cost_byte, cost_refusal};
 use crate::kinds::{kind_at, resource_at};
 use block::refusal::Refusal;
 use text::sizes::Edition;
-use tokens::numeral::Numeral;
+use tokens::numeral::Found;
 
 // A field with spellings of its own: a bound, the word of a row, the kind of a resource before so many further ones, and
 // the cost in a resource of a kind, of an action, before so many further ones.
@@ -22,10 +22,10 @@ pub enum Spelled {
 }
 
 // The spelling that stands at a place of the text.
-pub fn spelling_at(text: &[u8], at: usize, what: Spelled) -> Numeral
+pub fn spelling_at(text: &[u8], at: usize, what: Spelled) -> Option<Found>
     requires { at ≤ length text.now }
     ensures text_value { search (spelling_of what).spell (spelling_of what).options (drop at text.now) ≡ found_at text.now result }
-    ensures inside_numeral { InsideNumeral text.now result }
+    ensures inside_found { InsideFound text.now result }
 {
     match what {
         Spelled::Bound => bound_at(text, at),
@@ -41,8 +41,7 @@ pub fn allowed(what: Spelled, o: usize) -> bool
 {
     match what {
         Spelled::Bound => bound_allowed(o),
-        Spelled::Row => true,
-        Spelled::Resource(_, _) => true,
+        Spelled::Row | Spelled::Resource(..) => true,
         Spelled::Cost(_, kind, k, _) => cost_allowed(kind, k, o),
     }
 }
@@ -52,9 +51,8 @@ pub fn refusal_of(what: Spelled, o: usize) -> Refusal
     ensures { result ≡ (spelling_of what).refusal o }
 {
     match what {
-        Spelled::Bound => Refusal::Row,
-        Spelled::Row => Refusal::Row,
-        Spelled::Resource(_, _) => Refusal::Sizes,
+        Spelled::Bound | Spelled::Row => Refusal::Row,
+        Spelled::Resource(..) => Refusal::Sizes,
         Spelled::Cost(_, _, k, _) => cost_refusal(k, o),
     }
 }
@@ -66,8 +64,7 @@ pub fn byte_of(what: Spelled, o: usize) -> usize
 {
     match what {
         Spelled::Bound => bound_byte(o),
-        Spelled::Row => o,
-        Spelled::Resource(_, _) => o,
-        Spelled::Cost(_, _, _, _) => cost_byte(o),
+        Spelled::Row | Spelled::Resource(..) => o,
+        Spelled::Cost(..) => cost_byte(o),
     }
 }

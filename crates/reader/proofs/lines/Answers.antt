@@ -1,22 +1,30 @@
 -- `lines` reads the header, the states and the rows.
 use mathlib.Core.Path.{◌∙◌}
-use Rattle.text.specs.Format.{end}
+use Rattle.text.specs.declared.sizes.Sizes.{Sizes}
+use Rattle.text.specs.Format.{Format, end}
 use Rattle.text.specs.Job as J
+use Rattle.scan.proofs.Reading.{stopped}
 use Rattle.reader.proofs.lines.Goals as goal
 
-pub states-next-requires : goal.states-next-requires
-states-next-requires c = record { inside = (c.header-opened.ensures.inside.0, c.header-opened.auto.job ∙ c.requires); fitting = c.header-opened.ensures.inside.1 }
+from_states : Sizes → Format
+from_states z = J.states z z.states 0 (J.row_lines z z.rows 0 end)
 
-pub rows-requires : goal.rows-requires
-rows-requires c = record { inside = (c.states-next.ensures.inside_2, c.states-next.auto.job ∙ c.header-opened.auto.job ∙ c.requires); fitting = c.header-opened.ensures.inside.1 }
+pub returns-in_err-header-clause-text_value : goal.returns-in_err-header-clause-text_value
+unfolding J.job from_states
+returns-in_err-header-clause-text_value c =
+    let first = rw c.edition.ensures at c.in_err-header.ensures.text_value in
+    first from_states ∙ stopped _ _ _ _ c.from_residual.ensures.1
 
-pub returns : goal.returns
-unfolding J.job
-returns c =
-    let z = c.header-opened.result.z in
-    record {
-      text_value = rw (← c.edition.ensures) (c.header-opened.ensures.text_value (λ z. J.states z z.states 0 (J.row_lines z z.rows 0 end)))
-          ∙ c.states-next.ensures.job_value (J.row_lines z z.rows 0 end)
-          ∙ c.rows.ensures.job_value end;
-      inside = c.rows.ensures.inside_2;
-    }
+pub returns-in_err-next-clause-text_value : goal.returns-in_err-next-clause-text_value
+unfolding J.job from_states
+returns-in_err-next-clause-text_value c =
+    let first = rw c.edition.ensures at c.in_ok-header.ensures.text_value in
+    let z = c.in_ok-header.header.value in
+    first from_states ∙ c.in_err-next.ensures.job_value (J.row_lines z z.rows 0 end) ∙ stopped _ _ _ _ c.from_residual-in_err-next.ensures.1
+
+pub returns-clause-text_value : goal.returns-clause-text_value
+unfolding J.job from_states
+returns-clause-text_value c =
+    let first = rw c.edition.ensures at c.in_ok-header.ensures.text_value in
+    let z = c.in_ok-header.header.value in
+    first from_states ∙ c.in_ok-next.ensures.job_value (J.row_lines z z.rows 0 end) ∙ c.rows.ensures.job_value end

@@ -14,16 +14,16 @@ pub returns-then-block-ne-BLOCK_BYTES : goal.returns-then-block-ne-BLOCK_BYTES
 returns-then-block-ne-BLOCK_BYTES c =
     rw (read_other _ _ c.if-text-gt-TEXT_BYTES.false c.if-block-ne-BLOCK_BYTES.true) record { value = refl; block_after = refl; exact = accepts _; numbered = numbered _ }
 
-pub returns-in-Next : goal.returns-in-Next
+pub returns-in-Ok : goal.returns-in-Ok
 unfolding blank
-returns-in-Next c =
+returns-in-Ok c =
     let is : read_call c.args.text.now c.args.block.now ≡ accepted c.read_into.new.job =
-    read_whole c.args.text.now c.args.block.now c.if-text-gt-TEXT_BYTES.false c.if-block-ne-BLOCK_BYTES.false ∙ (rw c.in-Next.is at c.read_into.ensures.text_value) in
+    read_whole c.args.text.now c.args.block.now c.if-text-gt-TEXT_BYTES.false c.if-block-ne-BLOCK_BYTES.false ∙ c.in-Ok.ensures.text_value in
     rw is record { value = refl; block_after = c.copy_from_slice.ensures.after; exact = accepts _; numbered = numbered _ }
 
-pub returns-in-Refused : goal.returns-in-Refused
+pub returns-in-Err : goal.returns-in-Err
 unfolding blank
-returns-in-Refused c =
+returns-in-Err c =
     let is : read_call c.args.text.now c.args.block.now ≡ refused _ _ =
-    read_whole c.args.text.now c.args.block.now c.if-text-gt-TEXT_BYTES.false c.if-block-ne-BLOCK_BYTES.false ∙ (rw c.in-Refused.is at c.read_into.ensures.text_value) in
+    read_whole c.args.text.now c.args.block.now c.if-text-gt-TEXT_BYTES.false c.if-block-ne-BLOCK_BYTES.false ∙ c.in-Err.ensures.text_value in
     rw is record { value = refl; block_after = refl; exact = accepts _; numbered = numbered _ }

@@ -1,51 +1,44 @@
 -- What the steps of the reader come to, as reading goes on from there.
-use Rattle.std.specs.Prelude.{List, ℕ, ◌≤◌, ◌<◌, length, drop}
+use Rattle.std.specs.Prelude.{List, ℕ, ◌≤◌, ◌<◌, Result, Ok, Err, length, drop}
 use Rattle.text.specs.Numeral.{numbers}
 use Rattle.text.specs.Format.{Outcome, accepted, refused}
 use Rattle.block.specs.Layout.{Block, max_agents, max_resources, max_states, max_propositions, max_rows}
 use Rattle.text.specs.declared.sizes.Sizes.{Sizes}
-use Rattle.scan.specs.declared.step.Step.{Step}
-use Rattle.scan.specs.declared.step.Step.TheVariants as step
-use Rattle.scan.specs.declared.step.Value.{Value}
-use Rattle.scan.specs.declared.step.Value.TheVariants as value
+use Rattle.scan.specs.declared.step.Stop.{Stop}
+use Rattle.scan.specs.declared.step.Valued.{Valued}
 
 -- reading goes on with the text from the next place, or ends at a field
-abbrev pub resume : List ℕ → Step → (List ℕ → Outcome) → Outcome
-resume t (step.Next next) f = f (drop next t)
-resume t (step.Refused r at) f = refused r (drop at t)
+abbrev pub resume : List ℕ → Result ℕ Stop → (List ℕ → Outcome) → Outcome
+resume t (Ok next) f = f (drop next t)
+resume t (Err stop) f = refused stop.refusal (drop stop.at t)
 
-abbrev pub resume_with : List ℕ → Value → (ℕ → List ℕ → Outcome) → Outcome
-resume_with t (value.At v next) f = f v (drop next t)
-resume_with t (value.Refused r at) f = refused r (drop at t)
+abbrev pub resume_with : {A : Type 0} → List ℕ → Result (Valued A) Stop → (A → List ℕ → Outcome) → Outcome
+resume_with t (Ok v) f = f v.value (drop v.next t)
+resume_with t (Err stop) f = refused stop.refusal (drop stop.at t)
 
 -- what the last step comes to
-abbrev pub outcome_at : List ℕ → Step → Block → Outcome
-outcome_at t (step.Next next) b = accepted b
-outcome_at t (step.Refused r at) b = refused r (drop at t)
+abbrev pub outcome_at : List ℕ → Result ℕ Stop → Block → Outcome
+outcome_at t (Ok next) b = accepted b
+outcome_at t (Err stop) b = refused stop.refusal (drop stop.at t)
 
 -- the step past a value
-abbrev pub past_value : Value → Step
-past_value (value.At v next) = step.Next next
-past_value (value.Refused r at) = step.Refused r at
-
--- a value, or another number where there is none
-abbrev pub value_or : ℕ → Value → ℕ
-value_or d (value.At v next) = v
-value_or d (value.Refused r at) = d
+abbrev pub past_value : {A : Type 0} → Result (Valued A) Stop → Result ℕ Stop
+past_value (Ok v) = Ok v.next
+past_value (Err stop) = Err stop
 
 -- a value, where there is one, is from low to below limit
-abbrev pub Ranged : ℕ → ℕ → Value → Type 0
-Ranged low limit (value.At v next) = (low ≤ v) × (v < limit)
-Ranged low limit (value.Refused r at) = Unit {0}
+abbrev pub Ranged : ℕ → ℕ → Result (Valued ℕ) Stop → Type 0
+Ranged low limit (Ok v) = (low ≤ v.value) × (v.value < limit)
+Ranged low limit (Err stop) = Unit {0}
 
 -- the next place, or that of the field where reading ended, lies within the text
-abbrev pub Inside : List ℕ → Step → Type 0
-Inside t (step.Next next) = next ≤ length t
-Inside t (step.Refused r at) = at ≤ length t
+abbrev pub Inside : List ℕ → Result ℕ Stop → Type 0
+Inside t (Ok next) = next ≤ length t
+Inside t (Err stop) = stop.at ≤ length t
 
-abbrev pub InsideWith : List ℕ → Value → Type 0
-InsideWith t (value.At v next) = (v < numbers) × (next ≤ length t)
-InsideWith t (value.Refused r at) = at ≤ length t
+abbrev pub InsideWith : List ℕ → Result (Valued ℕ) Stop → Type 0
+InsideWith t (Ok v) = (v.value < numbers) × (v.next ≤ length t)
+InsideWith t (Err stop) = stop.at ≤ length t
 
 -- the sizes are in range
 pub record Fitting (z : Sizes) : Type 0 where

@@ -3,10 +3,10 @@ use mathlib.Core.Path.{refl}
 use Rattle.text.specs.Job as J
 use Rattle.reader.proofs.gos.go_state.Goals as goal
 
-pub returns-in-First : goal.returns-in-First
+pub returns-in-First-clause-b_value : goal.returns-in-First-clause-b_value
 unfolding J.go_state
-returns-in-First c = rw c.in-First.is record { b_value = λ f b. refl; inside = c.requires.0 }
+returns-in-First-clause-b_value c = rw c.in-First.is (λ f b. refl)
 
-pub returns-in-Second : goal.returns-in-Second
+pub returns-in-Second-clause-b_value : goal.returns-in-Second-clause-b_value
 unfolding J.go_state
-returns-in-Second c = rw c.in-Second.is record { b_value = c.go_word.ensures.b_value; inside = c.go_word.ensures.inside }
+returns-in-Second-clause-b_value c = rw c.in-Second.is c.go_word.ensures.b_value

@@ -1,31 +1,20 @@
 -- `joint_fields` goes past the actions of a joint action, agent by agent.
+use mathlib.Core.Path.{◌∙◌}
 use native.Mathlib.Omega.{arith}
-use Rattle.reader.proofs.Progress.{reached_none, reached_more, reached_all}
+use Rattle.scan.proofs.Reading.{stopped}
+use Rattle.reader.proofs.Progress.{reached_more, reached_stop, reached_all}
 use Rattle.text.proofs.JobLoops.{joint_loop}
-use borrow.Author.Rules.{rules}
 use Rattle.reader.proofs.gos.joint_fields.Goals as goal
 
-pub loop-a-init : goal.loop-a-init
-loop-a-init c = (search rules, search rules, λ b. reached_none)
-
-pub digit-requires : goal.digit-requires
-digit-requires c = omega arith
-
-pub past_index-next-requires : goal.past_index-next-requires
-past_index-next-requires c = (c.loop-a.invariant.0, omega arith)
-
-pub overflow_step-a : goal.overflow_step-a
-overflow_step-a c = omega arith
-
-pub loop-a-smaller : goal.loop-a-smaller
-loop-a-smaller c = omega arith
+pub returns-in_err-next-clause-b_value : goal.returns-in_err-next-clause-b_value
+returns-in_err-next-clause-b_value c =
+    let turn = rw c.digit.ensures.0 at c.in_err-next.ensures.text_value in
+    λ f b. reached_stop (joint_loop _) (c.loop-a.invariant.2 b) c.loop-a-test.true (λ g. turn g b) f ∙ stopped _ _ _ _ c.from_residual.ensures.1
 
 pub loop-a-preserved : goal.loop-a-preserved
-loop-a-preserved c = (
-  c.past_index-next.ensures.inside,
-  omega arith,
-  λ b. reached_more (joint_loop _) (c.loop-a.invariant.2 b) c.loop-a-test.true (λ f. rw (← c.digit.ensures.0) (c.past_index-next.ensures.b_value f b)),
-)
+loop-a-preserved c =
+    let turn = rw c.digit.ensures.0 at c.in_ok-next.ensures.text_value in
+    (c.in_ok-next.ensures.inside, omega arith, λ b. reached_more (joint_loop _) (c.loop-a.invariant.2 b) c.loop-a-test.true (λ f. turn f b))
 
-pub returns : goal.returns
-returns c = record { b_value = λ f b. reached_all (joint_loop _) (c.loop-a.invariant.2 b) c.loop-a-test.false f; inside = c.loop-a.invariant.0 }
+pub returns-clause-b_value : goal.returns-clause-b_value
+returns-clause-b_value c = λ f b. reached_all (joint_loop _) (c.loop-a.invariant.2 b) c.loop-a-test.false f

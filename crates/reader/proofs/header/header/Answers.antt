@@ -2,13 +2,13 @@
 use mathlib.Core.List.{List}
 use mathlib.Core.Path.{◌∙◌}
 use Prim.Native.Nat.{ℕ}
-use native.Mathlib.Omega.{arith}
 use Rattle.block.specs.Layout.{max_agents, max_resources, max_states, max_propositions, max_rows}
 use Rattle.text.specs.declared.sizes.Edition.{Edition}
 use Rattle.text.specs.declared.sizes.Sizes.{Sizes}
 use Rattle.text.specs.Numeral.{comma}
 use Rattle.text.specs.Format.{Format}
 use Rattle.text.specs.Job as J
+use Rattle.scan.proofs.Reading.{stopped_with}
 use Rattle.reader.proofs.header.header.Goals as goal
 
 module _ (e : Edition) (f : Sizes → Format) where
@@ -33,52 +33,79 @@ module _ (e : Edition) (f : Sizes → Format) where
   abbrev from_agents : Format
   from_agents = J.size comma 0 max_agents from_resources
 
-pub size-r-requires : goal.size-r-requires
-size-r-requires c = record { inside = (c.size-n.ensures.inside_2.0, c.size-n.auto.job ∙ c.requires); f_lt_header_bytes = omega arith }
-
-pub size-m-requires : goal.size-m-requires
-size-m-requires c = record { inside = (c.size-r.ensures.inside_2.0, c.size-r.auto.job ∙ c.size-n.auto.job ∙ c.requires); f_lt_header_bytes = omega arith }
-
-pub size-p-requires : goal.size-p-requires
-size-p-requires c = record { inside = (c.size-m.ensures.inside_2.0, c.size-m.auto.job ∙ c.size-r.auto.job ∙ c.size-n.auto.job ∙ c.requires); f_lt_header_bytes = omega arith }
-
-pub size-w-requires : goal.size-w-requires
-size-w-requires c =
-    record {
-      inside = (c.size-p.ensures.inside_2.0, c.size-p.auto.job ∙ c.size-m.auto.job ∙ c.size-r.auto.job ∙ c.size-n.auto.job ∙ c.requires);
-      f_lt_header_bytes = omega (arith, c.sizes_end-sep.ensures);
-    }
-
-pub resources-told-requires : goal.resources-told-requires
-resources-told-requires c =
-    record {
-      inside = (c.size-w.ensures.inside_2.0, c.size-w.auto.job ∙ c.size-p.auto.job ∙ c.size-m.auto.job ∙ c.size-r.auto.job ∙ c.size-n.auto.job ∙ c.requires);
-      resources_le_max_resources = c.size-r.ensures.inside_2.1.1;
-    }
-
-pub shape_of-job : goal.shape_of-job
-shape_of-job c = c.resources-told.auto.job ∙ c.size-w.auto.job ∙ c.size-p.auto.job ∙ c.size-m.auto.job ∙ c.size-r.auto.job ∙ c.size-n.auto.job
-
-pub returns : goal.returns
+pub returns-in_err-named-clause-text_value : goal.returns-in_err-named-clause-text_value
 unfolding J.header_line
-returns c =
-    record {
-      text_value = λ f.
-          c.named-named.ensures.text_value (from_agents c.args.e f) c.args.job.now
-          ∙ c.size-n.ensures.by_index (from_resources c.args.e f)
-          ∙ c.size-r.ensures.by_index (from_states c.args.e f c.size-n.result.value)
-          ∙ c.size-m.ensures.by_index (from_propositions c.args.e f c.size-n.result.value c.size-r.result.value)
-          ∙ c.size-p.ensures.by_index (from_rows c.args.e f c.size-n.result.value c.size-r.result.value c.size-m.result.value)
-          ∙ rw (← c.sizes_end-sep.ensures.0) (c.size-w.ensures.by_index (from_kinds c.args.e f c.size-n.result.value c.size-r.result.value c.size-m.result.value c.size-p.result.value))
-          ∙ c.resources-told.ensures.by_index (sized c.args.e f c.size-n.result.value c.size-r.result.value c.size-m.result.value c.size-p.result.value c.size-w.result.value);
-      inside = (
-        c.resources-told.ensures.inside_2,
-        record {
-          agents_fit = c.size-n.ensures.inside_2.1;
-          resources_fit = c.size-r.ensures.inside_2.1;
-          states_fit = c.size-m.ensures.inside_2.1;
-          propositions_fit = c.size-p.ensures.inside_2.1;
-          rows_fit = c.size-w.ensures.inside_2.1;
-        },
-      );
-    }
+returns-in_err-named-clause-text_value c =
+    λ f. c.in_err-named.ensures.text_value (from_agents c.args.e f) c.args.job.now
+    ∙ stopped_with _ _ _ _ c.from_residual.ensures.1
+
+pub returns-in_err-n-clause-text_value : goal.returns-in_err-n-clause-text_value
+unfolding J.header_line
+returns-in_err-n-clause-text_value c =
+    λ f. c.in_ok-named.ensures.text_value (from_agents c.args.e f) c.args.job.now
+    ∙ c.in_err-n.ensures.by_index (from_resources c.args.e f)
+    ∙ stopped_with _ _ _ _ c.from_residual-in_err-n.ensures.1
+
+pub returns-in_err-r-clause-text_value : goal.returns-in_err-r-clause-text_value
+unfolding J.header_line
+returns-in_err-r-clause-text_value c =
+    λ f. c.in_ok-named.ensures.text_value (from_agents c.args.e f) c.args.job.now
+    ∙ c.in_ok-n.ensures.by_index (from_resources c.args.e f)
+    ∙ c.in_err-r.ensures.by_index (from_states c.args.e f c.in_ok-n.n.value)
+    ∙ stopped_with _ _ _ _ c.from_residual-in_err-r.ensures.1
+
+pub returns-in_err-m-clause-text_value : goal.returns-in_err-m-clause-text_value
+unfolding J.header_line
+returns-in_err-m-clause-text_value c =
+    λ f. c.in_ok-named.ensures.text_value (from_agents c.args.e f) c.args.job.now
+    ∙ c.in_ok-n.ensures.by_index (from_resources c.args.e f)
+    ∙ c.in_ok-r.ensures.by_index (from_states c.args.e f c.in_ok-n.n.value)
+    ∙ c.in_err-m.ensures.by_index (from_propositions c.args.e f c.in_ok-n.n.value c.in_ok-r.r.value)
+    ∙ stopped_with _ _ _ _ c.from_residual-in_err-m.ensures.1
+
+pub returns-in_err-p-clause-text_value : goal.returns-in_err-p-clause-text_value
+unfolding J.header_line
+returns-in_err-p-clause-text_value c =
+    λ f. c.in_ok-named.ensures.text_value (from_agents c.args.e f) c.args.job.now
+    ∙ c.in_ok-n.ensures.by_index (from_resources c.args.e f)
+    ∙ c.in_ok-r.ensures.by_index (from_states c.args.e f c.in_ok-n.n.value)
+    ∙ c.in_ok-m.ensures.by_index (from_propositions c.args.e f c.in_ok-n.n.value c.in_ok-r.r.value)
+    ∙ c.in_err-p.ensures.by_index (from_rows c.args.e f c.in_ok-n.n.value c.in_ok-r.r.value c.in_ok-m.m.value)
+    ∙ stopped_with _ _ _ _ c.from_residual-in_err-p.ensures.1
+
+pub returns-in_err-w-clause-text_value : goal.returns-in_err-w-clause-text_value
+unfolding J.header_line
+returns-in_err-w-clause-text_value c =
+    let rows_read = rw (c.from-sep.ensures, c.sizes_end.ensures.0) at c.in_err-w.ensures.by_index in
+    λ f. c.in_ok-named.ensures.text_value (from_agents c.args.e f) c.args.job.now
+    ∙ c.in_ok-n.ensures.by_index (from_resources c.args.e f)
+    ∙ c.in_ok-r.ensures.by_index (from_states c.args.e f c.in_ok-n.n.value)
+    ∙ c.in_ok-m.ensures.by_index (from_propositions c.args.e f c.in_ok-n.n.value c.in_ok-r.r.value)
+    ∙ c.in_ok-p.ensures.by_index (from_rows c.args.e f c.in_ok-n.n.value c.in_ok-r.r.value c.in_ok-m.m.value)
+    ∙ rows_read (from_kinds c.args.e f c.in_ok-n.n.value c.in_ok-r.r.value c.in_ok-m.m.value c.in_ok-p.p.value)
+    ∙ stopped_with _ _ _ _ c.from_residual-in_err-w.ensures.1
+
+pub returns-in_err-kinds-clause-text_value : goal.returns-in_err-kinds-clause-text_value
+unfolding J.header_line
+returns-in_err-kinds-clause-text_value c =
+    let rows_read = rw (c.from-sep.ensures, c.sizes_end.ensures.0) at c.in_ok-w.ensures.by_index in
+    λ f. c.in_ok-named.ensures.text_value (from_agents c.args.e f) c.args.job.now
+    ∙ c.in_ok-n.ensures.by_index (from_resources c.args.e f)
+    ∙ c.in_ok-r.ensures.by_index (from_states c.args.e f c.in_ok-n.n.value)
+    ∙ c.in_ok-m.ensures.by_index (from_propositions c.args.e f c.in_ok-n.n.value c.in_ok-r.r.value)
+    ∙ c.in_ok-p.ensures.by_index (from_rows c.args.e f c.in_ok-n.n.value c.in_ok-r.r.value c.in_ok-m.m.value)
+    ∙ rows_read (from_kinds c.args.e f c.in_ok-n.n.value c.in_ok-r.r.value c.in_ok-m.m.value c.in_ok-p.p.value)
+    ∙ c.in_err-kinds.ensures.by_index (sized c.args.e f c.in_ok-n.n.value c.in_ok-r.r.value c.in_ok-m.m.value c.in_ok-p.p.value c.in_ok-w.w.value)
+    ∙ stopped_with _ _ _ _ c.from_residual-in_err-kinds.ensures.1
+
+pub returns-clause-text_value : goal.returns-clause-text_value
+unfolding J.header_line
+returns-clause-text_value c =
+    let rows_read = rw (c.from-sep.ensures, c.sizes_end.ensures.0) at c.in_ok-w.ensures.by_index in
+    λ f. c.in_ok-named.ensures.text_value (from_agents c.args.e f) c.args.job.now
+    ∙ c.in_ok-n.ensures.by_index (from_resources c.args.e f)
+    ∙ c.in_ok-r.ensures.by_index (from_states c.args.e f c.in_ok-n.n.value)
+    ∙ c.in_ok-m.ensures.by_index (from_propositions c.args.e f c.in_ok-n.n.value c.in_ok-r.r.value)
+    ∙ c.in_ok-p.ensures.by_index (from_rows c.args.e f c.in_ok-n.n.value c.in_ok-r.r.value c.in_ok-m.m.value)
+    ∙ rows_read (from_kinds c.args.e f c.in_ok-n.n.value c.in_ok-r.r.value c.in_ok-m.m.value c.in_ok-p.p.value)
+    ∙ c.in_ok-kinds.ensures.by_index (sized c.args.e f c.in_ok-n.n.value c.in_ok-r.r.value c.in_ok-m.m.value c.in_ok-p.p.value c.in_ok-w.w.value)

@@ -6,13 +6,12 @@ use Rattle.block.specs.Layout.{block_bytes, max_resources}
 use Rattle.block.specs.declared.layout.Place.TheVariants.{ResourceKind}
 use Rattle.text.specs.Format.{value}
 use Rattle.text.specs.Job as J
-use Rattle.scan.specs.Inner.Step.{Inside}
 use Rattle.reader.proofs.Progress.{Collected}
 use Rattle.reader.proofs.header.resources.Given as goal
 
 abbrev pub invariant-loop-j : goal.invariant-loop-j
 invariant-loop-j l =
-    Inside l.text l.next × (length l.job ≡ block_bytes) × (l.j ≤ l.resources) × (length l.kinds ≡ max_resources) ×
+    (l.next ≤ length l.text) × (length l.job ≡ block_bytes) × (l.j ≤ l.resources) × (length l.kinds ≡ max_resources) ×
     Collected (λ left i. value (J.resource_spelling l.e left) (ResourceKind i)) l.text l.resources J.no_kinds l.initial.next l.initial.job l.next l.job l.kinds l.j
 
 abbrev pub decreases-loop-j : goal.decreases-loop-j

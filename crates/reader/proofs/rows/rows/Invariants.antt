@@ -4,12 +4,11 @@ use Prim.Native.Nat.{◌≤◌, ◌-◌}
 use lib.ListN.{length}
 use Rattle.block.specs.Layout.{block_bytes}
 use Rattle.text.specs.Job as J
-use Rattle.scan.specs.Inner.Step.{Inside}
 use Rattle.reader.proofs.Progress.{Reached}
 use Rattle.reader.proofs.rows.rows.Given as goal
 
 abbrev pub invariant-loop-i : goal.invariant-loop-i
-invariant-loop-i l = Inside l.text l.next × (length l.job ≡ block_bytes) × (l.i ≤ l.rows) × Reached (J.row_lines l.z) l.text l.rows l.initial.next l.initial.job l.next l.job l.i
+invariant-loop-i l = (l.next ≤ length l.text) × (length l.job ≡ block_bytes) × (l.i ≤ l.z.rows) × Reached (J.row_lines l.z) l.text l.z.rows l.initial.next l.initial.job l.next l.job l.i
 
 abbrev pub decreases-loop-i : goal.decreases-loop-i
-decreases-loop-i l = l.rows - l.i
+decreases-loop-i l = l.z.rows - l.i

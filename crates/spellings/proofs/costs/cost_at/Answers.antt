@@ -3,8 +3,5 @@ use mathlib.Core.Path.{◌∙◌}
 use Rattle.tokens.proofs.ChargesAt.{plain_search}
 use Rattle.spellings.proofs.costs.cost_at.Goals as goal
 
-pub returns-in-First : goal.returns-in-First
-returns-in-First c = rw c.in-First.is record { text_value = plain_search _ _ ∙ (rw c.list_end-sep.ensures.0 at c.number.ensures.text_value); inside_numeral = c.number.ensures.inside_numeral }
-
-pub returns-in-Second : goal.returns-in-Second
-returns-in-Second c = rw c.in-Second.is record { text_value = rw c.list_end-sep.ensures.0 at c.signed.ensures.text_value; inside_numeral = c.signed.ensures.inside_numeral }
+pub returns-in-First-clause-text_value : goal.returns-in-First-clause-text_value
+returns-in-First-clause-text_value c = rw c.in-First.is (plain_search _ _ ∙ (rw (c.from-sep.ensures, c.list_end.ensures.0) at c.number.ensures.text_value))

@@ -1,40 +1,22 @@
--- `stands` tells whether a word stands at a place: its bytes are compared from the left.
-use native.Mathlib.Omega.{arith}
-use borrow.Author.Count.{below_none, below_more}
-use Rattle.block.specs.Inner.Tests.{holds, fails}
-use Rattle.tokens.proofs.WordsAt.{room_for, byte_of, stands_at}
-use borrow.Author.Rules.{rules}
+-- `stands` tells whether a word stands at a place.
+use mathlib.Core.Bool.{Bool, true, false}
+use mathlib.Core.Path.{◌≡◌, refl}
+use lib.Dec.{eqb}
+use lib.ListN.{drop}
+use Rattle.std.specs.List.{starts_with}
+use Rattle.std.proofs.lemmas.Bool.Decides.{Decides-eqb}
+use Rattle.std.proofs.lemmas.List.{take_rest}
+use Rattle.std.proofs.lemmas.Slice.Eq.{starts_is}
+use Rattle.block.specs.Inner.Tests.{Decides, holds, fails}
 use Rattle.tokens.proofs.words.stands.Goals as goal
 
-pub overflow_sub-text : goal.overflow_sub-text
-overflow_sub-text c = omega arith
-
-pub returns-then-text-at : goal.returns-then-text-at
-returns-then-text-at c = fails (λ s. let r = room_for c.args.word.now c.args.text.now c.args.at s in omega arith)
-
-pub loop-i-init : goal.loop-i-init
-loop-i-init c = (search rules, below_none _)
-
-pub overflow_add-at : goal.overflow_add-at
-overflow_add-at c = omega arith
-
-pub bounds-text-at : goal.bounds-text-at
-bounds-text-at c = omega arith
-
-pub bounds-word-i : goal.bounds-word-i
-bounds-word-i c = omega arith
-
-pub returns-then-text-at-2 : goal.returns-then-text-at-2
-returns-then-text-at-2 c = fails (λ s. c.if-text-at-2.true (byte_of c.args.word.now c.args.text.now c.args.at s c.loop-i.i (omega arith)))
-
-pub overflow_step-i : goal.overflow_step-i
-overflow_step-i c = omega arith
-
-pub loop-i-smaller : goal.loop-i-smaller
-loop-i-smaller c = omega arith
-
-pub loop-i-preserved : goal.loop-i-preserved
-loop-i-preserved c = (omega arith, below_more _ _ c.loop-i.invariant.1 c.if-text-at-2.false)
+decided : {P : Type 0} (t : Bool) → (t ≡ true → P) × (P → t ≡ true) → Decides P t
+decided true e = holds (e.0 refl)
+decided false e = fails (λ p. let z : false ≡ true = e.1 p in cc)
 
 pub returns : goal.returns
-returns c = holds (stands_at c.args.word.now c.args.text.now c.args.at (omega arith) (λ i h. c.loop-i.invariant.1 i (omega arith)))
+returns c =
+    let s = drop c.args.at c.args.text.now in
+    let same : c.starts_with.result ≡ starts_with eqb s c.args.word.now = rw take_rest at c.starts_with.ensures.value in
+    let is = starts_is Decides-eqb s c.args.word.now c.starts_with.result same in
+    decided _ ((λ e. (_, is.0 e)), (λ w. is.1 w.0 w.1))

@@ -1,8 +1,0 @@
--- `past_value` drops the value.
-use Rattle.scan.proofs.steps.past_value.Goals as goal
-
-pub returns-in-At : goal.returns-in-At
-returns-in-At c = rw c.in-At.is
-
-pub returns-in-Refused : goal.returns-in-Refused
-returns-in-Refused c = rw c.in-Refused.is
