@@ -1,5 +1,6 @@
 -- Laws that belong to no one function.
 pub mod Decide
+pub mod Chains
 pub mod Masks
 pub mod Ones
 pub mod Digits
