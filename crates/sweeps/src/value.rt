@@ -15,16 +15,15 @@ ghost use Rattle.ways.specs.Rows.{Playable};
 ghost use Rattle.sweeps.specs.Values.{Final, Gathered, MoveOffers, Valued};
 
 use turns::buffers;
-use ways::landing::Landing;
 use ways::rows::{Row, Spot};
 use ways::worst::{Limit, Step};
 use ways::{landing, lines, worst};
 
-// A listed move that is tried at a position: which one it is, and where it lands.
+// A listed move that is tried at a position: which one it is, and where it lands, `None` where it cannot be paid.
 #[derive(Clone, Copy)]
 struct Tried {
     k: usize,
-    to: Landing,
+    to: Option<usize>,
 }
 
 // The worst rank over the replies to a listed move, or the limit; the limit too where the position cannot pay the move.
@@ -44,9 +43,8 @@ fn offered(
     ensures gathered { Gathered (not limit.most) (MoveOffers (arena_of block.now row.index) limit.most (rank_in ranks.now) spot.state spot.place (number_in ways.now spot.state true tried.k)) limit.rank result }
     ensures upper_bound { limit.rank < rank_end → result < rank_end }
 {
-    let to = tried.to;
-    match to {
-        Landing::At(y) => {
+    match tried.to {
+        Some(y) => {
             let step = Step {
                 state: spot.state,
                 number: lines::number(ways, spot.state, true, tried.k),
@@ -54,7 +52,7 @@ fn offered(
             };
             worst::worst_at(block, row, ways, ranks, step, limit)
         }
-        Landing::Unpaid => limit.rank,
+        None => limit.rank,
     }
 }
 
