@@ -2,6 +2,7 @@
 use mathlib.Core.List.{List}
 use mathlib.Core.Path.{◌≡◌, refl, sym, ◌∙◌, ap, subst, transport}
 use Prim.Native.Nat.{ℕ, ◌+◌, ◌*◌}
+use Rattle.std.specs.Prelude.{Option, None, Some}
 use Rattle.block.specs.Layout as L
 use Rattle.block.specs.Layout.{Block}
 use Rattle.block.specs.Inner.Valid.{Valid}
@@ -18,8 +19,6 @@ use Rattle.turns.specs.Inner.Rules.{ReplyTo}
 use Rattle.ways.specs.Landing.{Leaves, Lands, Made}
 use Rattle.ways.specs.Rows.{Playable}
 use Rattle.ways.specs.declared.rows.Row.{Row}
-use Rattle.ways.specs.declared.landing.Landing.{Landing}
-use Rattle.ways.specs.declared.landing.Landing.TheVariants.{At, Unpaid}
 use Rattle.ways.proofs.Leading.{reply_leads}
 use Rattle.choice.specs.Choices.{CountersBy, Makes}
 use Rattle.rankings.specs.Kinds.{ClaimsBy, CounterBy, FailedBy}
@@ -27,9 +26,9 @@ use Rattle.rankings.proofs.ByKind.{claims_by, failed_by, counter_by, words_decid
 use Rattle.choice.proofs.Moving.{outcome_next}
 
 -- a listed move where it lands
-pub way_makes : (b : Block) (row : Row) (s x m : ℕ) (r : Landing) → MoveOf (structure_of b) (coalition_of b row.index) s m → Lands (arena_of b row.index) s x m r → Makes b row s x m r
-way_makes b row s x m (At y) move lands = (move, lands)
-way_makes b row s x m Unpaid move lands = λ p placed useful allowed. lands p placed allowed.1
+pub way_makes : (b : Block) (row : Row) (s x m : ℕ) (r : Option ℕ) → MoveOf (structure_of b) (coalition_of b row.index) s m → Lands (arena_of b row.index) s x m r → Makes b row s x m r
+way_makes b row s x m (Some y) move lands = (move, lands)
+way_makes b row s x m None move lands = λ p placed useful allowed. lands p placed allowed.1
 
 module _ (b : Block) (valid : Valid b) (row : Row) (playable : Playable b row) (ranks : List ℕ) (kind own s m y : ℕ) (made : Made b row s m y)
     (p : Position) (is_state : p.state ≡ s) (leaves : Leaves (arena_of b row.index) p m y) where

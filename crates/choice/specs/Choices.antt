@@ -1,5 +1,5 @@
 -- A move or a reply at one position, by the ranks where it leads; the row's set is that of its left row.
-use Rattle.std.specs.Prelude.{Bool, true, List, ◌≡◌, ℕ, ◌-◌, ◌≤◌, ◌<◌, eqb}
+use Rattle.std.specs.Prelude.{Option, None, Some, Bool, true, List, ◌≡◌, ℕ, ◌-◌, ◌<◌, eqb}
 use Rattle.block.specs.Inner.Tests.{Decides}
 use Rattle.block.specs.Layout as L
 use Rattle.block.specs.Layout.{Block}
@@ -13,8 +13,6 @@ use Rattle.ways.specs.Listing.{Useful}
 use Rattle.ways.specs.Places.{PlacedAt}
 use Rattle.ways.specs.Rows.{Playable}
 use Rattle.ways.specs.declared.rows.Row.{Row}
-use Rattle.ways.specs.declared.landing.Landing.{Landing}
-use Rattle.ways.specs.declared.landing.Landing.TheVariants.{At, Unpaid}
 use Rattle.rankings.specs.Kinds.{AimBy, CounterBy}
 use Rattle.choice.specs.Tables.{ReplyFor}
 
@@ -55,16 +53,23 @@ module _ (b : Block) (row : Row) (ranks : List ℕ) (kind own : ℕ) where
 abbrev pub LastFree : List ℕ → ℕ → Type 0
 LastFree ways s = (0 < count_in ways s true) × (taken_in ways s (count_in ways s true - 1) ≡ 0)
 
--- k is the first listed move of state s that place x pays; where it pays none, their count
-pub record FirstPaid (b : Block) (row : Row) (ways : List ℕ) (s x k : ℕ) : Type 0 where
-  pub within : k ≤ count_in ways s true
-  pub paid : k < count_in ways s true → (p : Position) → PlacedAt (arena_of b row.index) s x p → Affordable (arena_of b row.index) p (number_in ways s true k)
-  pub before : (j : ℕ) → j < k → (p : Position) → PlacedAt (arena_of b row.index) s x p → Affordable (arena_of b row.index) p (number_in ways s true j) → ⊥
+-- place x of state s pays the k-th listed move
+abbrev pub Pays : Block → Row → List ℕ → ℕ → ℕ → ℕ → Type 0
+Pays b row ways s x k = (p : Position) → PlacedAt (arena_of b row.index) s x p → Affordable (arena_of b row.index) p (number_in ways s true k)
+
+-- and does not
+abbrev pub Lacks : Block → Row → List ℕ → ℕ → ℕ → ℕ → Type 0
+Lacks b row ways s x k = (p : Position) → PlacedAt (arena_of b row.index) s x p → Affordable (arena_of b row.index) p (number_in ways s true k) → ⊥
+
+-- the first listed move of state s that place x pays, or that it pays none
+abbrev pub FirstPaid : Block → Row → List ℕ → ℕ → ℕ → Option ℕ → Type 0
+FirstPaid b row ways s x (Some k) = (k < count_in ways s true) × Pays b row ways s x k × ((j : ℕ) → j < k → Lacks b row ways s x j)
+FirstPaid b row ways s x None = (j : ℕ) → j < count_in ways s true → Lacks b row ways s x j
 
 -- whether the number m is a move that matters to the row and that place x of state s pays, and the place that it leads to
-abbrev pub Makes : Block → Row → ℕ → ℕ → ℕ → Landing → Type 0
-Makes b row s x m (At y) = MoveOf (structure_of b) (coalition_of b row.index) s m × Lands (arena_of b row.index) s x m (At y)
-Makes b row s x m Unpaid = (p : Position) → PlacedAt (arena_of b row.index) s x p → Useful b row s m → Allowed (arena_of b row.index) p m → ⊥
+abbrev pub Makes : Block → Row → ℕ → ℕ → ℕ → Option ℕ → Type 0
+Makes b row s x m (Some y) = MoveOf (structure_of b) (coalition_of b row.index) s m × Lands (arena_of b row.index) s x m (Some y)
+Makes b row s x m None = (p : Position) → PlacedAt (arena_of b row.index) s x p → Useful b row s m → Allowed (arena_of b row.index) p m → ⊥
 
 -- r is the reply to the move m from every position of rank own in state s that pays it and that it leaves with the stocks of place y
 abbrev pub Replied : Block → Row → ℕ → List ℕ → ℕ → ℕ → ℕ → ℕ → ℕ → Type 0

@@ -15,7 +15,6 @@ ghost use Rattle.choice.specs.Filling.{MoveRight};
 
 use block::layout;
 use turns::{buffers, sizes};
-use ways::landing::Landing;
 use ways::rows::{Row, Spot};
 use ways::worst::{Limit, Step};
 use ways::{landing, lines, listing, rows, worst};
@@ -68,7 +67,7 @@ fn is_good(
     ensures { (p : Position) → PlacedAt (arena_of block.now row.index) spot.state spot.place p → Decides (GoodBy block.now row ranks.now aim.kind aim.own p (number_in ways.now spot.state true k)) result }
 {
     match landing::lands(block, row, ways, spot, k) {
-        Landing::At(y) => {
+        Some(y) => {
             let step = Step {
                 state: spot.state,
                 number: lines::number(ways, spot.state, true, k),
@@ -76,7 +75,7 @@ fn is_good(
             };
             aimed(block, row, ways, ranks, step, aim)
         }
-        Landing::Unpaid => false,
+        None => false,
     }
 }
 

@@ -14,7 +14,6 @@ ghost use Rattle.choice.specs.Tables.{NextRanks};
 
 use block::{fill, layout};
 use turns::{buffers, sizes};
-use ways::landing::Landing;
 use ways::rows::{Row, Spot};
 use ways::{landing, lines};
 
@@ -24,26 +23,18 @@ fn last_free(ways: &[u8], s: usize) -> bool
     ensures { Decides (LastFree ways.now s) result }
 {
     let n = lines::count(ways, s, true);
-    if n == 0 {
-        return false;
-    }
-    lines::taken(ways, s, n - 1) == 0
+    0 < n && lines::taken(ways, s, n - 1) == 0
 }
 
-// The first listed move that the position pays; where it pays none, their count.
-fn first_paid(block: &[u8], row: Row, ways: &[u8], spot: Spot) -> usize
+// The first listed move that the position pays.
+fn first_paid(block: &[u8], row: Row, ways: &[u8], spot: Spot) -> Option<usize>
     requires valid { Valid block.now }
     requires playable { Playable block.now row × Listed block.now row ways.now }
     requires state_bound { (spot.state < L.states block.now) × (spot.place < row.places) }
     ensures { FirstPaid block.now row ways.now spot.state spot.place result }
 {
     let n = lines::count(ways, spot.state, true);
-    for k in 0..n {
-        if let Landing::At(_) = landing::spends(block, row, ways, spot, k) {
-            return k;
-        }
-    }
-    n
+    (0..n).find(|k| landing::spends(block, row, ways, spot, *k).is_some())
 }
 
 // The rank of a position, where only moves into the set are listed: 1 where one of them can be paid. Every stock pays one that is free.
@@ -53,10 +44,7 @@ fn next_rank(block: &[u8], row: Row, ways: &[u8], spot: Spot, free: bool) -> usi
     requires state_bound { (spot.state < L.states block.now) × (spot.place < row.places) × (free ≡ true → LastFree ways.now spot.state) }
     ensures { NextRight block.now row.index row.set (spot.state * row.places + spot.place) result × (result < rank_end) }
 {
-    if free {
-        return 1;
-    }
-    if first_paid(block, row, ways, spot) < lines::count(ways, spot.state, true) {
+    if free || first_paid(block, row, ways, spot).is_some() {
         return 1;
     }
     sizes::NEVER
@@ -72,11 +60,10 @@ pub fn next_move(block: &[u8], row: Row, ways: &[u8], ranks: &[u8], spot: Spot) 
     if buffers::rank_at(ranks, spot.state * row.places + spot.place) != 1 {
         return sizes::NO_MOVE;
     }
-    let k = first_paid(block, row, ways, spot);
-    if k < lines::count(ways, spot.state, true) {
-        return lines::number(ways, spot.state, true, k) as u8;
+    match first_paid(block, row, ways, spot) {
+        Some(k) => lines::number(ways, spot.state, true, k) as u8,
+        None => sizes::NO_MOVE,
     }
-    sizes::NO_MOVE
 }
 
 // Stores the ranks of state s, where those of the states before it are there.

@@ -13,22 +13,18 @@ ghost use Rattle.choice.specs.Tables.{RanksOf};
 use crate::moves::Aim;
 use block::layout;
 use turns::buffers;
-use ways::landing::Landing;
 use ways::rows::{Row, Spot};
 use ways::worst::Step;
 use ways::{landing, lines};
 
-// Whether the number m is a move that matters to the row and that the position pays, and where it lands.
-pub fn way_to(block: &[u8], row: Row, ways: &[u8], spot: Spot, m: usize) -> Landing
+// Where the number m lands, `None` where it is no move that matters to the row and that the position pays.
+pub fn way_to(block: &[u8], row: Row, ways: &[u8], spot: Spot, m: usize) -> Option<usize>
     requires valid { Valid block.now }
     requires playable { Playable block.now row × Listed block.now row ways.now }
     requires state_bound { (spot.state < L.states block.now) × (spot.place < row.places) }
     ensures { Makes block.now row spot.state spot.place m result }
 {
-    let k = lines::find(ways, spot.state, true, m);
-    if k == lines::count(ways, spot.state, true) {
-        return Landing::Unpaid;
-    }
+    let k = lines::find(ways, spot.state, true, m)?;
     landing::lands(block, row, ways, spot, k)
 }
 

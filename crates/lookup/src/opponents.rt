@@ -20,7 +20,6 @@ use choice::replies;
 use solver::ready;
 use solver::ready::Ready;
 use turns::{buffers, sizes};
-use ways::landing::Landing;
 use ways::rows::Spot;
 use ways::worst::Step;
 use ways::{lines, listing, rows};
@@ -49,7 +48,7 @@ fn reply_at(
     }
     listing::list_row(block, row, ways);
     match replies::way_to(block, row, ways, spot, m) {
-        Landing::At(y) => {
+        Some(y) => {
             let step = Step {
                 state: spot.state,
                 number: m,
@@ -58,7 +57,7 @@ fn reply_at(
             let r = replies::reply_to(block, row, ways, ranks, step, own, ready.right);
             Ok(r)
         }
-        Landing::Unpaid => Err(Refusal::Move),
+        None => Err(Refusal::Move),
     }
 }
 

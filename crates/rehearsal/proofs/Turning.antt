@@ -3,6 +3,7 @@ use mathlib.Core.Logic.{◌↔◌}
 use mathlib.Core.List.{List}
 use mathlib.Core.Path.{◌≡◌, sym, ◌∙◌, ap, subst, transport}
 use Prim.Native.Nat.{ℕ, ◌+◌, ◌<◌}
+use Rattle.std.specs.Prelude.{None, Some}
 use Rattle.block.specs.Decide.{Bit}
 use Rattle.block.specs.Layout as L
 use Rattle.block.specs.Layout.{Block, Strategic}
@@ -20,7 +21,6 @@ use Rattle.turns.specs.Inner.Rules.{ReplyTo}
 use Rattle.ways.specs.Listing.{Useful}
 use Rattle.ways.specs.Places.{PlacedAt}
 use Rattle.ways.specs.declared.rows.Row.{Row}
-use Rattle.ways.specs.declared.landing.Landing.TheVariants.{At, Unpaid}
 use Rattle.choice.specs.Choices.{Makes}
 use Rattle.rankings.proofs.ByKind.{along_kind}
 use Rattle.choice.proofs.Moving.{outcome_next}
@@ -33,7 +33,7 @@ use Rattle.rehearsal.specs.declared.turn.Turn.TheVariants.{To}
 
 module _ (b : Block) (valid : Valid b) (row : Row) (s x m r : ℕ) where
   -- where the team's move lands and the reply leads
-  here_to : (y : ℕ) → ReplyTo b row.index s r → Makes b row s x m (At y)
+  here_to : (y : ℕ) → ReplyTo b row.index s r → Makes b row s x m (Some y)
       → (p : Position) → PlacedAt (arena_of b row.index) s x p → RowMove b row.index p m
       → Turned (arena_of b row.index) (objective_of b row.index) p r (To (record { state = L.next b s (m + r); place = y }))
   here_to y reply (move, lands) p placed asked = (
@@ -56,7 +56,7 @@ module _ (b : Block) (valid : Valid b) (row : Row) (s x m r : ℕ) where
       moved = subst (λ (q : ℕ). MoveOf (structure_of b) (coalition_of b row.index) q m) (sym placed.state) move
 
   module _ (i : ℕ) (is : row.index ≡ i) where
-    pub turned_to : (y : ℕ) → ReplyTo b row.index s r → Makes b row s x m (At y)
+    pub turned_to : (y : ℕ) → ReplyTo b row.index s r → Makes b row s x m (Some y)
         → (p : Position) → PlacedAt (arena_of b i) s x p → RowMove b i p m
         → Turned (arena_of b i) (objective_of b i) p r (To (record { state = L.next b s (m + r); place = y }))
     turned_to y reply makes =
@@ -64,7 +64,7 @@ module _ (b : Block) (valid : Valid b) (row : Row) (s x m r : ℕ) where
         (here_to y reply makes)
 
     -- the position pays the team's move
-    pub never_unpaid : Makes b row s x m Unpaid → (p : Position) → PlacedAt (arena_of b i) s x p → SpotMove b i row p m → (m ≡ 255 → ⊥) → ⊥
+    pub never_unpaid : Makes b row s x m None → (p : Position) → PlacedAt (arena_of b i) s x p → SpotMove b i row p m → (m ≡ 255 → ⊥) → ⊥
     never_unpaid makes =
         subst (λ (j : ℕ). (p : Position) → PlacedAt (arena_of b j) s x p → SpotMove b j row p m → (m ≡ 255 → ⊥) → ⊥) is
         (λ p placed move some. let (useful, paid) = move.listed some in makes p placed (subst (λ (q : ℕ). Useful b row q m) placed.state useful) paid)

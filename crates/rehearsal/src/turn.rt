@@ -13,7 +13,6 @@ use block::widths::wide;
 use choice::replies;
 use lookup::spots;
 use solver::ready::Ready;
-use ways::landing::Landing;
 use ways::lines;
 use ways::rows::Spot;
 
@@ -37,15 +36,15 @@ pub fn take_turn(
     requires state_bound { (spot.state < L.states block.now) × (spot.place < ready.row.places) }
     ensures { (p : Position) → PlacedAt (arena_of block.now i) spot.state spot.place p → CoalitionWins (arena_of block.now i) (objective_of block.now i) p → Turned (arena_of block.now i) (objective_of block.now i) p r result }
 {
-    if lines::find(ways, spot.state, false, r) == lines::count(ways, spot.state, false) {
+    if lines::find(ways, spot.state, false, r).is_none() {
         return Turn::NoReply;
     }
     let m = wide(spots::spot_move(block, i, ready, ways, ranks, spot));
     match replies::way_to(block, ready.row, ways, spot, m) {
-        Landing::At(y) => Turn::To(Spot {
+        Some(y) => Turn::To(Spot {
             state: layout::next(block, spot.state, m + r),
             place: y,
         }),
-        Landing::Unpaid => Turn::NoReply, // the team's move is always paid
+        None => Turn::NoReply, // the team's move is always paid
     }
 }

@@ -23,7 +23,7 @@ use Rattle.ways.specs.Lines.{count_in}
 use Rattle.ways.specs.Rows.{Playable}
 use Rattle.ways.specs.declared.rows.Row.{Row}
 use Rattle.boards.specs.Boards.{to_in, won_in}
-use Rattle.stages.specs.Stages.{hold, due_at, marked_at, rank_of, To, FiresAt, FirstStaying, Waits, Earned, Step, same, Held, Evolved}
+use Rattle.stages.specs.Stages.{hold, due_at, marked_at, rank_of, To, FiresAt, Stays, Waits, Earned, Step, same, Held, Evolved}
 use Rattle.stages.proofs.Evolving.{to_one}
 use Rattle.boards.proofs.Words.{fires?}
 
@@ -137,10 +137,10 @@ module _ (b : Block) (valid : Valid b) (row : Row) (playable : Playable b row) (
       let same : j ≡ k = omega arith in
       subst (Waits b row ways board s x) same waits
 
-  -- a move that was waited for serves now: so do all moves before the next that does not
-  module _ (s x k y next : ℕ) (state : s < L.states b) (place : x < row.places) (waits : Waits b row ways board s x k)
-      (to : To b row ways board s x k y) (fires : FiresAt b row ways board false s k y) (first : FirstStaying b row ways board s x (k + 1) next) where
-    serves : (j z : ℕ) → j < next → To b row ways board s x j z → FiresAt b row ways board false s j z
+  -- a move that was waited for serves now: so do all moves before n, where none of them stays
+  module _ (s x k y n : ℕ) (state : s < L.states b) (place : x < row.places) (waits : Waits b row ways board s x k)
+      (to : To b row ways board s x k y) (fires : FiresAt b row ways board false s k y) (none : (j : ℕ) → k + 1 ≤ j → j < n → Stays b row ways board s x j → ⊥) where
+    serves : (j z : ℕ) → j < n → To b row ways board s x j z → FiresAt b row ways board false s j z
     serves j z less at = go (lt? j k) (eq? j k)
       where
         go : Dec (j < k) → Dec (j ≡ k) → FiresAt b row ways board false s j z
@@ -153,10 +153,10 @@ module _ (b : Block) (valid : Valid b) (row : Row) (playable : Playable b row) (
           where
             decide : Dec (FiresAt b row ways board false s j z) → FiresAt b row ways board false s j z
             decide (yes f) = f
-            decide (no quiet) = absurd (first.before j (omega arith) less (z, at, quiet))
+            decide (no quiet) = absurd (none j (omega arith) less (z, at, quiet))
 
-    pub next_waits : next < count_in ways s true → Waits b row ways board s x next
-    next_waits small = let (z, at, _) = first.here small in record { place = z; to = at; below = serves }
+    pub next_waits : Stays b row ways board s x n → Waits b row ways board s x n
+    next_waits (z, at, _) = record { place = z; to = at; below = serves }
 
-    pub all_earned : count_in ways s true ≤ next → Earned b row ways board false s x
+    pub all_earned : count_in ways s true ≤ n → Earned b row ways board false s x
     all_earned end j z at = serves j z (omega (arith, at.0)) at

@@ -1,5 +1,5 @@
 -- A stage gives one rank to every position that earns it by what was ranked before, and to no other.
-use Rattle.std.specs.Prelude.{Bool, true, false, List, ◌↔◌, ◌⊎◌, ◌≡◌, ℕ, ◌+◌, ◌*◌, ◌-◌, ◌≤◌, ◌<◌, get_or, length}
+use Rattle.std.specs.Prelude.{Option, None, Some, Bool, true, false, List, ◌↔◌, ◌⊎◌, ◌≡◌, ℕ, ◌+◌, ◌*◌, ◌-◌, ◌≤◌, ◌<◌, get_or, length}
 use Rattle.block.specs.Decide.{Bit}
 use Rattle.block.specs.Layout as L
 use Rattle.block.specs.Layout.{Block}
@@ -13,7 +13,6 @@ use Rattle.ways.specs.Lines.{count_in, number_in}
 use Rattle.ways.specs.Listing.{Listed}
 use Rattle.ways.specs.Rows.{Playable}
 use Rattle.ways.specs.declared.rows.Row.{Row}
-use Rattle.ways.specs.declared.landing.Landing.TheVariants.{At}
 use Rattle.boards.specs.Boards.{nexts_words, board_bytes, to_in, won_in, reach_in, Nexts, RankedWithin, Fires, Newly}
 
 -- a word from here on stands for no rank yet: for always, which listed move is waited for
@@ -51,7 +50,7 @@ rank_of row ranks s x = rank_in ranks (s * row.places + x)
 module _ (b : Block) (row : Row) (ways board : List ℕ) where
   -- the k-th listed move of state s is paid at place x and lands at place y
   abbrev pub To : ℕ → ℕ → ℕ → ℕ → Type 0
-  To s x k y = (k < count_in ways s true) × Lands (arena_of b row.index) s x (number_in ways s true k) (At y)
+  To s x k y = (k < count_in ways s true) × Lands (arena_of b row.index) s x (number_in ways s true k) (Some y)
 
   abbrev pub FiresAt : Bool → ℕ → ℕ → ℕ → Type 0
   FiresAt most s k y = Fires most (to_in board s k) (won_in board y)
@@ -60,11 +59,10 @@ module _ (b : Block) (row : Row) (ways board : List ℕ) where
   abbrev pub Stays : ℕ → ℕ → ℕ → Type 0
   Stays s x k = (y : ℕ) × To s x k y × (FiresAt false s k y → ⊥)
 
-  -- k is the first such move from `from` on, and the count of all moves where there is none
-  pub record FirstStaying (s x from k : ℕ) : Type 0 where
-    pub within : (from ≤ k) × (k ≤ count_in ways s true)
-    pub here : k < count_in ways s true → Stays s x k
-    pub before : (j : ℕ) → from ≤ j → j < k → Stays s x j → ⊥
+  -- the first such move from `from` on, or that there is none
+  abbrev pub FirstStaying : ℕ → ℕ → ℕ → Option ℕ → Type 0
+  FirstStaying s x from (Some k) = (from ≤ k) × (k < count_in ways s true) × Stays s x k × ((j : ℕ) → from ≤ j → j < k → Stays s x j → ⊥)
+  FirstStaying s x from None = (j : ℕ) → from ≤ j → j < count_in ways s true → Stays s x j → ⊥
 
   -- what is waited for at an unranked position of always: a move that is paid, where those before it that are paid serve the attack
   pub record Waits (s x k : ℕ) : Type 0 where

@@ -17,7 +17,6 @@ use crate::staying;
 use block::layout;
 use turns::{buffers, sizes};
 use ways::back::Span;
-use ways::landing::Landing;
 use ways::rows::{Row, Spot};
 use ways::{back, landing, lines, packs};
 
@@ -57,8 +56,8 @@ fn leads(block: &[u8], ways: &[u8], fire: Fire, x: usize) -> bool
         place: x,
     };
     match landing::lands(block, row, ways, spot, fire.index) {
-        Landing::At(y) => y == fire.place,
-        Landing::Unpaid => false,
+        Some(y) => y == fire.place,
+        None => false,
     }
 }
 
@@ -103,12 +102,10 @@ fn pass(
         state: fire.state,
         place: x,
     };
-    let next = staying::first_staying(block, row, ways, board, spot, fire.index + 1);
-    if next < lines::count(ways, fire.state, true) {
-        buffers::set_rank(ranks, fire.state * row.places + x, HOLD + next);
-        return;
+    match staying::first_staying(block, row, ways, board, spot, fire.index + 1) {
+        Some(next) => buffers::set_rank(ranks, fire.state * row.places + x, HOLD + next),
+        None => give(block, ways, board, ranks, flags, fire, x),
     }
-    give(block, ways, board, ranks, flags, fire, x);
 }
 
 // Carries the move back to place x, if it lands at its place from there.

@@ -10,7 +10,6 @@ ghost use Rattle.boards.specs.Boards.{board_bytes};
 ghost use Rattle.stages.specs.Stages.{Stays, FirstStaying};
 
 use boards::{board, fires};
-use ways::landing::Landing;
 use ways::rows::{Row, Spot};
 use ways::{landing, lines};
 
@@ -22,16 +21,16 @@ fn stays(block: &[u8], row: Row, ways: &[u8], board: &[u8], spot: Spot, k: usize
     ensures { Decides (Stays block.now row ways.now board.now spot.state spot.place k) result }
 {
     match landing::lands(block, row, ways, spot, k) {
-        Landing::At(y) => !fires::fires(
+        Some(y) => !fires::fires(
             false,
             board::to_at(board, spot.state, k),
             board::won_at(board, y),
         ),
-        Landing::Unpaid => false,
+        None => false,
     }
 }
 
-// The first such move from `from` on; where there is none, the count of the moves.
+// The first such move from `from` on.
 pub fn first_staying(
     block: &[u8],
     row: Row,
@@ -39,7 +38,7 @@ pub fn first_staying(
     board: &[u8],
     spot: Spot,
     from: usize,
-) -> usize
+) -> Option<usize>
     requires valid { Valid block.now }
     requires playable { Playable block.now row × Listed block.now row ways.now × (length board.now ≡ board_bytes) }
     requires state_bound { (spot.state < L.states block.now) × (spot.place < row.places) × (from ≤ count_in ways.now spot.state true) }
@@ -48,8 +47,8 @@ pub fn first_staying(
     let n = lines::count(ways, spot.state, true);
     for k in from..n {
         if stays(block, row, ways, board, spot, k) {
-            return k;
+            return Some(k);
         }
     }
-    n
+    None
 }

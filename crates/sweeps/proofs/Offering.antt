@@ -6,6 +6,7 @@ use mathlib.Core.Logic.{inl, inr, ⊎_elim}
 use mathlib.Core.Path.{◌≡◌, sym, subst}
 use Prim.Native.Nat.{ℕ, ◌<◌}
 use native.Mathlib.Omega.{arith}
+use Rattle.std.specs.Prelude.{None, Some}
 use Rattle.block.specs.Layout as L
 use Rattle.block.specs.Layout.{Block}
 use Rattle.block.specs.Inner.Valid.{Valid}
@@ -19,7 +20,6 @@ use Rattle.ways.specs.Lines.{count_in, number_in}
 use Rattle.ways.specs.Listing.{Listed}
 use Rattle.ways.specs.Rows.{Playable}
 use Rattle.ways.specs.declared.rows.Row.{Row}
-use Rattle.ways.specs.declared.landing.Landing.TheVariants.{At, Unpaid}
 use Rattle.ways.proofs.Leading.{move_here, allowed_useful}
 use Rattle.ways.proofs.Placing.{place_position}
 use Rattle.sweeps.specs.Values.{Gathered, MoveOffers, OneOf}
@@ -35,7 +35,7 @@ module _ (b : Block) (valid : Valid b) (row : Row) (playable : Playable b row) (
   abbrev G : Arena
   G = arena_of b row.index
 
-  pub offer_gathered : MoveOf (structure_of b) (coalition_of b row.index) s m → (y limit v : ℕ) → Lands G s x m (At y) → WorstWithin b row ranks s m y most limit v
+  pub offer_gathered : MoveOf (structure_of b) (coalition_of b row.index) s m → (y limit v : ℕ) → Lands G s x m (Some y) → WorstWithin b row ranks s m y most limit v
       → Gathered (not most) (MoveOffers G most (rank_in ranks) s x m) limit v
   offer_gathered move y limit v (_, lands) within =
       let (p, placed) = place_position G s x state (omega (arith, playable.places_are)) in
@@ -49,7 +49,7 @@ module _ (b : Block) (valid : Valid b) (row : Row) (playable : Playable b row) (
         some = ⊎_elim (λ e. inr (p, placed, move_here b valid row playable s x m p placed move paid, subst (Worst G most (rank_in ranks) p m) (sym e) is-worst)) inl further.taken;
       }
 
-  pub offer_nothing : Lands G s x m Unpaid → (v : ℕ) → Gathered (not most) (MoveOffers G most (rank_in ranks) s x m) v v
+  pub offer_nothing : Lands G s x m None → (v : ℕ) → Gathered (not most) (MoveOffers G most (rank_in ranks) s x m) v v
   offer_nothing unpaid = gathered_nothing (not most) (MoveOffers G most (rank_in ranks) s x m) (λ v (p, placed, allowed, _). unpaid p placed allowed.1)
 
 -- the listed moves offer what all moves do

@@ -1,5 +1,5 @@
 // The value of a position in one step: the best over the coalition's moves of the worst over the replies.
-ghost use Rattle.std.specs.Prelude.{true, false, not, ◌≡◌, ◌+◌, ◌*◌, ◌≤◌, ◌<◌, length};
+ghost use Rattle.std.specs.Prelude.{Option, true, false, not, ◌≡◌, ℕ, ◌+◌, ◌*◌, ◌≤◌, ◌<◌, length};
 ghost use Rattle.block.specs.Inner.Tests.{Decides};
 ghost use Rattle.block.specs.Layout as L;
 ghost use Rattle.block.specs.Inner.Valid.{Valid};
@@ -15,16 +15,15 @@ ghost use Rattle.ways.specs.Rows.{Playable};
 ghost use Rattle.sweeps.specs.Values.{Final, Gathered, MoveOffers, Valued};
 
 use turns::buffers;
-use ways::landing::Landing;
 use ways::rows::{Row, Spot};
 use ways::worst::{Limit, Step};
 use ways::{landing, lines, worst};
 
-// A listed move that is tried at a position: which one it is, and where it lands.
+// A listed move that is tried at a position: which one it is, and where it lands, `None` where it cannot be paid.
 #[derive(Clone, Copy)]
 struct Tried {
     k: usize,
-    to: Landing,
+    to: Option<usize>,
 }
 
 // The worst rank over the replies to a listed move, or the limit; the limit too where the position cannot pay the move.
@@ -44,9 +43,8 @@ fn offered(
     ensures gathered { Gathered (not limit.most) (MoveOffers (arena_of block.now row.index) limit.most (rank_in ranks.now) spot.state spot.place (number_in ways.now spot.state true tried.k)) limit.rank result }
     ensures upper_bound { limit.rank < rank_end → result < rank_end }
 {
-    let to = tried.to;
-    match to {
-        Landing::At(y) => {
+    match tried.to {
+        Some(y) => {
             let step = Step {
                 state: spot.state,
                 number: lines::number(ways, spot.state, true, tried.k),
@@ -54,7 +52,7 @@ fn offered(
             };
             worst::worst_at(block, row, ways, ranks, step, limit)
         }
-        Landing::Unpaid => limit.rank,
+        None => limit.rank,
     }
 }
 
@@ -80,8 +78,8 @@ fn is_final(most: bool, rank: usize, v: usize) -> bool
     rank <= v + 1
 }
 
-// The value of a position where a listed move may give.
-fn value_filling(
+// The value of a position, by where each listed move lands there.
+fn value_by<F: Fn(usize) -> Option<usize>>(
     block: &[u8],
     row: Row,
     ways: &[u8],
@@ -89,11 +87,14 @@ fn value_filling(
     spot: Spot,
     most: bool,
     rank: usize,
+    lands: F,
 ) -> usize
     requires valid { Valid block.now }
     requires playable { Playable block.now row × Listed block.now row ways.now × (room_bytes ≤ length ranks.now) }
     requires into_value { (row.into ≡ false) × (spot.state < L.states block.now) × (spot.place < row.places) }
     requires rank_value { (rank ≡ rank_in ranks.now (spot.state * row.places + spot.place)) × (0 < rank) × (rank < rank_end) }
+    requires callable { (k : ℕ) → k < count_in ways.now spot.state true → F.pre lands k }
+    requires landed { (k : ℕ) (to : Option ℕ) → k < count_in ways.now spot.state true → F.post lands k to → Lands (arena_of block.now row.index) spot.state spot.place (number_in ways.now spot.state true k) to }
     ensures { ((p : Position) → PlacedAt (arena_of block.now row.index) spot.state spot.place p → Valued (arena_of block.now row.index) most (rank_in ranks.now) p result) × (result < rank_end) }
 {
     let n = lines::count(ways, spot.state, true);
@@ -105,7 +106,7 @@ fn value_filling(
         };
         let tried = Tried {
             k: k,
-            to: landing::lands(block, row, ways, spot, k),
+            to: lands(k),
         };
         let w = offered(block, row, ways, ranks, spot, tried, limit);
         if w != v {
@@ -118,46 +119,8 @@ fn value_filling(
     v
 }
 
-// The same where none does: a loop of its own, since one that can fill up a stock takes up to 1.4 times as long.
-fn value_spending(
-    block: &[u8],
-    row: Row,
-    ways: &[u8],
-    ranks: &[u8],
-    spot: Spot,
-    most: bool,
-    rank: usize,
-) -> usize
-    requires valid { Valid block.now }
-    requires playable { Playable block.now row × Listed block.now row ways.now × (room_bytes ≤ length ranks.now) }
-    requires into_value { (row.into ≡ false) × (spot.state < L.states block.now) × (spot.place < row.places) }
-    requires rank_value { (rank ≡ rank_in ranks.now (spot.state * row.places + spot.place)) × (0 < rank) × (rank < rank_end) }
-    requires gives_value { row.gives ≡ false }
-    ensures { ((p : Position) → PlacedAt (arena_of block.now row.index) spot.state spot.place p → Valued (arena_of block.now row.index) most (rank_in ranks.now) p result) × (result < rank_end) }
-{
-    let n = lines::count(ways, spot.state, true);
-    let mut v = first_value(most, rank);
-    for k in 0..n {
-        let limit = Limit {
-            most: most,
-            rank: v,
-        };
-        let tried = Tried {
-            k: k,
-            to: landing::spends(block, row, ways, spot, k),
-        };
-        let w = offered(block, row, ways, ranks, spot, tried, limit);
-        if w != v {
-            if is_final(most, rank, w) {
-                return w;
-            }
-            v = w;
-        }
-    }
-    v
-}
-
-// The value of a position, whose rank is given, as far as it matters to that rank.
+// The value of a position, whose rank is given, as far as it matters to that rank. Where no listed move gives, a loop of its own: one that can fill
+// up a stock takes up to 1.4 times as long.
 pub fn value_at(
     block: &[u8],
     row: Row,
@@ -174,7 +137,11 @@ pub fn value_at(
     ensures { ((p : Position) → PlacedAt (arena_of block.now row.index) spot.state spot.place p → Valued (arena_of block.now row.index) most (rank_in ranks.now) p result) × (result < rank_end) }
 {
     if row.gives {
-        return value_filling(block, row, ways, ranks, spot, most, rank);
+        return value_by(block, row, ways, ranks, spot, most, rank, |k| {
+            landing::lands(block, row, ways, spot, k)
+        });
     }
-    value_spending(block, row, ways, ranks, spot, most, rank)
+    value_by(block, row, ways, ranks, spot, most, rank, |k| {
+        landing::spends(block, row, ways, spot, k)
+    })
 }

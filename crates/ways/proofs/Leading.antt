@@ -6,6 +6,7 @@ use mathlib.Core.Path.{◌≡◌, refl, sym, ◌∙◌, ap, ap₂, subst}
 use Prim.Native.Nat.{ℕ, ◌+◌, ◌*◌, ◌-◌, ◌≤◌, ◌<◌, min}
 use native.Mathlib.Nat.{mul-le-mul}
 use native.Mathlib.Omega.{arith}
+use Rattle.std.specs.Prelude.{Option, None, Some}
 use Rattle.block.specs.Layout as L
 use Rattle.block.specs.Layout.{Block}
 use Rattle.block.specs.Inner.Valid.{Valid}
@@ -32,8 +33,6 @@ use Rattle.ways.specs.Places.{PlacedAt}
 use Rattle.ways.specs.Rows.{Playable}
 use Rattle.ways.specs.Packed.{packed_from, Packs, Narrow, Covers, filled_place}
 use Rattle.ways.specs.declared.rows.Row.{Row}
-use Rattle.ways.specs.declared.landing.Landing.{Landing}
-use Rattle.ways.specs.declared.landing.Landing.TheVariants.{At, Unpaid}
 use Rattle.ways.proofs.Filling.{apart, state_same}
 use Rattle.ways.proofs.Offsets.{full_pays, number_zero, state_and_stocks, last_place, spent, gives_fit, spent_number, left_stock, remains_number}
 use Rattle.ways.proofs.Placing.{stocks_below, place_position}
@@ -142,7 +141,7 @@ module _ (b : Block) (valid : Valid b) (row : Row) (playable : Playable b row) w
           let (p, placed) = place_position G s x state (omega (arith, playable.places_are)) in
           omega (arith, spent_at p placed)
 
-      pub lands_at : given_in ways s k ≡ 0 → Lands G s x m (At (x - o))
+      pub lands_at : given_in ways s k ≡ 0 → Lands G s x m (Some (x - o))
       lands_at none = (
         omega (arith, playable.places_are),
         λ p placed.
@@ -179,7 +178,7 @@ module _ (b : Block) (valid : Valid b) (row : Row) (playable : Playable b row) w
             ∙ sym (same_number G (stocks_of G (outcome G p m r)) (record { state = 0; stock = λ j. min (full_stock (G.bounds j)) ((spent G p m).stock j + (gives G (full G s) m).stock j) })
             (refl, λ j l. left_stock G p m placed.fits (paid_at p placed) r j l ∙ ap (λ (q : ℕ). min (full_stock (G.bounds j)) ((spent G p m).stock j + (gives G (full G q) m).stock j)) placed.state)))
 
-      pub lands_filled : (y : ℕ) → y ≡ filled_place (packed_in ways (row.places - 1)) (packed_in ways (x - o)) (packed_in ways (given_in ways s k)) → Lands G s x m (At y)
+      pub lands_filled : (y : ℕ) → y ≡ filled_place (packed_in ways (row.places - 1)) (packed_in ways (x - o)) (packed_in ways (given_in ways s k)) → Lands G s x m (Some y)
       lands_filled y is =
           let (p, placed) = place_position G s x state (omega (arith, playable.places_are)) in
           let reply = idle_move (structure_of b) (valid_proper b valid) (opponents (coalition_of b row.index)) s state in
@@ -189,13 +188,13 @@ module _ (b : Block) (valid : Valid b) (row : Row) (playable : Playable b row) w
             λ p' placed'. (paid_at p' placed', λ r. sym (is ∙ fills p' placed' r)),
           )
 
-    pub lands_nowhere : (Covers ways x o → ⊥) → Lands G s x m Unpaid
+    pub lands_nowhere : (Covers ways x o → ⊥) → Lands G s x m None
     lands_nowhere unpaid p placed paid = unpaid (subst (Covers ways x) (sym offset_o) (pays_covers b valid row.index playable.inside playable.strategic ways listed.packed s x m way.0.1 p placed paid))
 
     -- a move that gives nothing lands where it leaves the place
-    pub spends_lands : given_in ways s k ≡ 0 → (r : Landing) → Remains ways x o r → Lands G s x m r
-    spends_lands none (At y) (covers, left) = subst (λ (z : ℕ). Lands G s x m (At z)) {x = x - o} {y = y} (omega arith) (lands_at covers none)
-    spends_lands none Unpaid unpaid = lands_nowhere unpaid
+    pub spends_lands : given_in ways s k ≡ 0 → (r : Option ℕ) → Remains ways x o r → Lands G s x m r
+    spends_lands none (Some y) (covers, left) = subst (λ (z : ℕ). Lands G s x m (Some z)) {x = x - o} {y = y} (omega arith) (lands_at covers none)
+    spends_lands none None unpaid = lands_nowhere unpaid
 
   -- a move that is made, and the replies to it
   module _ (s m y : ℕ) (made : Made b row s m y) where

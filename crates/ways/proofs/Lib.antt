@@ -7,3 +7,4 @@ pub mod Largest
 pub mod Leading
 pub mod Marking
 pub mod Coming
+pub mod Tells

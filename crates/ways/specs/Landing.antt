@@ -1,5 +1,5 @@
 -- A move at a stock place, and the worst of its outcomes.
-use Rattle.std.specs.Prelude.{Bool, false, not, List, ◌≡◌, ℕ, ◌+◌, ◌*◌, ◌<◌}
+use Rattle.std.specs.Prelude.{Option, None, Some, Bool, false, not, List, ◌≡◌, ℕ, ◌+◌, ◌*◌, ◌<◌}
 use Rattle.block.specs.Layout as L
 use Rattle.block.specs.Layout.{Block}
 use Rattle.game.specs.Position.{Arena, Position, IsPosition, MoveOf, number, Affordable, outcome}
@@ -11,22 +11,20 @@ use Rattle.ways.specs.Extremes.{Further, Worst}
 use Rattle.ways.specs.Packed.{Covers}
 use Rattle.ways.specs.Places.{PlacedAt}
 use Rattle.ways.specs.declared.rows.Row.{Row}
-use Rattle.ways.specs.declared.landing.Landing.{Landing}
-use Rattle.ways.specs.declared.landing.Landing.TheVariants.{At, Unpaid}
 
 -- what is left of stock place x when o is taken of it, or that it has not so much
-abbrev pub Remains : List ℕ → ℕ → ℕ → Landing → Type 0
-Remains ways x o (At y) = Covers ways x o × (y + o ≡ x)
-Remains ways x o Unpaid = Covers ways x o → ⊥
+abbrev pub Remains : List ℕ → ℕ → ℕ → Option ℕ → Type 0
+Remains ways x o (Some y) = Covers ways x o × (y + o ≡ x)
+Remains ways x o None = Covers ways x o → ⊥
 
 -- the stocks that the move m leaves of p have number y
 abbrev pub Leaves : Arena → Position → ℕ → ℕ → Type 0
 Leaves G p m y = (r : ℕ) → number G (stocks_of G (outcome G p m r)) ≡ y
 
 -- the move m at stock place x of state s: the place that it leads to, or that the place cannot pay it
-abbrev pub Lands : Arena → ℕ → ℕ → ℕ → Landing → Type 0
-Lands G s x m (At y) = (y < stock_places G) × ((p : Position) → PlacedAt G s x p → Affordable G p m × Leaves G p m y)
-Lands G s x m Unpaid = (p : Position) → PlacedAt G s x p → Affordable G p m → ⊥
+abbrev pub Lands : Arena → ℕ → ℕ → ℕ → Option ℕ → Type 0
+Lands G s x m (Some y) = (y < stock_places G) × ((p : Position) → PlacedAt G s x p → Affordable G p m × Leaves G p m y)
+Lands G s x m None = (p : Position) → PlacedAt G s x p → Affordable G p m → ⊥
 
 -- m is a move in state s, and y a stock place
 abbrev pub Made : Block → Row → ℕ → ℕ → ℕ → Type 0

@@ -1,5 +1,5 @@
 -- The buffer that holds the listing of a row: first the packed stocks of each stock place, then for each state its fields.
-use Rattle.std.specs.Prelude.{Bool, true, false, List, ◌≡◌, ℕ, ◌+◌, ◌*◌, ◌≤◌, ◌<◌, get_or}
+use Rattle.std.specs.Prelude.{Option, None, Some, Bool, true, false, List, ◌≡◌, ℕ, ◌+◌, ◌*◌, ◌<◌, get_or}
 use Rattle.block.specs.Layout.{max_states, max_joint}
 use Rattle.turns.specs.Buffers.{rank_in}
 use Rattle.turns.specs.Sizes.{max_stock_places}
@@ -44,11 +44,10 @@ count_in l s ours = field_in l s (count_at ours)
 abbrev pub number_in : List ℕ → ℕ → Bool → ℕ → ℕ
 number_in l s ours k = field_in l s (line_at ours + k)
 
--- k is the place of the number m among them; where it is not there, their count
-pub record FoundAt (l : List ℕ) (s : ℕ) (ours : Bool) (m k : ℕ) : Type 0 where
-  pub within : k ≤ count_in l s ours
-  pub here : k < count_in l s ours → number_in l s ours k ≡ m
-  pub before : (j : ℕ) → j < k → number_in l s ours j ≡ m → ⊥
+-- the first place of the number m among them, or that it is not there
+abbrev pub FoundAt : List ℕ → ℕ → Bool → ℕ → Option ℕ → Type 0
+FoundAt l s ours m (Some k) = (k < count_in l s ours) × (number_in l s ours k ≡ m) × ((j : ℕ) → j < k → number_in l s ours j ≡ m → ⊥)
+FoundAt l s ours m None = (j : ℕ) → j < count_in l s ours → number_in l s ours j ≡ m → ⊥
 
 -- what the k-th move takes, and what it gives
 abbrev pub taken_in : List ℕ → ℕ → ℕ → ℕ

@@ -21,22 +21,12 @@ pub struct Span {
     pub last: usize,
 }
 
-// What is left of a when b is taken, or nothing.
-fn less(a: usize, b: usize) -> usize
-    ensures { result ≡ a - b }
-{
-    if a < b {
-        return 0;
-    }
-    a - b
-}
-
 // The stocks of which t can be taken and to which g can be given, no further than f, so that x is there then.
 pub fn span_of(f: usize, x: usize, t: usize, g: usize) -> Span
     requires { (x < max_stocks) × (t < max_stocks) }
     ensures { (result.first < 2 * max_stocks) × (result.last ≤ f) × ((z : ℕ) → Comes f x t g z → InSpan result z) }
 {
-    let first = less(x + t, g);
+    let first = (x + t).saturating_sub(g);
     if x == f {
         return Span {
             first: first,
@@ -54,8 +44,8 @@ fn mark_line(flags: &mut [u8], first: usize, end: usize)
     requires { end ≤ length flags.old }
     ensures { Marked (λ (z : ℕ). (first ≤ z) × (z < end)) flags.old flags.new }
 {
-    for z in first..end {
-        flags[z] = 1;
+    if first < end {
+        flags[first..end].fill(1);
     }
 }
 

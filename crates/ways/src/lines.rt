@@ -75,18 +75,13 @@ pub fn number(ways: &[u8], s: usize, ours: bool, k: usize) -> usize
     field(ways, s, line_at(ours) + k)
 }
 
-// The place of the number m among them, from the first; where it is not there, their count.
-pub fn find(ways: &[u8], s: usize, ours: bool, m: usize) -> usize
+// The place of the number m among them, the first.
+pub fn find(ways: &[u8], s: usize, ours: bool, m: usize) -> Option<usize>
     requires { (length ways.now ≡ ways_bytes) × (s < max_states) × (count_in ways.now s ours ≤ max_joint) }
     ensures { FoundAt ways.now s ours m result }
 {
     let n = count(ways, s, ours);
-    for k in 0..n {
-        if number(ways, s, ours, k) == m {
-            return k;
-        }
-    }
-    n
+    (0..n).find(|k| number(ways, s, ours, *k) == m)
 }
 
 pub fn set_number(ways: &mut [u8], s: usize, ours: bool, k: usize, m: usize)

@@ -1,5 +1,6 @@
 // Lists the moves of each state of a row, the replies there and what the moves take, so that nothing looks for them again.
 ghost use Rattle.std.specs.Prelude.{true, false, ◌≡◌, ℕ, ◌+◌, ◌*◌, ◌≤◌, ◌<◌, length, get_or};
+ghost use Rattle.block.specs.Decide.{Bit};
 ghost use Rattle.block.specs.Inner.Tests.{Decides};
 ghost use Rattle.block.specs.Layout as L;
 ghost use Rattle.block.specs.Inner.Valid.{Valid};
@@ -26,15 +27,22 @@ fn payable_at_all(block: &[u8], i: usize, s: usize, m: usize) -> bool
     ensures { Decides (Affordable (arena_of block.now i) (full (arena_of block.now i) s) m) result }
 {
     let n = layout::resources(block);
-    for j in 0..n {
-        if positions::places(block, i, j) <= positions::taken(block, i, s, m, j) {
-            return false;
-        }
-    }
-    true
+    (0..n).all(|j| positions::taken(block, i, s, m, j) < positions::places(block, i, j))
 }
 
-// Whether each reply that is listed in state s leads with the move m into the row's set.
+// Whether the k-th reply that is listed in state s leads with the move m into the row's set.
+fn leads_by(block: &[u8], row: Row, ways: &[u8], s: usize, m: usize, k: usize) -> bool
+    requires valid { Valid block.now }
+    requires playable { Playable block.now row × (s < L.states block.now) × (length ways.now ≡ ways_bytes) }
+    requires move_of { MoveOf (structure_of block.now) (coalition_of block.now row.index) s m }
+    requires line_of { LineOf (ReplyTo block.now row.index s) (number_in ways.now s false) (count_in ways.now s false) × (k < count_in ways.now s false) }
+    ensures { Decides (Bit row.set (L.next block.now s (m + number_in ways.now s false k))) result }
+{
+    let r = lines::number(ways, s, false, k);
+    buffers::has_bit(row.set, layout::next(block, s, m + r))
+}
+
+// Whether each of them does.
 fn leads_into(block: &[u8], row: Row, ways: &[u8], s: usize, m: usize) -> bool
     requires valid { Valid block.now }
     requires playable { Playable block.now row × (s < L.states block.now) × (length ways.now ≡ ways_bytes) }
@@ -42,15 +50,8 @@ fn leads_into(block: &[u8], row: Row, ways: &[u8], s: usize, m: usize) -> bool
     requires line_of { LineOf (ReplyTo block.now row.index s) (number_in ways.now s false) (count_in ways.now s false) }
     ensures { Decides (LeadsInto block.now row.index s m row.set) result }
 {
-    let set = row.set;
     let n = lines::count(ways, s, false);
-    for k in 0..n {
-        let r = lines::number(ways, s, false, k);
-        if !buffers::has_bit(set, layout::next(block, s, m + r)) {
-            return false;
-        }
-    }
-    true
+    (0..n).all(|k| leads_by(block, row, ways, s, m, k))
 }
 
 // Whether the move m matters to the row: by where it leads, if only moves into the set do.
@@ -61,10 +62,7 @@ fn matters(block: &[u8], row: Row, ways: &[u8], s: usize, m: usize) -> bool
     requires line_of { LineOf (ReplyTo block.now row.index s) (number_in ways.now s false) (count_in ways.now s false) }
     ensures { Decides (row.into ≡ true → LeadsInto block.now row.index s m row.set) result }
 {
-    if row.into {
-        return leads_into(block, row, ways, s, m);
-    }
-    true
+    !row.into || leads_into(block, row, ways, s, m)
 }
 
 // Whether the number m can be listed: as a move that full stock pays where ours, and else as a reply. The cost is asked for last, since it
@@ -88,13 +86,9 @@ fn is_eligible(
     if !ours {
         return moves::is_reply(block, parts, i, s, m);
     }
-    if !moves::is_move(block, parts, s, layout::team(block, i), m) {
-        return false;
-    }
-    if !matters(block, row, ways, s, m) {
-        return false;
-    }
-    payable_at_all(block, i, s, m)
+    moves::is_move(block, parts, s, layout::team(block, i), m)
+        && matters(block, row, ways, s, m)
+        && payable_at_all(block, i, s, m)
 }
 
 // Whether a line of moves into the set ends with the move m, since it takes nothing.
@@ -104,14 +98,7 @@ fn ends_line(block: &[u8], row: Row, s: usize, ours: bool, m: usize) -> bool
     requires move_of { ours ≡ true → MoveOf (structure_of block.now) (coalition_of block.now row.index) s m }
     ensures { Decides ((ours ≡ true) × (row.into ≡ true) × (offset (arena_of block.now row.index) (full (arena_of block.now row.index) s) m ≡ 0)) result }
 {
-    if !ours {
-        return false;
-    }
-    if !row.into {
-        return false;
-    }
-    let e = positions::effect_of(block, row.index, s, m);
-    e.takes == 0
+    ours && row.into && positions::effect_of(block, row.index, s, m).takes == 0
 }
 
 // Lists the moves of state s, or the replies there, in rising order. Answers how many there are.
@@ -175,12 +162,7 @@ fn state_gives(ways: &[u8], s: usize) -> bool
     ensures { Decides (StateGives ways.now s) result }
 {
     let n = lines::count(ways, s, true);
-    for k in 0..n {
-        if 0 < lines::given(ways, s, k) {
-            return true;
-        }
-    }
-    false
+    (0..n).any(|k| 0 < lines::given(ways, s, k))
 }
 
 // Whether any listed move gives something.
@@ -190,12 +172,7 @@ fn any_gives(block: &[u8], row: Row, ways: &[u8]) -> bool
     ensures { Decides (AnyGives block.now ways.now) result }
 {
     let n = layout::states(block);
-    for s in 0..n {
-        if state_gives(ways, s) {
-            return true;
-        }
-    }
-    false
+    (0..n).any(|s| state_gives(ways, s))
 }
 
 // Lists all of a row.
@@ -219,10 +196,7 @@ pub fn known(block: &[u8], row: Row, ways: &[u8]) -> Row
     ensures { Playable block.now result × Listed block.now result ways.now × SameRow row result }
 {
     Row {
-        index: row.index,
-        places: row.places,
-        into: row.into,
-        set: row.set,
         gives: any_gives(block, row, ways),
+        ..row
     }
 }

@@ -28,14 +28,13 @@ fn pack_at(block: &[u8], i: usize, x: usize) -> usize
     requires i_bound { (i < L.rows block.now) × L.Strategic (L.kind block.now i) }
     ensures { PackedAt (arena_of block.now i) x result × (result < pack_base ^ L.max_resources) }
 {
-    let mut j = layout::resources(block);
+    let n = layout::resources(block);
     let mut rest = x;
     let mut packed = 0;
-    while 0 < j {
-        j -= 1;
+    for j in (0..n).rev() {
         let c = positions::places(block, i, j);
         packed = packed * PACK_BASE + rest % c;
-        rest = rest / c;
+        rest /= c;
     }
     packed
 }
@@ -91,8 +90,5 @@ pub fn covers(ways: &[u8], x: usize, o: usize) -> bool
     ensures { Decides (Covers ways.now x o) result }
 {
     let rest = lines::packed(ways, x) + (LOW_GUARD + HIGH_GUARD) - lines::packed(ways, o);
-    if rest / LOW_GUARD % 2 == 0 {
-        return false;
-    }
-    rest / HIGH_GUARD % 2 == 1
+    rest / LOW_GUARD % 2 == 1 && rest / HIGH_GUARD % 2 == 1
 }

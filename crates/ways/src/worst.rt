@@ -37,29 +37,14 @@ pub struct Limit {
 pub fn further(most: bool, a: usize, b: usize) -> usize
     ensures { Further most a b result }
 {
-    if most {
-        if a < b {
-            return b;
-        }
-        return a;
-    }
-    if a < b {
-        return a;
-    }
-    b
+    if most { a.max(b) } else { a.min(b) }
 }
 
 // Whether v is at least x, or at most x.
 pub fn beyond(most: bool, x: usize, v: usize) -> bool
     ensures { Decides (Beyond most x v) result }
 {
-    if x == v {
-        return true;
-    }
-    if x < v {
-        return most;
-    }
-    !most
+    if most { x <= v } else { v <= x }
 }
 
 // The rank where the k-th reply to a move leads.

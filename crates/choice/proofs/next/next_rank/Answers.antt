@@ -1,55 +1,55 @@
 -- `next_rank` looks for a listed move that the place pays.
-use mathlib.Core.Bool.{true}
+use mathlib.Core.Bool.{true, false}
+use mathlib.Core.List.{List}
 use mathlib.Core.Logic.{inl, inr}
-use mathlib.Core.Path.{◌≡◌, refl}
-use Prim.Native.Nat.{◌+◌, ◌*◌, ◌<◌}
+use mathlib.Core.Path.{◌≡◌, refl, sym, ◌∙◌}
+use Prim.Native.Nat.{ℕ, ◌<◌}
 use native.Mathlib.Omega.{arith}
-use Rattle.game.specs.Position.{Position, IsPosition, number}
-use Rattle.game.specs.Model.{arena_of}
+use Rattle.std.specs.Option.{is_some}
+use Rattle.std.specs.Prelude.{Option, None, Some}
+use Rattle.block.specs.Layout.{Block}
 use Rattle.ways.specs.Lines.{count_in}
-use Rattle.ways.specs.Places.{PlacedAt}
+use Rattle.ways.specs.declared.rows.Row.{Row}
+use Rattle.choice.specs.Choices.{Pays, Lacks, FirstPaid}
 use Rattle.choice.proofs.Moving.{spot_placed}
 use Rattle.choice.proofs.Marking.{way_forces, free_forces, none_answers}
 use Rattle.choice.proofs.next.next_rank.Goals as goal
-use Rattle.choice.proofs.next.next_rank.Lts as lts
-use Rattle.choice.proofs.next.next_rank.Reads as reads
-use Rattle.choice.proofs.next.next_rank.Tie as tie
+use Rattle.choice.proofs.next.next_rank.Goals.{then-free-via-then-free, then-free-via-else-free+then-is_some}
 
-abbrev At-Start : Type 0
-At-Start = lts.Start tie.the-claims reads.Pre reads.Post tie.handed_clauses
+-- whether there is a first one tells whether any is paid
+module _ (b : Block) (row : Row) (ways : List ℕ) (s x : ℕ) where
+  some_paid : (r : Option ℕ) → FirstPaid b row ways s x r → is_some r ≡ true → (k : ℕ) × (k < count_in ways s true) × Pays b row ways s x k
+  some_paid None first e = absurd cc
+  some_paid (Some k) first e = (k, first.0, first.1)
 
--- a position with the number that is asked for stands at the place
-placed : (start : At-Start) (p : Position) → IsPosition (arena_of start.args.block.now start.args.row.index) p
-    → number (arena_of start.args.block.now start.args.row.index) p ≡ start.args.spot.state * start.args.row.places + start.args.spot.place
-    → PlacedAt (arena_of start.args.block.now start.args.row.index) start.args.spot.state start.args.spot.place p
-placed start = spot_placed start.args.block.now start.args.row start.requires.playable.0 start.args.spot.state start.args.spot.place start.requires.state_bound.0 start.requires.state_bound.1
+  none_paid : (r : Option ℕ) → FirstPaid b row ways s x r → is_some r ≡ false → (j : ℕ) → j < count_in ways s true → Lacks b row ways s x j
+  none_paid None first e = first
+  none_paid (Some k) first e = absurd cc
 
 pub returns-then-free : goal.returns-then-free
-returns-then-free c = (λ p fits is. inl (refl, free_forces c.args.block.now c.requires.valid c.args.row c.requires.playable.0 c.requires.playable.1 c.args.spot.state c.args.spot.place p (placed c.before.before.before.before p fits is) c.args.ways.now c.requires.playable.2 c.requires.state_bound.0 (c.requires.state_bound.2 c.if-free.true)), omega arith)
-
-pub first_paid-requires : goal.first_paid-requires
-first_paid-requires c = record { valid = c.requires.valid; playable = (c.requires.playable.0, c.requires.playable.2); state_bound = (c.requires.state_bound.0, c.requires.state_bound.1) }
-
-pub count-requires : goal.count-requires
-count-requires c = (c.requires.playable.2.long, omega (arith, c.requires.state_bound.0, c.requires.valid.sized.states_fit))
-
-pub returns-then-first_paid-count : goal.returns-then-first_paid-count
-returns-then-first_paid-count c = let small : c.first_paid.result < count_in c.args.ways.now c.args.spot.state true = omega (arith, c.if-first_paid-count.true, c.count.ensures) in
-    let useful = ((c.requires.playable.2.states c.args.spot.state c.requires.state_bound.0).lines true).only c.first_paid.result small in (
-      λ p fits is.
-          let here = placed c.before.before.before.before.before.before.before p fits is in
-          inl (refl, way_forces c.args.block.now c.requires.valid c.args.row c.requires.playable.0 c.requires.playable.1 c.args.spot.state c.args.spot.place p here _ useful (c.first_paid.ensures.paid small p here)),
-      omega arith,
-    )
+returns-then-free c = (
+  λ p fits is.
+      let here = spot_placed c.args.block.now c.args.row c.requires.playable.0 c.args.spot.state c.args.spot.place c.requires.state_bound.0 c.requires.state_bound.1 p fits is in
+      inl (
+        refl,
+        elim c.then-free.branch [
+          | then-free-via-then-free w ↦ free_forces c.args.block.now c.requires.valid c.args.row c.requires.playable.0 c.requires.playable.1 c.args.spot.state c.args.spot.place p here c.args.ways.now c.requires.playable.2 c.requires.state_bound.0 (c.requires.state_bound.2 w.if-free.true)
+          | then-free-via-else-free+then-is_some w ↦
+              let (k, small, paid) = some_paid c.args.block.now c.args.row c.args.ways.now c.args.spot.state c.args.spot.place w.first_paid.result w.first_paid.ensures (sym w.is_some.ensures ∙ w.if-is_some.true) in
+              way_forces c.args.block.now c.requires.valid c.args.row c.requires.playable.0 c.requires.playable.1 c.args.spot.state c.args.spot.place p here _ (((c.requires.playable.2.states c.args.spot.state c.requires.state_bound.0).lines true).only k small) (paid p here)
+        ],
+      ),
+  omega arith,
+)
 
 pub returns : goal.returns
 returns c = (
   λ p fits is.
-      let here = placed c.before.before.before.before.before.before.before p fits is in
+      let here = spot_placed c.args.block.now c.args.row c.requires.playable.0 c.args.spot.state c.args.spot.place c.requires.state_bound.0 c.requires.state_bound.1 p fits is in
       inr (
         refl,
         none_answers c.args.block.now c.requires.valid c.args.row c.requires.playable.0 c.requires.playable.1 c.args.spot.state c.args.spot.place p here c.args.ways.now c.requires.playable.2 c.requires.state_bound.0
-            (λ j small. c.first_paid.ensures.before j (omega (arith, c.if-first_paid-count.false, c.count.ensures)) p here),
+            (λ j small. none_paid c.args.block.now c.args.row c.args.ways.now c.args.spot.state c.args.spot.place c.first_paid.result c.first_paid.ensures (sym c.is_some.ensures ∙ c.if-is_some.false) j small p here),
       ),
   omega arith,
 )

@@ -2,6 +2,7 @@
 use mathlib.Core.Path.{◌≡◌, sym, ◌∙◌, ap, subst, subst₂}
 use Prim.Native.Nat.{ℕ, ◌+◌, ◌*◌, ◌<◌}
 use native.Mathlib.Omega.{arith}
+use Rattle.std.specs.Prelude.{Some}
 use Rattle.block.specs.Layout as L
 use Rattle.block.proofs.Decide as D
 use Rattle.block.proofs.Refusals.{turned_down, past, answered}
@@ -13,7 +14,6 @@ use Rattle.choice.proofs.Moving.{places_of}
 use Rattle.rankings.specs.Kinds.{ClaimsBy}
 use Rattle.choice.specs.Tables.{RanksOf, ReplyFor}
 use Rattle.choice.specs.Choices.{Makes}
-use Rattle.ways.specs.declared.landing.Landing.TheVariants.{At}
 use Rattle.ways.specs.Places.{PlacedAt}
 use Rattle.ways.proofs.Leading.{number_inside, move_here, allowed_useful}
 use Rattle.ways.proofs.Placing.{placed_number}
@@ -33,8 +33,8 @@ At-After-row_of-row = lts.After-row_of tie.the-claims reads.Pre reads.Post tie.h
 abbrev At-Else-claims : Type 0
 At-Else-claims = lts.Else1 tie.the-claims reads.Pre reads.Post tie.handed_clauses
 
-abbrev At-In-At : Type 0
-At-In-At = lts.Past-After-known_told tie.the-claims reads.Pre reads.Post tie.handed_clauses
+abbrev At-In-Some : Type 0
+At-In-Some = lts.Past-After-known_told tie.the-claims reads.Pre reads.Post tie.handed_clauses
 
 -- the row's stock places are those of row i
 places : (c : At-After-row_of-row) → c.row_of-row.result.places ≡ stock_places (arena_of c.args.block.now c.args.i)
@@ -71,8 +71,8 @@ pub way_to-requires : goal.way_to-requires
 way_to-requires c = record { valid = c.requires.valid; playable = (c.row_of-row.ensures.0, c.list_row.ensures); state_bound = (c.requires.state_bound.0, omega (arith, c.requires.state_bound.1, places c.before.before.before.before.before.before.before.before.before.before.before.before)) }
 
 -- the move that is made, and where it lands
-made : (c : At-In-At) → Makes c.args.block.now c.row_of-row.result c.args.spot.state c.args.spot.place c.args.m (At c.in-At.y)
-made c = rw c.in-At.is at c.way_to.ensures
+made : (c : At-In-Some) → Makes c.args.block.now c.row_of-row.result c.args.spot.state c.args.spot.place c.args.m (Some c.in-Some.y)
+made c = rw c.in-Some.is at c.way_to.ensures
 
 -- the rank says that the team does not win
 unclaimed : (c : At-Else-claims) → ClaimsBy (L.kind c.args.block.now c.args.i) c.rank_at-own.result → ⊥
@@ -97,8 +97,8 @@ module _ (c : At-Else-claims) (p : Position) (placed : PlacedAt (arena_of c.args
   lost : ClaimsBy (L.kind c.args.block.now c.args.i) (rank_in c.args.ranks.now (number (arena_of c.args.block.now c.args.i) p)) → ⊥
   lost claim = unclaimed c (subst (ClaimsBy (L.kind c.args.block.now c.args.i)) (sym (own c.before.before.before p placed)) claim)
 
-pub returns-in-At : goal.returns-in-At
-returns-in-At c p placed = let (move, lands) = made c.before.before in
+pub returns-in-Some : goal.returns-in-Some
+returns-in-Some c p placed = let (move, lands) = made c.before.before in
     let at = here c.before.before.before.before.before.before.before.before p placed in
     let (paid, leaves) = lands.1 p at in
     let allowed = move_here c.args.block.now c.requires.valid c.row_of-row.result c.row_of-row.ensures.0 c.args.spot.state c.args.spot.place c.args.m p at move paid in
@@ -112,9 +112,9 @@ returns-in-At c p placed = let (move, lands) = made c.before.before in
     (opponents_found c.requires.valid c.requires.i_bound.0 c.requires.i_bound.1 c.requires.prepared placed.fits unwon allowed-here c.reply_to-r.result c.reply_to-r.ensures.1
     (subst₂ (λ (i left : ℕ). ReplyFor c.args.block.now i left c.args.ready.right c.args.ranks.now p c.args.m c.reply_to-r.result) c.row_of-row.ensures.1 c.row_of-row.ensures.3 reply))))
 
-pub returns-in-Unpaid : goal.returns-in-Unpaid
-returns-in-Unpaid c p placed = past (λ wins. lost c.before.before.before.before.before.before.before p placed (wins_claimed_by c.requires.valid c.requires.i_bound.0 c.requires.i_bound.1 c.requires.prepared p placed.fits wins)) (turned_down (λ allowed.
+pub returns-in-None : goal.returns-in-None
+returns-in-None c p placed = past (λ wins. lost c.before.before.before.before.before.before.before p placed (wins_claimed_by c.requires.valid c.requires.i_bound.0 c.requires.i_bound.1 c.requires.prepared p placed.fits wins)) (turned_down (λ allowed.
     let there = here c.before.before.before.before.before.before.before p placed in
     let paid = subst (λ (i : ℕ). Allowed (arena_of c.args.block.now i) p c.args.m) (sym c.row_of-row.ensures.1) allowed in
     let useful = allowed_useful c.args.block.now c.requires.valid c.row_of-row.result c.row_of-row.ensures.0 c.row_of-row.ensures.2 c.args.spot.state c.args.spot.place p there c.args.m paid in
-    rw c.in-Unpaid.is at c.way_to.ensures p there useful paid))
+    rw c.in-None.is at c.way_to.ensures p there useful paid))

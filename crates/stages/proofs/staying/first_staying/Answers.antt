@@ -27,11 +27,7 @@ pub stays-requires : goal.stays-requires
 stays-requires c = record { valid = c.requires.valid; playable = c.requires.playable; state_bound = (c.requires.state_bound.0, c.requires.state_bound.1, more c.before) }
 
 pub returns-then-stays : goal.returns-then-stays
-returns-then-stays c = record {
-  within = (c.loop-k.invariant.0, omega (arith, more c.before.before.before));
-  here = λ _. D.truth c.stays.ensures c.if-stays.true;
-  before = λ j from less stays. c.loop-k.invariant.2 j less (from, stays);
-}
+returns-then-stays c = (c.loop-k.invariant.0, more c.before.before.before, D.truth c.stays.ensures c.if-stays.true, λ j from less stays. c.loop-k.invariant.2 j less (from, stays))
 
 pub overflow_step-k : goal.overflow_step-k
 overflow_step-k c = omega (arith, c.loop-k-test.true)
@@ -47,8 +43,4 @@ loop-k-preserved c = (
 )
 
 pub returns : goal.returns
-returns c = record {
-  within = (omega (arith, c.count-n.ensures, c.requires.state_bound.2), omega (arith, c.count-n.ensures));
-  here = λ small. absurd (omega (arith, c.count-n.ensures));
-  before = λ j from less stays. c.loop-k.invariant.2 j (omega (arith, c.loop-k-test.false)) (from, stays);
-}
+returns c = λ j from small stays. c.loop-k.invariant.2 j (omega (arith, c.loop-k-test.false, c.count-n.ensures)) (from, stays)

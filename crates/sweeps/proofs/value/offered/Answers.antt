@@ -34,24 +34,24 @@ worst_at-requires c = record {
   made = (
     c.requires.state_bound.0,
     subst (MoveOf (structure_of c.args.block.now) (coalition_of c.args.block.now c.args.row.index) c.args.spot.state) (sym c.number.ensures) (move c.before.before.before.before.before.before),
-    omega (arith, (rw c.in-At.is at c.requires.lands).0, c.requires.playable.0.places_are),
+    omega (arith, (rw c.in-Some.is at c.requires.lands).0, c.requires.playable.0.places_are),
   );
 }
 
-pub returns-in-At : goal.returns-in-At
-returns-in-At c = record {
+pub returns-in-Some : goal.returns-in-Some
+returns-in-Some c = record {
   gathered = offer_gathered c.args.block.now c.requires.valid c.args.row c.requires.playable.0 c.args.spot.state c.args.spot.place
       (number_in c.args.ways.now c.args.spot.state true c.args.tried.k) c.requires.state_bound.0 c.requires.state_bound.1 c.args.limit.most c.args.ranks.now
-      (move c.before.before.before.before.before.before.before) c.in-At.y c.args.limit.rank c.worst_at.result (rw c.in-At.is at c.requires.lands)
-      (subst (λ (m : ℕ). WorstWithin c.args.block.now c.args.row c.args.ranks.now c.args.spot.state m c.in-At.y c.args.limit.most c.args.limit.rank c.worst_at.result) c.number.ensures
+      (move c.before.before.before.before.before.before.before) c.in-Some.y c.args.limit.rank c.worst_at.result (rw c.in-Some.is at c.requires.lands)
+      (subst (λ (m : ℕ). WorstWithin c.args.block.now c.args.row c.args.ranks.now c.args.spot.state m c.in-Some.y c.args.limit.most c.args.limit.rank c.worst_at.result) c.number.ensures
       c.worst_at.ensures.worst_within);
   upper_bound = c.worst_at.ensures.upper_bound;
 }
 
-pub returns-in-Unpaid : goal.returns-in-Unpaid
-returns-in-Unpaid c = record {
+pub returns-in-None : goal.returns-in-None
+returns-in-None c = record {
   gathered = offer_nothing c.args.block.now c.requires.valid c.args.row c.requires.playable.0 c.args.spot.state c.args.spot.place
       (number_in c.args.ways.now c.args.spot.state true c.args.tried.k) c.requires.state_bound.0 c.requires.state_bound.1 c.args.limit.most c.args.ranks.now
-      (rw c.in-Unpaid.is at c.requires.lands) c.args.limit.rank;
+      (rw c.in-None.is at c.requires.lands) c.args.limit.rank;
   upper_bound = λ small. small;
 }

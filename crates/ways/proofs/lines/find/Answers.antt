@@ -1,38 +1,23 @@
 -- `find` looks for a number along a line.
-use mathlib.Core.Path.{◌≡◌, sym, ◌∙◌}
+use mathlib.Core.Bool.{Bool}
+use mathlib.Core.List.{List}
+use mathlib.Core.Path.{◌≡◌}
+use Prim.Native.Nat.{ℕ, ◌≤◌, ◌<◌}
 use native.Mathlib.Omega.{arith}
-use borrow.Author.Count.{below_more}
+use Rattle.std.proofs.Common.{rules}
+use Rattle.std.proofs.lemmas.Iterator.{first_from_Range}
+use Rattle.std.specs.Prelude.{Option, None, Some, MatchOption}
+use Rattle.ways.specs.Lines.{count_in, number_in, FoundAt}
 use Rattle.ways.proofs.lines.find.Goals as goal
 
-pub count-n-requires : goal.count-n-requires
-count-n-requires c = (c.requires.0, c.requires.1)
-
-pub loop-k-init : goal.loop-k-init
-loop-k-init c = (omega arith, λ j less. absurd (omega arith))
-
-pub number-requires : goal.number-requires
-number-requires c = (c.requires.0, c.requires.1, omega (arith, c.loop-k-test.true, c.count-n.ensures, c.requires.2))
-
-pub returns-then-number-m : goal.returns-then-number-m
-returns-then-number-m c = record {
-  within = omega (arith, c.loop-k-test.true, c.count-n.ensures);
-  here = λ _. sym c.number.ensures ∙ c.if-number-m.true;
-  before = c.loop-k.invariant.1;
-}
-
-pub overflow_step-k : goal.overflow_step-k
-overflow_step-k c = omega arith
-
-pub loop-k-smaller : goal.loop-k-smaller
-loop-k-smaller c = omega arith
-
-pub loop-k-preserved : goal.loop-k-preserved
-loop-k-preserved c = (omega (arith, c.loop-k-test.true), below_more _ _ c.loop-k.invariant.1 (λ e. c.if-number-m.false (c.number.ensures ∙ e)))
+found : (l : List ℕ) (s : ℕ) (ours : Bool) (m n : ℕ) (r : Option ℕ) → n ≡ count_in l s ours
+    → MatchOption r ((k : ℕ) → 0 ≤ k → k < n → number_in l s ours k ≡ m → ⊥)
+    (λ i. (0 ≤ i) × (i < n) × (number_in l s ours i ≡ m) × ((k : ℕ) → 0 ≤ k → k < i → number_in l s ours k ≡ m → ⊥))
+    → FoundAt l s ours m r
+found l s ours m n None e none = λ j below. none j (omega arith) (omega arith)
+found l s ours m n (Some k) e some = (omega arith, some.2, λ j less. some.3 j (omega arith) less)
 
 pub returns : goal.returns
-returns c = let all : c.count-n.result ≡ c.loop-k.k = omega (arith, c.loop-k-test.false, c.loop-k.invariant.0) in
-    record {
-      within = omega (arith, c.count-n.ensures);
-      here = λ below. absurd (omega (arith, c.count-n.ensures));
-      before = λ j less. c.loop-k.invariant.1 j (omega arith);
-    }
+returns c = found c.args.ways.now c.args.s c.args.ours c.args.m c.count-n.result c.find.result c.count-n.ensures
+    (first_from_Range _ _ _ c.find.result (λ k. number_in c.args.ways.now c.args.s c.args.ours k ≡ c.args.m) (λ k. number_in c.args.ways.now c.args.s c.args.ours k ≡ c.args.m → ⊥) c.find.ensures.ran
+    (λ x q k. search rules) (λ x q k. search rules))

@@ -18,14 +18,8 @@ At-After-places-c = lts.After-places tie.the-claims reads.Pre reads.Post goal.th
 abbrev At-In-loop-j : Type 0
 At-In-loop-j = lts.In-loop tie.the-claims reads.Pre reads.Post goal.the-invariant-loop-j goal.the-decreases-loop-j tie.handed_clauses
 
-pub resources-j-requires : goal.resources-j-requires
-resources-j-requires c = c.requires.valid.sized.bytes
-
 pub loop-j-init : goal.loop-j-init
-loop-j-init c = packing_start c.args.block.now c.args.i c.args.x c.resources-j.result c.resources-j.ensures
-
-pub overflow_sub-j : goal.overflow_sub-j
-overflow_sub-j c = omega arith
+loop-j-init c = packing_start c.args.block.now c.args.i c.args.x c.resources-n.result c.resources-n.ensures
 
 resource_at : (c : At-In-loop-j) → c.loop-j.j - 1 < L.resources c.args.block.now
 resource_at c = omega (arith, c.loop-j.invariant.few, c.loop-j-test.true)
@@ -53,9 +47,6 @@ overflow_mul-packed c = record { fits = omega (arith, c.loop-j.invariant.small) 
 
 pub overflow_add-packed : goal.overflow_add-packed
 overflow_add-packed c = record { fits = omega (arith, (next c.before).small) }
-
-pub loop-j-smaller : goal.loop-j-smaller
-loop-j-smaller c = omega (arith, c.loop-j-test.true)
 
 pub loop-j-preserved : goal.loop-j-preserved
 loop-j-preserved c = next c.before

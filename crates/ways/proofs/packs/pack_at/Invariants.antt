@@ -4,6 +4,3 @@ use Rattle.ways.proofs.packs.pack_at.Given as goal
 
 abbrev pub invariant-loop-j : goal.invariant-loop-j
 invariant-loop-j l = PackingTo l.block l.i l.x l.j l.rest l.packed
-
-abbrev pub decreases-loop-j : goal.decreases-loop-j
-decreases-loop-j l = l.j
