@@ -20,7 +20,7 @@ use Rattle.ways.specs.Places.{PlacedAt}
 use Rattle.ways.specs.declared.rows.Spot.{Spot}
 use Rattle.rehearsal.specs.Rehearsal.{Finished, Scripted, Unavailable, Ends}
 use Rattle.rehearsal.specs.Inner.Turns.{Turned, Stands}
-use Rattle.rehearsal.specs.declared.turn.Turn.TheVariants.{To, NoReply}
+use Rattle.std.specs.Prelude.{None, Some}
 
 module _ (G : Arena) (proper : Proper G.structure) (t : Objective) (script : List ℕ) (p : Position) where
   -- at first
@@ -43,7 +43,7 @@ module _ (G : Arena) (proper : Proper G.structure) (t : Objective) (script : Lis
     here = P.at n
 
     -- and after one more turn
-    module _ (spot : Spot) (turned : Turned G t here (get_or script n 0) (To spot)) where
+    module _ (spot : Spot) (turned : Turned G t here (get_or script n 0) (Some spot)) where
       replied : P.reply n ≡ get_or script n 0
       replied = stands.obeys n turned.0
 
@@ -89,7 +89,7 @@ module _ (G : Arena) (proper : Proper G.structure) (t : Objective) (script : Lis
       }
 
     -- a byte that is no reply
-    pub stands_stuck : n < length script → Turned G t here (get_or script n 0) NoReply → Unavailable G t script p
+    pub stands_stuck : n < length script → Turned G t here (get_or script n 0) None → Unavailable G t script p
     stands_stuck inside none = record { play = P; turn = n; inside = inside; scripted = stands.scripted; goes_on = goes_on; none = none }
 
     -- the script is used up

@@ -29,13 +29,13 @@ use Rattle.solver.proofs.Readiness.{row_retold}
 use Rattle.lookup.specs.Inner.Spots.{SpotMove}
 use Rattle.rehearsal.specs.Rehearsal.{Finished}
 use Rattle.rehearsal.specs.Inner.Turns.{FinishedBy, Turned}
-use Rattle.rehearsal.specs.declared.turn.Turn.TheVariants.{To}
+use Rattle.std.specs.Prelude.{Some}
 
 module _ (b : Block) (valid : Valid b) (row : Row) (s x m r : ℕ) where
   -- where the team's move lands and the reply leads
   here_to : (y : ℕ) → ReplyTo b row.index s r → Makes b row s x m (Some y)
       → (p : Position) → PlacedAt (arena_of b row.index) s x p → RowMove b row.index p m
-      → Turned (arena_of b row.index) (objective_of b row.index) p r (To (record { state = L.next b s (m + r); place = y }))
+      → Turned (arena_of b row.index) (objective_of b row.index) p r (Some (record { state = L.next b s (m + r); place = y }))
   here_to y reply (move, lands) p placed asked = (
     here,
     (
@@ -58,9 +58,9 @@ module _ (b : Block) (valid : Valid b) (row : Row) (s x m r : ℕ) where
   module _ (i : ℕ) (is : row.index ≡ i) where
     pub turned_to : (y : ℕ) → ReplyTo b row.index s r → Makes b row s x m (Some y)
         → (p : Position) → PlacedAt (arena_of b i) s x p → RowMove b i p m
-        → Turned (arena_of b i) (objective_of b i) p r (To (record { state = L.next b s (m + r); place = y }))
+        → Turned (arena_of b i) (objective_of b i) p r (Some (record { state = L.next b s (m + r); place = y }))
     turned_to y reply makes =
-        subst (λ (j : ℕ). (p : Position) → PlacedAt (arena_of b j) s x p → RowMove b j p m → Turned (arena_of b j) (objective_of b j) p r (To (record { state = L.next b s (m + r); place = y }))) is
+        subst (λ (j : ℕ). (p : Position) → PlacedAt (arena_of b j) s x p → RowMove b j p m → Turned (arena_of b j) (objective_of b j) p r (Some (record { state = L.next b s (m + r); place = y }))) is
         (here_to y reply makes)
 
     -- the position pays the team's move

@@ -1,5 +1,5 @@
 // A rehearsal of a row, reported in a lent buffer of four bytes.
-ghost use Rattle.std.specs.Prelude.{◌≡◌, ◌≤◌, ◌<◌, length};
+ghost use Rattle.std.specs.Prelude.{cond, ◌≡◌, ◌≤◌, ◌<◌, length};
 ghost use Rattle.block.specs.Layout as L;
 ghost use Rattle.block.specs.Refusal.{Answers, NoValue, Kept};
 ghost use Rattle.block.specs.Inner.Valid.{Valid};
@@ -8,7 +8,6 @@ ghost use Rattle.turns.specs.Sizes.{room_bytes, rank_end};
 ghost use Rattle.rehearsal.specs.Rehearsal.{script_bytes, report_bytes, finished_in, moves_in, last_in, admission_rules, play_rules, RowReports, RehearsalCall};
 
 use crate::script;
-use crate::script::Ending;
 use block::refusal::{Answer, Refusal};
 use block::{fill, layout};
 use solver::ready;
@@ -43,12 +42,12 @@ fn turned_down(
 }
 
 // Stores a report.
-fn store(report: &mut [u8], moves: usize, finished: u8, position: usize)
+fn store(report: &mut [u8], moves: usize, finished: bool, position: usize)
     requires { (length report.old ≡ report_bytes) × (moves ≤ script_bytes) × (position < rank_end) }
-    ensures { (moves_in report.new ≡ moves) × (finished_in report.new ≡ finished) × (last_in report.new ≡ position) × (length report.new ≡ report_bytes) }
+    ensures { (moves_in report.new ≡ moves) × (finished_in report.new ≡ cond finished 1 0) × (last_in report.new ≡ position) × (length report.new ≡ report_bytes) }
 {
     buffers::set_rank(report, 1, position);
-    report[0] = finished;
+    report[0] = finished as u8;
     report[1] = moves as u8;
 }
 
@@ -74,12 +73,12 @@ fn rehearse_row(
         return Err(Refusal::WrongSide);
     }
     match script::play(block, i, ready, &ways, room, s, script) {
-        Ending::After(moves, finished, last) => {
-            let position = last.state * ready.row.places + last.place;
-            store(report, moves, finished, position);
+        Some(ended) => {
+            let position = ended.last.state * ready.row.places + ended.last.place;
+            store(report, ended.moves, ended.finished, position);
             Ok(0)
         }
-        Ending::NoReply => Err(Refusal::Reply),
+        None => Err(Refusal::Reply),
     }
 }
 

@@ -10,18 +10,18 @@ ghost use Rattle.solver.specs.Inner.Ready.{MadeReady};
 ghost use Rattle.rehearsal.specs.Inner.Turns.{FinishedBy, EndsAs};
 
 use crate::turn;
-use crate::turn::Turn;
 use block::layout;
 use block::widths::wide;
 use solver::ready::Ready;
 use turns::{buffers, positions};
 use ways::rows::Spot;
 
-// After how many moves a rehearsal ends, whether it is finished (1 or 0), and where; or that a byte of the script is no reply.
+// After how many moves a rehearsal ends, whether it is finished, and where.
 #[derive(Clone, Copy)]
-pub enum Ending {
-    After(usize, u8, Spot),
-    NoReply,
+pub struct Ended {
+    pub moves: usize,
+    pub finished: bool,
+    pub last: Spot,
 }
 
 // Whether a row of this kind is finished in state q after n moves, with a script of so many bytes; right is the set of its right row.
@@ -29,16 +29,15 @@ fn is_finished(kind: usize, right: usize, bytes: usize, q: usize, n: usize) -> b
     requires { q < set_bits }
     ensures { Decides (FinishedBy kind right bytes q n) result }
 {
-    if kind == layout::NEXT_KIND {
-        return n == 1;
+    match kind {
+        layout::NEXT_KIND => n == 1,
+        layout::ALWAYS_KIND => n == bytes,
+        _ => buffers::has_bit(right, q),
     }
-    if kind == layout::ALWAYS_KIND {
-        return n == bytes;
-    }
-    buffers::has_bit(right, q)
 }
 
-// Plays from state s as far as the script goes or until the row is finished. There are no more turns than the script has bytes.
+// Plays from state s as far as the script goes or until the row is finished; None where a byte of the script is no reply. There are no more turns
+// than the script has bytes.
 pub fn play(
     block: &[u8],
     i: usize,
@@ -47,7 +46,7 @@ pub fn play(
     ranks: &[u8],
     s: usize,
     script: &[u8],
-) -> Ending
+) -> Option<Ended>
     requires made_ready { MadeReady block.now i ready ways.now ranks.now }
     requires s_bound { (s < L.states block.now) × CoalitionWins (arena_of block.now i) (objective_of block.now i) (full (arena_of block.now i) s) }
     ensures { EndsAs (arena_of block.now i) (objective_of block.now i) script.now (full (arena_of block.now i) s) result }
@@ -60,19 +59,18 @@ pub fn play(
     };
     for n in 0..bytes {
         if is_finished(kind, ready.right, bytes, spot.state, n) {
-            return Ending::After(n, 1, spot);
+            return Some(Ended {
+                moves: n,
+                finished: true,
+                last: spot,
+            });
         }
-        match turn::take_turn(block, i, ready, ways, ranks, spot, wide(script[n])) {
-            Turn::To(next) => {
-                spot = next;
-            }
-            Turn::NoReply => {
-                return Ending::NoReply;
-            }
-        }
+        spot = turn::take_turn(block, i, ready, ways, ranks, spot, wide(script[n]))?;
     }
-    if is_finished(kind, ready.right, bytes, spot.state, bytes) {
-        return Ending::After(bytes, 1, spot);
-    }
-    Ending::After(bytes, 0, spot)
+    let finished = is_finished(kind, ready.right, bytes, spot.state, bytes);
+    Some(Ended {
+        moves: bytes,
+        finished: finished,
+        last: spot,
+    })
 }

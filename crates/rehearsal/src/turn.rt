@@ -16,12 +16,6 @@ use solver::ready::Ready;
 use ways::lines;
 use ways::rows::Spot;
 
-#[derive(Clone, Copy)]
-pub enum Turn {
-    To(Spot),
-    NoReply,
-}
-
 // The team's move at a position that it wins and the reply r: where they lead, or that r is no reply there.
 pub fn take_turn(
     block: &[u8],
@@ -31,20 +25,16 @@ pub fn take_turn(
     ranks: &[u8],
     spot: Spot,
     r: usize,
-) -> Turn
+) -> Option<Spot>
     requires made_ready { MadeReady block.now i ready ways.now ranks.now }
     requires state_bound { (spot.state < L.states block.now) × (spot.place < ready.row.places) }
     ensures { (p : Position) → PlacedAt (arena_of block.now i) spot.state spot.place p → CoalitionWins (arena_of block.now i) (objective_of block.now i) p → Turned (arena_of block.now i) (objective_of block.now i) p r result }
 {
-    if lines::find(ways, spot.state, false, r).is_none() {
-        return Turn::NoReply;
-    }
+    lines::find(ways, spot.state, false, r)?;
     let m = wide(spots::spot_move(block, i, ready, ways, ranks, spot));
-    match replies::way_to(block, ready.row, ways, spot, m) {
-        Some(y) => Turn::To(Spot {
-            state: layout::next(block, spot.state, m + r),
-            place: y,
-        }),
-        None => Turn::NoReply, // the team's move is always paid
-    }
+    let y = replies::way_to(block, ready.row, ways, spot, m)?; // the team's move is always paid
+    Some(Spot {
+        state: layout::next(block, spot.state, m + r),
+        place: y,
+    })
 }

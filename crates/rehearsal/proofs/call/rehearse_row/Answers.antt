@@ -1,4 +1,5 @@
 -- `rehearse_row` makes the row ready, looks whether the team wins at full stock, plays, and stores the report.
+use mathlib.Core.Bool.{cond}
 use mathlib.Core.List.{List}
 use mathlib.Core.Path.{◌≡◌, refl, sym, ◌∙◌, ap, subst₂}
 use Prim.Native.Nat.{ℕ, ◌+◌, ◌*◌, ◌<◌}
@@ -16,7 +17,7 @@ use Rattle.rankings.specs.Kinds.{ClaimsBy}
 use Rattle.choice.proofs.Moving.{places_of}
 use Rattle.solver.proofs.Readiness.{ready_table, ready_decided, claimed_wins, wins_claimed_by}
 use Rattle.rehearsal.specs.Inner.Turns.{EndsAs}
-use Rattle.rehearsal.specs.declared.script.Ending.TheVariants.{After}
+use Rattle.std.specs.Prelude.{Some}
 use Rattle.rehearsal.proofs.Rehearsing.{all_available, reported}
 use Rattle.rehearsal.proofs.call.rehearse_row.Goals as goal
 use Rattle.rehearsal.proofs.call.rehearse_row.Lts as lts
@@ -29,8 +30,8 @@ At-After-claims = lts.After-claims tie.the-claims reads.Pre reads.Post tie.hande
 abbrev At-Else-not-claims : Type 0
 At-Else-not-claims = lts.Else1 tie.the-claims reads.Pre reads.Post tie.handed_clauses
 
-abbrev At-In-After : Type 0
-At-In-After = lts.Past-After-known_told tie.the-claims reads.Pre reads.Post tie.handed_clauses
+abbrev At-In-Some : Type 0
+At-In-Some = lts.Past-After-known_told tie.the-claims reads.Pre reads.Post tie.handed_clauses
 
 abbrev At-Start : Type 0
 At-Start = lts.Start tie.the-claims reads.Pre reads.Post tie.handed_clauses
@@ -77,21 +78,21 @@ pub play-requires : goal.play-requires
 play-requires c = record { made_ready = c.prepare-ready.ensures; s_bound = (c.requires.i_bound.2, wins_here c.before.before) }
 
 -- how the rehearsal ends
-module _ (c : At-In-After) where
+module _ (c : At-In-Some) where
   abbrev last : ℕ
-  last = c.in-After.last.state * c.prepare-ready.result.row.places + c.in-After.last.place
+  last = c.in-Some.ended.last.state * c.prepare-ready.result.row.places + c.in-Some.ended.last.place
 
-  ends : EndsAs (G c.before.before.before.before.before.before.before.before.before.before.before.before.before.before.before.before.before.before) (t c.before.before.before.before.before.before.before.before.before.before.before.before.before.before.before.before.before.before) c.args.script.now (full (G c.before.before.before.before.before.before.before.before.before.before.before.before.before.before.before.before.before.before) c.args.s) (After c.in-After.moves c.in-After.finished c.in-After.last)
-  ends = rw c.in-After.is at c.play.ensures
+  ends : EndsAs (G c.before.before.before.before.before.before.before.before.before.before.before.before.before.before.before.before.before.before) (t c.before.before.before.before.before.before.before.before.before.before.before.before.before.before.before.before.before.before) c.args.script.now (full (G c.before.before.before.before.before.before.before.before.before.before.before.before.before.before.before.before.before.before) c.args.s) (Some c.in-Some.ended)
+  ends = rw c.in-Some.is at c.play.ensures
 
-  last_number_lem : last ≡ number (G c.before.before.before.before.before.before.before.before.before.before.before.before.before.before.before.before.before.before) (ends.0.at c.in-After.moves)
+  last_number_lem : last ≡ number (G c.before.before.before.before.before.before.before.before.before.before.before.before.before.before.before.before.before.before) (ends.0.at c.in-Some.ended.moves)
   last_number_lem =
-      ap (λ (n : ℕ). c.in-After.last.state * n + c.in-After.last.place) (places_of c.args.block.now c.prepare-ready.result.row c.args.i c.prepare-ready.ensures.ranked.sought.playable c.prepare-ready.ensures.ranked.index_is)
-      ∙ placed_number (G c.before.before.before.before.before.before.before.before.before.before.before.before.before.before.before.before.before.before) c.in-After.last.state c.in-After.last.place (ends.0.at c.in-After.moves) ends.2
+      ap (λ (n : ℕ). c.in-Some.ended.last.state * n + c.in-Some.ended.last.place) (places_of c.args.block.now c.prepare-ready.result.row c.args.i c.prepare-ready.ensures.ranked.sought.playable c.prepare-ready.ensures.ranked.index_is)
+      ∙ placed_number (G c.before.before.before.before.before.before.before.before.before.before.before.before.before.before.before.before.before.before) c.in-Some.ended.last.state c.in-Some.ended.last.place (ends.0.at c.in-Some.ended.moves) ends.2
 
   last_small : last < 6144
   last_small =
-      omega (arith, last_number_lem, number_few c.args.block.now c.requires.valid c.args.i c.requires.i_bound.0 c.requires.i_bound.1 (ends.0.at c.in-After.moves) ends.2.fits)
+      omega (arith, last_number_lem, number_few c.args.block.now c.requires.valid c.args.i c.requires.i_bound.0 c.requires.i_bound.1 (ends.0.at c.in-Some.ended.moves) ends.2.fits)
 
 pub overflow_mul-position : goal.overflow_mul-position
 overflow_mul-position c = record { fits = omega (arith, last_small c.before.before.before) }
@@ -102,11 +103,11 @@ overflow_add-position c = record { fits = omega (arith, last_small c.before.befo
 pub store-requires : goal.store-requires
 store-requires c = (c.requires.script_len_bound.1, omega (arith, (ends c.before.before.before.before.before).1.inside, c.requires.script_len_bound.0), omega (arith, last_small c.before.before.before.before.before))
 
-pub shape_of-room-in-After : goal.shape_of-room-in-After
-shape_of-room-in-After c = c.prepare-ready.ensures.long ∙ sym c.requires.script_len_bound.2
+pub shape_of-room-in-Some : goal.shape_of-room-in-Some
+shape_of-room-in-Some c = c.prepare-ready.ensures.long ∙ sym c.requires.script_len_bound.2
 
-pub returns-in-After : goal.returns-in-After
-returns-in-After c = let (P, end, _) = ends c.before.before.before.before.before.before.before.before in
+pub returns-in-Some : goal.returns-in-Some
+returns-in-Some c = let (P, end, _) = ends c.before.before.before.before.before.before.before.before in
     let wins = wins_here c.before.before.before.before.before.before.before.before.before.before.before in
     let proper = valid_proper c.args.block.now c.prepare-ready.ensures.valid in
     let X = ready_table c.prepare-ready.ensures.valid c.prepare-ready.ensures.inside c.prepare-ready.ensures.strategic c.prepare-ready.ensures.prepared in
@@ -114,14 +115,14 @@ returns-in-After c = let (P, end, _) = ends c.before.before.before.before.before
     let (moves, finished, position, long) = c.store.ensures in
     record {
       answers = past (λ loses. loses wins)
-          (past (all_available (G c.before.before.before.before.before.before.before.before.before.before.before.before.before.before.before.before.before.before.before.before.before.before.before.before.before.before) proper (t c.before.before.before.before.before.before.before.before.before.before.before.before.before.before.before.before.before.before.before.before.before.before.before.before.before.before) X decided c.args.script.now (full (G c.before.before.before.before.before.before.before.before.before.before.before.before.before.before.before.before.before.before.before.before.before.before.before.before.before.before) c.args.s) P c.in-After.moves c.in-After.finished end)
+          (past (all_available (G c.before.before.before.before.before.before.before.before.before.before.before.before.before.before.before.before.before.before.before.before.before.before.before.before.before.before) proper (t c.before.before.before.before.before.before.before.before.before.before.before.before.before.before.before.before.before.before.before.before.before.before.before.before.before.before) X decided c.args.script.now (full (G c.before.before.before.before.before.before.before.before.before.before.before.before.before.before.before.before.before.before.before.before.before.before.before.before.before.before) c.args.s) P c.in-Some.ended.moves (cond c.in-Some.ended.finished 1 0) end)
           (answered (
             refl,
-            reported (G c.before.before.before.before.before.before.before.before.before.before.before.before.before.before.before.before.before.before.before.before.before.before.before.before.before.before) proper (t c.before.before.before.before.before.before.before.before.before.before.before.before.before.before.before.before.before.before.before.before.before.before.before.before.before.before) X decided c.args.script.now (full (G c.before.before.before.before.before.before.before.before.before.before.before.before.before.before.before.before.before.before.before.before.before.before.before.before.before.before) c.args.s) (first_fits c.before.before.before.before.before.before.before.before.before.before.before.before.before.before.before.before.before.before.before.before.before.before.before.before.before.before) wins P c.in-After.moves c.in-After.finished end
+            reported (G c.before.before.before.before.before.before.before.before.before.before.before.before.before.before.before.before.before.before.before.before.before.before.before.before.before.before) proper (t c.before.before.before.before.before.before.before.before.before.before.before.before.before.before.before.before.before.before.before.before.before.before.before.before.before.before) X decided c.args.script.now (full (G c.before.before.before.before.before.before.before.before.before.before.before.before.before.before.before.before.before.before.before.before.before.before.before.before.before.before) c.args.s) (first_fits c.before.before.before.before.before.before.before.before.before.before.before.before.before.before.before.before.before.before.before.before.before.before.before.before.before.before) wins P c.in-Some.ended.moves (cond c.in-Some.ended.finished 1 0) end
                 c.store.new.report moves finished (position ∙ last_number_lem c.before.before.before.before.before.before.before.before) long,
           )));
       kept = (tt, c.prepare-ready.ensures.long ∙ sym c.requires.script_len_bound.2);
     }
 
-pub returns-in-NoReply : goal.returns-in-NoReply
-returns-in-NoReply c = record { answers = past (λ loses. loses (wins_here c.before.before.before.before)) (turned_down (rw c.in-NoReply.is at c.play.ensures)); kept = (refl, c.prepare-ready.ensures.long ∙ sym c.requires.script_len_bound.2) }
+pub returns-in-None : goal.returns-in-None
+returns-in-None c = record { answers = past (λ loses. loses (wins_here c.before.before.before.before)) (turned_down (rw c.in-None.is at c.play.ensures)); kept = (refl, c.prepare-ready.ensures.long ∙ sym c.requires.script_len_bound.2) }

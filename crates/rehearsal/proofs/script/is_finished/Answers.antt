@@ -1,17 +1,16 @@
 -- `is_finished` goes by the kind of the row.
-use mathlib.Core.Path.{◌≡◌, ap}
-use Prim.Native.Nat.{ℕ}
+use mathlib.Core.Path.{◌≡◌}
+use native.Mathlib.Omega.{arith}
 use Rattle.block.specs.Decide.{Bit}
 use Rattle.block.proofs.Decide as D
 use Rattle.rankings.proofs.ByKind.{decides_as, until_stands}
-use Rattle.rehearsal.specs.Inner.Turns.{FinishedBy}
 use Rattle.rehearsal.proofs.script.is_finished.Goals as goal
 
-pub returns-then-kind-eq-NEXT_KIND : goal.returns-then-kind-eq-NEXT_KIND
-returns-then-kind-eq-NEXT_KIND c = decides_as (ap (λ (k : ℕ). FinishedBy k c.args.right c.args.bytes c.args.q c.args.n) c.if-kind-eq-NEXT_KIND.true) (D.equal c.args.n 1)
+pub returns-in-3 : goal.returns-in-3
+returns-in-3 c = rw c.in-3.is (D.equal c.args.n 1)
 
-pub returns-then-kind-eq-ALWAYS_KIND : goal.returns-then-kind-eq-ALWAYS_KIND
-returns-then-kind-eq-ALWAYS_KIND c = decides_as (ap (λ (k : ℕ). FinishedBy k c.args.right c.args.bytes c.args.q c.args.n) c.if-kind-eq-ALWAYS_KIND.true) (D.equal c.args.n c.args.bytes)
+pub returns-in-4 : goal.returns-in-4
+returns-in-4 c = rw c.in-4.is (D.equal c.args.n c.args.bytes)
 
-pub returns : goal.returns
-returns c = decides_as (until_stands c.args.kind (c.args.n ≡ 1) (c.args.n ≡ c.args.bytes) (Bit c.args.right c.args.q) c.if-kind-eq-NEXT_KIND.false c.if-kind-eq-ALWAYS_KIND.false) c.has_bit.ensures
+pub returns-in_default : goal.returns-in_default
+returns-in_default c = decides_as (until_stands c.args.kind (c.args.n ≡ 1) (c.args.n ≡ c.args.bytes) (Bit c.args.right c.args.q) (λ e. omega arith) (λ e. omega arith)) c.has_bit.ensures

@@ -1,10 +1,12 @@
 -- `play` takes one turn for each byte of the script, as long as the row is unfinished.
+use mathlib.Core.Bool.{Bool, true, false}
 use mathlib.Core.Logic.{◌↔◌}
 use mathlib.Core.Path.{◌≡◌, refl, sym, subst}
 use Prim.Native.Nat.{ℕ, ◌<◌}
 use native.Mathlib.Omega.{arith}
 use lib.ListN.{get_or, length}
 use Rattle.block.specs.Layout as L
+use Rattle.block.specs.Inner.Tests.{Decides, holds, fails}
 use Rattle.block.proofs.Decide as D
 use Rattle.game.specs.Position.{Arena, full}
 use Rattle.game.specs.Play.{Objective, states}
@@ -16,16 +18,13 @@ use Rattle.choice.proofs.Moving.{places_of}
 use Rattle.solver.proofs.Readiness.{ready_table, ready_decided}
 use Rattle.rehearsal.specs.Rehearsal.{Finished}
 use Rattle.rehearsal.specs.Inner.Turns.{FinishedBy, Turned, Stands, EndsAs}
-use Rattle.rehearsal.specs.declared.script.Ending.TheVariants.{After}
+use Rattle.std.specs.Prelude.{Some}
 use Rattle.rehearsal.proofs.Turning.{finished_told}
 use Rattle.rehearsal.proofs.Standing.{stands_first, stands_next, stands_stuck, stands_out, stands_done}
 use Rattle.rehearsal.proofs.script.play.Goals as goal
 use Rattle.rehearsal.proofs.script.play.Lts as lts
 use Rattle.rehearsal.proofs.script.play.Reads as reads
 use Rattle.rehearsal.proofs.script.play.Tie as tie
-
-abbrev At-After-loop-n : Type 0
-At-After-loop-n = lts.After-loop tie.the-claims reads.Pre reads.Post goal.the-invariant-loop-n goal.the-decreases-loop-n tie.handed_clauses
 
 abbrev At-After-take_turn : Type 0
 At-After-take_turn = lts.After-take_turn tie.the-claims reads.Pre reads.Post goal.the-invariant-loop-n goal.the-decreases-loop-n tie.handed_clauses
@@ -75,12 +74,26 @@ module _ (c : At-At-loop-n) where
       subst (λ (k : ℕ). FinishedBy k c.args.ready.right (length c.args.script.now) c.loop-n.spot.state c.loop-n.n ↔ Finished t (length c.args.script.now) (states G stands.play) c.loop-n.n) (sym c.kind-kind.ensures)
       (finished_told c.requires.made_ready.valid c.requires.made_ready.inside c.requires.made_ready.strategic c.requires.made_ready.prepared (length c.args.script.now) (states G stands.play) c.loop-n.n c.loop-n.spot.state stands.placed.state inside)
 
-  ended : FinishedBy c.kind-kind.result c.args.ready.right (length c.args.script.now) c.loop-n.spot.state c.loop-n.n → EndsAs G t c.args.script.now (full G c.args.s) (After c.loop-n.n 1 c.loop-n.spot)
+  ended : FinishedBy c.kind-kind.result c.args.ready.right (length c.args.script.now) c.loop-n.spot.state c.loop-n.n → EndsAs G t c.args.script.now (full G c.args.s) (Some (record { moves = c.loop-n.n; finished = true; last = c.loop-n.spot }))
   ended done = (
     stands.play,
     stands_done G (valid_proper c.args.block.now c.requires.made_ready.valid) t c.args.script.now (full G c.args.s) c.loop-n.n c.loop-n.spot.state c.loop-n.spot.place stands c.loop-n.invariant.0 (told.0 done),
     stands.placed,
   )
+
+  -- the script is used up
+  used_up : c.loop-n.n ≡ length c.args.script.now → (b : Bool) → Decides (FinishedBy c.kind-kind.result c.args.ready.right (length c.args.script.now) c.loop-n.spot.state (length c.args.script.now)) b
+      → EndsAs G t c.args.script.now (full G c.args.s) (Some (record { moves = length c.args.script.now; finished = b; last = c.loop-n.spot }))
+  used_up e true (holds done) =
+      subst (λ (k : ℕ). EndsAs G t c.args.script.now (full G c.args.s) (Some (record { moves = k; finished = true; last = c.loop-n.spot }))) e
+      (ended (subst (FinishedBy c.kind-kind.result c.args.ready.right (length c.args.script.now) c.loop-n.spot.state) (sym e) done))
+  used_up e false (fails unfinished) =
+      subst (λ (k : ℕ). EndsAs G t c.args.script.now (full G c.args.s) (Some (record { moves = k; finished = false; last = c.loop-n.spot }))) e (
+        stands.play,
+        stands_out G (valid_proper c.args.block.now c.requires.made_ready.valid) t c.args.script.now (full G c.args.s) c.loop-n.n c.loop-n.spot.state c.loop-n.spot.place stands
+            (λ done. unfinished (subst (FinishedBy c.kind-kind.result c.args.ready.right (length c.args.script.now) c.loop-n.spot.state) e (told.1 done))) e,
+        stands.placed,
+      )
 
 pub is_finished-requires : goal.is_finished-requires
 is_finished-requires c = omega (arith, state_small c.before.before, c.requires.s_bound.0, c.requires.made_ready.valid.sized.states_fit)
@@ -104,9 +117,9 @@ module _ (c : At-After-take_turn) where
       let here = (stands c.before.before.before.before.before.before).play.at c.loop-n.n in
       subst (λ (r : ℕ). Turned (G c.before.before.before.before.before.before) (t c.before.before.before.before.before.before) here r c.take_turn.result) c.wide.ensures.value (c.take_turn.ensures here (stands c.before.before.before.before.before.before).placed ((stands c.before.before.before.before.before.before).wins goes_on))
 
-pub returns-in-NoReply : goal.returns-in-NoReply
-returns-in-NoReply c = stands_stuck (G c.before.before.before.before.before.before.before.before) (valid_proper c.args.block.now c.requires.made_ready.valid) (t c.before.before.before.before.before.before.before.before) c.args.script.now (full (G c.before.before.before.before.before.before.before.before) c.args.s) c.loop-n.n c.loop-n.spot.state c.loop-n.spot.place (stands c.before.before.before.before.before.before.before.before) (goes_on c.before.before)
-    (omega (arith, c.loop-n-test.true)) (rw c.in-NoReply.is at (turned c.before.before))
+pub returns-in_err-spot : goal.returns-in_err-spot
+returns-in_err-spot c = rw c.from_residual.ensures (stands_stuck (G c.before.before.before.before.before.before.before.before.before.before) (valid_proper c.args.block.now c.requires.made_ready.valid) (t c.before.before.before.before.before.before.before.before.before.before) c.args.script.now (full (G c.before.before.before.before.before.before.before.before.before.before) c.args.s) c.loop-n.n c.loop-n.spot.state c.loop-n.spot.place (stands c.before.before.before.before.before.before.before.before.before.before) (goes_on c.before.before.before.before)
+    (omega (arith, c.loop-n-test.true)) (rw c.in_err-spot.was at (turned c.before.before.before.before)))
 
 pub loop-n-smaller : goal.loop-n-smaller
 loop-n-smaller c = omega (arith, c.loop-n-test.true)
@@ -114,28 +127,12 @@ loop-n-smaller c = omega (arith, c.loop-n-test.true)
 pub loop-n-preserved : goal.loop-n-preserved
 loop-n-preserved c = (
   omega (arith, c.loop-n-test.true),
-  stands_next (G c.before.before.before.before.before.before.before.before) (valid_proper c.args.block.now c.requires.made_ready.valid) (t c.before.before.before.before.before.before.before.before) c.args.script.now (full (G c.before.before.before.before.before.before.before.before) c.args.s) c.loop-n.n c.loop-n.spot.state c.loop-n.spot.place (stands c.before.before.before.before.before.before.before.before) (goes_on c.before.before)
-      c.in-To.next (rw c.in-To.is at (turned c.before.before)),
+  stands_next (G c.before.before.before.before.before.before.before.before.before) (valid_proper c.args.block.now c.requires.made_ready.valid) (t c.before.before.before.before.before.before.before.before.before) c.args.script.now (full (G c.before.before.before.before.before.before.before.before.before) c.args.s) c.loop-n.n c.loop-n.spot.state c.loop-n.spot.place (stands c.before.before.before.before.before.before.before.before.before) (goes_on c.before.before.before)
+      c.in_ok-spot.spot (rw c.in_ok-spot.was at (turned c.before.before.before)),
 )
 
-pub is_finished-requires-2 : goal.is_finished-requires-2
-is_finished-requires-2 c = state_small c.before.before
-
--- the script is used up
-out : (c : At-After-loop-n) → c.loop-n.n ≡ length c.args.script.now
-out c = omega (arith, c.loop-n-test.false, c.loop-n.invariant.0)
-
-pub returns-then-is_finished-2 : goal.returns-then-is_finished-2
-returns-then-is_finished-2 c = let none_left = out c.before.before.before in
-    subst (λ (k : ℕ). EndsAs (G c.before.before.before.before) (t c.before.before.before.before) c.args.script.now (full (G c.before.before.before.before) c.args.s) (After k 1 c.loop-n.spot)) none_left
-    (ended c.before.before.before.before (subst (FinishedBy c.kind-kind.result c.args.ready.right (length c.args.script.now) c.loop-n.spot.state) (sym none_left) (D.truth c.is_finished-2.ensures c.if-is_finished-2.true)))
+pub is_finished-finished-requires : goal.is_finished-finished-requires
+is_finished-finished-requires c = state_small c.before.before
 
 pub returns : goal.returns
-returns c = let none_left = out c.before.before.before in
-    let unfinished : Finished (t c.before.before.before.before) (length c.args.script.now) (states (G c.before.before.before.before) (stands c.before.before.before.before).play) c.loop-n.n → ⊥ =
-    λ done. D.falsity c.is_finished-2.ensures c.if-is_finished-2.false (subst (FinishedBy c.kind-kind.result c.args.ready.right (length c.args.script.now) c.loop-n.spot.state) none_left ((told c.before.before.before.before).1 done)) in
-    subst (λ (k : ℕ). EndsAs (G c.before.before.before.before) (t c.before.before.before.before) c.args.script.now (full (G c.before.before.before.before) c.args.s) (After k 0 c.loop-n.spot)) none_left (
-      (stands c.before.before.before.before).play,
-      stands_out (G c.before.before.before.before) (valid_proper c.args.block.now c.requires.made_ready.valid) (t c.before.before.before.before) c.args.script.now (full (G c.before.before.before.before) c.args.s) c.loop-n.n c.loop-n.spot.state c.loop-n.spot.place (stands c.before.before.before.before) unfinished none_left,
-      (stands c.before.before.before.before).placed,
-    )
+returns c = used_up c.before.before.before (omega (arith, c.loop-n-test.false, c.loop-n.invariant.0)) c.is_finished-finished.result c.is_finished-finished.ensures
