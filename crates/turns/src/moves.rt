@@ -48,8 +48,8 @@ pub fn cost(block: &[u8], s: usize, team: usize, m: usize, j: usize) -> i32
         if rest % 2 == 1 {
             total = combined(kind, total, layout::cost(block, s, a, k % 4, j));
         }
-        rest = rest / 2;
-        k = k / 4;
+        rest /= 2;
+        k /= 4;
     }
     total
 }
@@ -69,13 +69,9 @@ pub fn is_move(block: &[u8], parts: &Table, s: usize, team: usize, m: usize) -> 
     requires parts_table { PartsTable parts.now }
     ensures { Decides (MoveOf (structure_of block.now) (bit team) s m) result }
 {
-    if layout::JOINT_ACTIONS <= m {
-        return false;
-    }
-    if parts::part(parts, team, m) != m {
-        return false;
-    }
-    joint::available(block, s, m)
+    m < layout::JOINT_ACTIONS
+        && parts::part(parts, team, m) == m
+        && joint::available(block, s, m)
 }
 
 // Whether r is a reply to row i's team in state s.
