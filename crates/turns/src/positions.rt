@@ -120,7 +120,7 @@ pub fn effect_of(block: &[u8], i: usize, s: usize, m: usize) -> Effect
         let c = places(block, i, j);
         let cost = net(block, i, s, m, j);
         takes = takes * c + positive(cost);
-        gives = gives * c + smaller(c - 1, negative(cost));
+        gives = gives * c + (c - 1).min(negative(cost));
     }
     Effect { takes, gives }
 }
