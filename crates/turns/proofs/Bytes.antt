@@ -2,17 +2,17 @@
 use mathlib.Core.List.{List, ◌++◌}
 use mathlib.Core.Logic.{◌↔◌, ◌⊎◌, inl, inr, ⊎_elim}
 use mathlib.Core.Path.{◌≡◌, sym, ◌∙◌, ap, subst}
-use Prim.Native.Nat.{ℕ, suc, ◌+◌, ◌*◌, ◌-◌, ◌/◌, ◌%◌, ◌^◌, ◌<◌, ◌≤◌}
-use native.Mathlib.Nat.{add-mul-div_right, div-eq_of_lt, div-div-eq-div-mul, div-lt_iff_lt-mul, mod-eq_of_lt, pow-succ'}
+use Prim.Native.Nat.{ℕ, ◌+◌, ◌*◌, ◌-◌, ◌/◌, ◌%◌, ◌^◌, ◌<◌, ◌≤◌}
+use native.Mathlib.Nat.{div-eq_of_lt, div-div-eq-div-mul, div-lt_iff_lt-mul, mod-eq_of_lt}
 use native.Mathlib.Omega.{arith}
-use lib.Pow.{pow_pos, pow-add, shr-shr}
+use lib.Pow.{pow_pos}
 use lib.ListN.{get_or, length, take, set, replicate, length-set, length-replicate, get_or-replicate, get_or-eq_default}
 use Rattle.std.proofs.lemmas.Grind.{common_steps}
 use borrow.Rule.Slice.PartMut.{put_mid}
 use lib.Seq.{get_or-set_same, get_or-set_other, lt-length-set}
 use Rattle.block.specs.Decide.{Bit}
 use Rattle.block.proofs.Masks.{bit_above, no_bit_above}
-use Rattle.turns.specs.Buffers.{rank_in, word_in, narrow_in}
+use Rattle.turns.specs.Buffers.{word_in, narrow_in}
 use Rattle.turns.specs.Inner.Stores.{Stored}
 use Rattle.game.proofs.Numbers.Decide.{eq?, lt?}
 

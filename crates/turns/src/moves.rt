@@ -48,8 +48,8 @@ pub fn cost(block: &[u8], s: usize, team: usize, m: usize, j: usize) -> i32
         if rest % 2 == 1 {
             total = combined(kind, total, layout::cost(block, s, a, k % 4, j));
         }
-        rest = rest / 2;
-        k = k / 4;
+        rest /= 2;
+        k /= 4;
     }
     total
 }
@@ -69,13 +69,7 @@ pub fn is_move(block: &[u8], parts: &Table, s: usize, team: usize, m: usize) -> 
     requires parts_table { PartsTable parts.now }
     ensures { Decides (MoveOf (structure_of block.now) (bit team) s m) result }
 {
-    if layout::JOINT_ACTIONS <= m {
-        return false;
-    }
-    if parts::part(parts, team, m) != m {
-        return false;
-    }
-    joint::available(block, s, m)
+    m < layout::JOINT_ACTIONS && parts::part(parts, team, m) == m && joint::available(block, s, m)
 }
 
 // Whether r is a reply to row i's team in state s.
@@ -95,10 +89,7 @@ pub fn numbers(block: &[u8], parts: &Table, i: usize, ours: bool) -> usize
     requires parts_table { PartsTable parts.now }
     ensures { (result ≤ max_joint) × ((s m : ℕ) → s < states block.now → SideMove block.now i ours s m → m < result) }
 {
-    let last = joint_actions(block) - 1;
     let team = layout::team(block, i);
-    if ours {
-        return parts::part(parts, team, last) + 1;
-    }
-    parts::part(parts, ALL_AGENTS - team, last) + 1
+    let side = if ours { team } else { ALL_AGENTS - team };
+    parts::part(parts, side, joint_actions(block) - 1) + 1
 }

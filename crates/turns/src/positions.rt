@@ -19,11 +19,10 @@ pub fn places(block: &[u8], i: usize, j: usize) -> usize
     requires i_bound { (i < L.rows block.now) × (j < L.resources block.now) × L.Strategic (L.kind block.now i) }
     ensures { result ≡ P.places (bounds_of block.now i j) }
 {
-    let bound = layout::bound(block, i, j);
-    if bound == layout::UNLIMITED {
-        return 1;
+    match layout::bound(block, i, j) {
+        layout::UNLIMITED => 1,
+        bound => bound + 1,
     }
-    bound + 1
 }
 
 // How many stock places row i has in each state.
@@ -35,7 +34,7 @@ pub fn stock_places(block: &[u8], i: usize) -> usize
     let n = layout::resources(block);
     let mut c = 1;
     for j in 0..n {
-        c = c * places(block, i, j);
+        c *= places(block, i, j);
     }
     c
 }
@@ -63,9 +62,10 @@ fn net(block: &[u8], i: usize, s: usize, m: usize, j: usize) -> i32
     ensures { NetOf block.now i s m j result }
 {
     if layout::bound(block, i, j) == layout::UNLIMITED {
-        return 0;
+        0
+    } else {
+        moves::cost(block, s, layout::team(block, i), m, j)
     }
-    moves::cost(block, s, layout::team(block, i), m, j)
 }
 
 // What a cost takes, and what it gives.
@@ -120,12 +120,9 @@ pub fn effect_of(block: &[u8], i: usize, s: usize, m: usize) -> Effect
         let c = places(block, i, j);
         let cost = net(block, i, s, m, j);
         takes = takes * c + positive(cost);
-        gives = gives * c + smaller(c - 1, negative(cost));
+        gives = gives * c + (c - 1).min(negative(cost));
     }
-    Effect {
-        takes: takes,
-        gives: gives,
-    }
+    Effect { takes, gives }
 }
 
 // The number of state s at full stock.

@@ -1,38 +1,40 @@
 -- `is_move` asks whether the number is the team's part of itself, and whether it can be done.
 use mathlib.Core.Path.{◌≡◌, sym, ◌∙◌}
-use Prim.Native.Nat.{◌<◌}
+use Prim.Native.Nat.{ℕ, ◌<◌}
 use native.Mathlib.Omega.{arith}
-use Rattle.block.specs.Layout.{Available}
-use Rattle.block.specs.Inner.Tests.{fails}
+use Rattle.block.specs.Layout.{Block, Available, states}
+use Rattle.block.specs.Inner.Valid.{Valid}
 use Rattle.block.proofs.Decide as D
 use Rattle.game.specs.Position.{MoveOf}
 use Rattle.game.specs.Inner.Parts.{part_of}
 use Rattle.game.specs.Model.{bit, structure_of}
 use Rattle.turns.proofs.TeamMoves.{move_part, part_move}
+use Rattle.turns.proofs.moves.is_move.Goals.{then-m-lt-JOINT_ACTIONS, else-m-lt-JOINT_ACTIONS}
 use Rattle.turns.proofs.moves.is_move.Goals as goal
-use Rattle.turns.proofs.moves.is_move.Lts as lts
-use Rattle.turns.proofs.moves.is_move.Reads as reads
-use Rattle.turns.proofs.moves.is_move.Tie as tie
-
-abbrev At-Start : Type 0
-At-Start = lts.Start tie.the-claims reads.Pre reads.Post tie.handed_clauses
 
 -- what a move is, and what makes a number one
-module _ (start : At-Start) where
-  told : MoveOf (structure_of start.args.block.now) (bit start.args.team) start.args.s start.args.m → (start.args.m < 64) × (part_of (bit start.args.team) start.args.m ≡ start.args.m) × Available start.args.block.now start.args.s start.args.m
-  told = move_part start.args.block.now start.requires.valid (bit start.args.team) start.args.s start.args.m start.requires.s_bound
+module _ (b : Block) (valid : Valid b) (team s m : ℕ) (state : s < states b) where
+  told : MoveOf (structure_of b) (bit team) s m → (m < 64) × (part_of (bit team) m ≡ m) × Available b s m
+  told = move_part b valid (bit team) s m state
 
-  makes : start.args.m < 64 → part_of (bit start.args.team) start.args.m ≡ start.args.m → Available start.args.block.now start.args.s start.args.m → MoveOf (structure_of start.args.block.now) (bit start.args.team) start.args.s start.args.m
-  makes = part_move start.args.block.now start.requires.valid (bit start.args.team) start.args.s start.args.m start.requires.s_bound
-
-pub returns-then-m-ge-JOINT_ACTIONS : goal.returns-then-m-ge-JOINT_ACTIONS
-returns-then-m-ge-JOINT_ACTIONS c = fails (λ move. omega (arith, (told c.before.before.before move).0, c.if-m-ge-JOINT_ACTIONS.true))
+  makes : m < 64 → part_of (bit team) m ≡ m → Available b s m → MoveOf (structure_of b) (bit team) s m
+  makes = part_move b valid (bit team) s m state
 
 pub returns-then-part-m : goal.returns-then-part-m
-returns-then-part-m c = fails (λ move. c.if-part-m.true (c.part.ensures ∙ (told c.before.before.before.before.before move).1))
+returns-then-part-m c =
+    elim c.if-m-lt-JOINT_ACTIONS.branch [
+      | then-m-lt-JOINT_ACTIONS w ↦ let own = D.truth (D.equal w.part.result c.args.m) (cc) in
+          D.same c.available.ensures
+          (makes c.args.block.now c.requires.valid c.args.team c.args.s c.args.m c.requires.s_bound w.if-m-lt-JOINT_ACTIONS.true (sym w.part.ensures ∙ own))
+          (λ move. (told c.args.block.now c.requires.valid c.args.team c.args.s c.args.m c.requires.s_bound move).2)
+      | else-m-lt-JOINT_ACTIONS w ↦ let small = D.truth (D.less c.args.m 64) (cc) in absurd (omega (arith, small))
+    ]
 
-pub available-requires : goal.available-requires
-available-requires c = record { sized = c.requires.valid.sized; s_lt_max_states = (omega (arith, c.requires.s_bound, c.requires.valid.sized.states_fit), omega (arith, c.if-m-ge-JOINT_ACTIONS.false)) }
-
-pub returns : goal.returns
-returns c = D.same c.available.ensures (makes c.before.before.before.before.before.before (omega (arith, c.if-m-ge-JOINT_ACTIONS.false)) (sym c.part.ensures ∙ c.if-part-m.false)) (λ move. (told c.before.before.before.before.before.before move).2)
+pub returns-else-part-m : goal.returns-else-part-m
+returns-else-part-m c = D.no c.if-part-m.false
+    (λ move.
+    let is = told c.args.block.now c.requires.valid c.args.team c.args.s c.args.m c.requires.s_bound move in
+    elim c.if-m-lt-JOINT_ACTIONS.branch [
+      | then-m-lt-JOINT_ACTIONS w ↦ D.falsity (D.equal w.part.result c.args.m) (cc) (w.part.ensures ∙ is.1)
+      | else-m-lt-JOINT_ACTIONS w ↦ omega (arith, is.0)
+    ])

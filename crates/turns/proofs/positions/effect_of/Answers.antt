@@ -26,8 +26,8 @@ At-After-net-cost = lts.After-net tie.the-claims reads.Pre reads.Post goal.the-i
 abbrev At-After-places-c : Type 0
 At-After-places-c = lts.After-places tie.the-claims reads.Pre reads.Post goal.the-invariant-loop-j goal.the-decreases-loop-j tie.handed_clauses
 
-abbrev At-After-smaller : Type 0
-At-After-smaller = lts.After-smaller tie.the-claims reads.Pre reads.Post goal.the-invariant-loop-j goal.the-decreases-loop-j tie.handed_clauses
+abbrev At-After-min : Type 0
+At-After-min = lts.After-min tie.the-claims reads.Pre reads.Post goal.the-invariant-loop-j goal.the-decreases-loop-j tie.handed_clauses
 
 abbrev At-In-loop-j : Type 0
 At-In-loop-j = lts.In-loop tie.the-claims reads.Pre reads.Post goal.the-invariant-loop-j goal.the-decreases-loop-j tie.handed_clauses
@@ -92,18 +92,18 @@ pub negative-requires : goal.negative-requires
 negative-requires c = omega (arith, ap C.negative (net_held c.net-cost.ensures), c.net-cost.ensures.gives_few)
 
 -- what one turn comes to
-module _ (c : At-After-smaller) where
+module _ (c : At-After-min) where
   takes_here : (c.positive.result ≡ (taken_by c.args.block.now c.args.i c.args.s c.args.m).stock c.loop-j.j) × (c.positive.result ≤ 45)
   takes_here = positive_is c.before.before.before c.positive.result c.positive.ensures
 
-  gives_here : (c.smaller.result ≡ (given_by c.args.block.now c.args.i c.args.s c.args.m).stock c.loop-j.j) × (c.smaller.result ≤ 45)
-  gives_here = (negative_is c.before.before.before c.negative.result c.negative.ensures).1 c.smaller.result c.smaller.ensures
+  gives_here : (c.min.result ≡ (given_by c.args.block.now c.args.i c.args.s c.args.m).stock c.loop-j.j) × (c.min.result ≤ 45)
+  gives_here = (negative_is c.before.before.before c.negative.result c.negative.ensures).1 c.min.result c.min.ensures
 
   sum_small : (x v : ℕ) → x ≤ few c.loop-j.j → v ≤ 45 → (x * c.places-c.result + v ≤ few (c.loop-j.j + 1)) × (few (c.loop-j.j + 1) ≤ 765)
   sum_small x v so_far small = let less = product_small c.before.before.before.before x in let one = (resource_at c.before.before.before.before.before).1 in (omega arith, omega arith)
 
 pub overflow_add-gives : goal.overflow_add-gives
-overflow_add-gives c = omega (arith, sum_small c.before c.loop-j.gives c.smaller.result c.loop-j.invariant.4 (gives_here c.before).1)
+overflow_add-gives c = omega (arith, sum_small c.before c.loop-j.gives c.min.result c.loop-j.invariant.4 (gives_here c.before).1)
 
 pub overflow_step-j : goal.overflow_step-j
 overflow_step-j c = omega arith
@@ -115,9 +115,9 @@ pub loop-j-preserved : goal.loop-j-preserved
 loop-j-preserved c = (
   omega arith,
   number_next c.args.block.now c.args.i c.loop-j.j c.loop-j.takes c.places-c.result c.positive.result (taken_by c.args.block.now c.args.i c.args.s c.args.m) c.loop-j.invariant.1 c.places-c.ensures (takes_here c.before).0,
-  number_next c.args.block.now c.args.i c.loop-j.j c.loop-j.gives c.places-c.result c.smaller.result (given_by c.args.block.now c.args.i c.args.s c.args.m) c.loop-j.invariant.2 c.places-c.ensures (gives_here c.before).0,
+  number_next c.args.block.now c.args.i c.loop-j.j c.loop-j.gives c.places-c.result c.min.result (given_by c.args.block.now c.args.i c.args.s c.args.m) c.loop-j.invariant.2 c.places-c.ensures (gives_here c.before).0,
   (sum_small c.before c.loop-j.takes c.positive.result c.loop-j.invariant.3 (takes_here c.before).1).0,
-  (sum_small c.before c.loop-j.gives c.smaller.result c.loop-j.invariant.4 (gives_here c.before).1).0,
+  (sum_small c.before c.loop-j.gives c.min.result c.loop-j.invariant.4 (gives_here c.before).1).0,
 )
 
 pub returns : goal.returns

@@ -21,8 +21,8 @@ returns-then-bound-eq-UNLIMITED c = net_unlimited c.args.block.now c.args.i c.ar
 pub cost-requires : goal.cost-requires
 cost-requires c = record { valid = c.requires.valid; s_bound = (c.requires.i_bound.1, c.requires.i_bound.2); move_of = subst (λ (t : ℕ). MoveOf (structure_of c.args.block.now) (bit t) c.args.s c.args.m) (sym c.team.ensures) c.requires.move_of }
 
-pub returns : goal.returns
-returns c = let ne : L.bound c.args.block.now c.args.i c.args.j ≡ L.unlimited → ⊥ = λ e. c.if-bound-eq-UNLIMITED.false (c.bound.ensures ∙ e) in
+pub returns-else-bound-eq-UNLIMITED : goal.returns-else-bound-eq-UNLIMITED
+returns-else-bound-eq-UNLIMITED c = let ne : L.bound c.args.block.now c.args.i c.args.j ≡ L.unlimited → ⊥ = λ e. c.if-bound-eq-UNLIMITED.false (c.bound.ensures ∙ e) in
     let takes : ℕ → ℕ = λ t. move_cost (structure_of c.args.block.now) (bit t) c.args.s (digit c.args.m) c.args.j in
     let gives : ℕ → ℕ = λ t. move_charge (structure_of c.args.block.now) (bit t) c.args.s (digit c.args.m) c.args.j in
     let few : takes (L.team c.args.block.now c.args.i) ≤ 45 = subst (λ (t : ℕ). takes t ≤ 45) c.team.ensures c.cost.ensures.j_bound.0 in
