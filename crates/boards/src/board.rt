@@ -101,10 +101,7 @@ pub fn store_reaches(block: &[u8], row: Row, ways: &[u8], board: &mut [u8])
 fn between(r: usize, low: usize, end: usize) -> bool
     ensures { Decides ((low ≤ r) × (r < end)) result }
 {
-    if r < low {
-        return false;
-    }
-    r < end
+    low <= r && r < end
 }
 
 // The states whose rank at stock place x is from low to below end.

@@ -6,18 +6,12 @@ ghost use Rattle.boards.specs.Boards.{Fires, Newly};
 pub fn fires(most: bool, to: usize, won: usize) -> bool
     ensures { Decides (Fires most to won) result }
 {
-    if most {
-        return to & won == to;
-    }
-    to & won != 0
+    if most { to & won == to } else { to & won != 0 }
 }
 
 // Whether it does, by a state that is fresh.
 pub fn newly(most: bool, to: usize, won: usize, fresh: usize) -> bool
     ensures { Decides (Newly most to won fresh) result }
 {
-    if !fires(false, to, fresh) {
-        return false;
-    }
-    fires(most, to, won)
+    fires(false, to, fresh) && fires(most, to, won)
 }

@@ -15,9 +15,8 @@ ghost use Rattle.turns.specs.Sizes.{room_bytes};
 use block::layout;
 use choice::{moves, next};
 use sweeps::solve;
-use sweeps::sweep::Side;
 use turns::{buffers, positions};
-use ways::rows::Row;
+use ways::rows::{Row, Side};
 
 // Whether row i is true in state s.
 fn true_at(block: &[u8], i: usize, left: usize, right: usize, ranks: &[u8], s: usize) -> bool

@@ -22,7 +22,8 @@ use Rattle.ways.specs.declared.rows.Row.{Row}
 use Rattle.ways.proofs.Leading.{listed_small, number_inside}
 use Rattle.boards.specs.Boards.{nexts_words, to_in, Nexts}
 use Rattle.stages.specs.Stages.{hold, marked_at, Prepared, rank_of, Waits, TurnedTo}
-use Rattle.stages.specs.Solving.{FirstRank, FirstIn, Rests, Staged}
+use Rattle.ways.specs.First.{FirstRank, FirstIn}
+use Rattle.stages.specs.Solving.{Rests, Staged}
 use Rattle.stages.proofs.Paths.{idle_to, next_some}
 
 -- the state that a number stands for, with c numbers for each
@@ -40,7 +41,7 @@ position_inside b valid row playable s x state place =
     omega (arith, last, suc-mul s row.places, all_positions b valid row playable)
 
 module _ (b : Block) (valid : Valid b) (row : Row) (ways board : List ℕ) (ready : Prepared b row ways board) (most : Bool) (safe goal : ℕ) (ranks flags board' flags' : List ℕ) (did : Bool)
-    (first : (n : ℕ) → n < max_positions → FirstRank goal row.places (positions (arena_of b row.index)) n (rank_in ranks n))
+    (first : (n : ℕ) → n < max_positions → FirstRank hold goal row.places (positions (arena_of b row.index)) n (rank_in ranks n))
     (ones : (x : ℕ) → x < row.places → marked_at flags x ≡ 1)
     (turned : TurnedTo (L.states b) row.places ranks 1 row.places did board flags board' flags') where
   bit? : (w s : ℕ) → Dec (Bit w s)
@@ -61,10 +62,10 @@ module _ (b : Block) (valid : Valid b) (row : Row) (ways board : List ℕ) (read
   }
 
   module _ (s x : ℕ) (state : s < L.states b) (place : x < row.places) where
-    word : FirstIn goal s (rank_of row ranks s x)
+    word : FirstIn hold goal s (rank_of row ranks s x)
     word =
         let is = (first (s * row.places + x) (number_inside b valid row ready.playable s x state place)).within (position_inside b valid row ready.playable s x state place) in
-        subst (λ (q : ℕ). FirstIn goal q (rank_of row ranks s x)) (quotient row.places s x place) is
+        subst (λ (q : ℕ). FirstIn hold goal q (rank_of row ranks s x)) (quotient row.places s x place) is
 
     -- 0 at a goal, and hold elsewhere
     only_zero : rank_of row ranks s x < hold → rank_of row ranks s x ≡ 0

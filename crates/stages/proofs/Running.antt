@@ -17,8 +17,9 @@ use Rattle.turns.specs.Sizes.{room_bytes, max_positions}
 use Rattle.ways.specs.declared.rows.Row.{Row}
 use Rattle.ways.proofs.Leading.{few}
 use Rattle.boards.specs.Boards.{RankedWithin}
-use Rattle.stages.specs.Stages.{flags_bytes, due_at, marked_at, Prepared, rank_of, Evolved, Lent, PlaceDone, TurnedTo}
-use Rattle.stages.specs.Solving.{FirstRank, Staged, Found}
+use Rattle.stages.specs.Stages.{hold, flags_bytes, due_at, marked_at, Prepared, rank_of, Evolved, Lent, PlaceDone, TurnedTo}
+use Rattle.ways.specs.First.{FirstRank}
+use Rattle.stages.specs.Solving.{Staged, Found}
 use Rattle.stages.proofs.Counting.{unranked, unranked_few, stage_no_more, stage_fewer}
 use Rattle.stages.proofs.Opening.{all_positions, position_inside, ready_first, staged_first}
 use Rattle.stages.proofs.Staging.{ready_next, staged_next}
@@ -40,7 +41,7 @@ left_to_do b row ranks more = unranked ranks (L.states b * row.places) + cond {A
 
 module _ (b : Block) (valid : Valid b) (row : Row) (ways : List ℕ) (most : Bool) (safe goal : ℕ) (first : List ℕ) where
   pub running_first : (board flags board' flags' : List ℕ) (did : Bool) → Prepared b row ways board
-      → ((n : ℕ) → n < max_positions → FirstRank goal row.places (positions (arena_of b row.index)) n (rank_in first n))
+      → ((n : ℕ) → n < max_positions → FirstRank hold goal row.places (positions (arena_of b row.index)) n (rank_in first n))
       → ((x : ℕ) → x < row.places → marked_at flags x ≡ 1) → length flags ≡ flags_bytes
       → TurnedTo (L.states b) row.places first 1 row.places did board flags board' flags'
       → Running b row ways most safe goal first board' first flags' 1 did

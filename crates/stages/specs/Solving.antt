@@ -1,5 +1,5 @@
 -- The ranks of an until or an always row, as they are first, before each stage, and as they are found.
-use Rattle.std.specs.Prelude.{Bool, true, false, List, ◌↔◌, ◌⊎◌, ◌≡◌, ℕ, suc, ◌+◌, ◌/◌, ◌≤◌, ◌<◌, length}
+use Rattle.std.specs.Prelude.{Bool, true, false, List, ◌↔◌, ◌≡◌, ℕ, suc, ◌+◌, ◌≤◌, ◌<◌, length}
 use Rattle.block.specs.Decide.{Bit}
 use Rattle.block.specs.Layout as L
 use Rattle.block.specs.Layout.{Block}
@@ -21,21 +21,6 @@ Attacks G false = CanAnswer G
 abbrev pub Defends : Arena → Bool → Position → (Position → Type 0) → Type 0
 Defends G true = CanAnswer G
 Defends G false = CanForce G
-
--- the first word in state s: 0 at a goal
-abbrev pub FirstIn : ℕ → ℕ → ℕ → Type 0
-FirstIn goal s rank = (Bit goal s → rank ≡ 0) × ((Bit goal s → ⊥) → rank ≡ hold)
-
--- and that of position n of so many positions, with c of them in each state
-pub record FirstRank (goal c positions n rank : ℕ) : Type 0 where
-  pub within : n < positions → FirstIn goal (n / c) rank
-  pub outside : positions ≤ n → rank ≡ 0
-
--- the positions from `first` to before `end` have this rank, and nothing else changed
-pub record SpanStored (first end rank : ℕ) (l l' : List ℕ) : Type 0 where
-  pub inside : (k : ℕ) → first ≤ k → k < end → rank_in l' k ≡ rank
-  pub others : (k : ℕ) → (k < first) ⊎ (end ≤ k) → rank_in l' k ≡ rank_in l k
-  pub long : length l' ≡ length l
 
 -- words that stand for no rank become never
 pub record Finished (positions : ℕ) (l l' : List ℕ) : Type 0 where

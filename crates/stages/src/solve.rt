@@ -7,22 +7,17 @@ ghost use Rattle.turns.specs.Buffers.{rank_in};
 ghost use Rattle.turns.specs.Sizes.{room_bytes, max_positions};
 ghost use Rattle.ways.specs.Listing.{Listed};
 ghost use Rattle.ways.specs.Rows.{Playable};
-ghost use Rattle.stages.specs.Stages.{Prepared};
-ghost use Rattle.stages.specs.Solving.{FirstRank, Found, Solved};
+ghost use Rattle.ways.specs.First.{FirstRank};
+ghost use Rattle.stages.specs.Stages.{hold, Prepared};
+ghost use Rattle.stages.specs.Solving.{Found, Solved};
 
 use crate::stage::Attack;
 use crate::{stage, start};
 use block::layout;
 use boards::board;
 use turns::sizes;
-use ways::rows::Row;
-
-// Who attacks, the coalition where `most`, and the safe states from which an attack goes on.
-#[derive(Clone, Copy)]
-pub struct Side {
-    pub most: bool,
-    pub safe: usize,
-}
+use ways::first;
+use ways::rows::{Row, Side};
 
 // Stages until one gives no rank.
 fn run(
@@ -36,7 +31,7 @@ fn run(
 )
     requires valid { Valid block.now × Prepared block.now row ways.now board.old }
     requires ranks_len { length ranks.old ≡ room_bytes }
-    requires by_index { (n : ℕ) → n < max_positions → FirstRank goal row.places (positions (arena_of block.now row.index)) n (rank_in ranks.old n) }
+    requires by_index { (n : ℕ) → n < max_positions → FirstRank hold goal row.places (positions (arena_of block.now row.index)) n (rank_in ranks.old n) }
     ensures { Found block.now row ways.now side.most side.safe goal ranks.old ranks.new }
 {
     let mut flags = [1u8; 2 * sizes::MAX_STOCK_PLACES];
@@ -63,7 +58,7 @@ pub fn solve(block: &[u8], row: Row, side: Side, ways: &[u8], goal: usize, ranks
     ensures { Solved (arena_of block.now row.index) side.most side.safe goal ranks.new × (length ranks.new ≡ length ranks.old) }
 {
     let mut words = [0u8; board::BOARD_BYTES];
-    start::first_ranks(block, row, goal, ranks);
+    first::first_ranks(block, row, goal, start::HOLD, ranks);
     board::store_nexts(block, row, ways, &mut words);
     board::store_reaches(block, row, ways, &mut words);
     run(block, row, side, ways, goal, &mut words, ranks);

@@ -10,10 +10,9 @@ ghost use Rattle.ways.specs.Rows.{Playable};
 ghost use Rattle.sweeps.specs.Sweeps.{Worked, Settled};
 
 use crate::sweep;
-use crate::sweep::Side;
 use turns::sizes;
 use ways::back;
-use ways::rows::Row;
+use ways::rows::{Row, Side};
 
 // Settles place x, which is flagged. Where a rank fell there, the places that lead to it are flagged.
 fn work_off(

@@ -12,14 +12,7 @@ ghost use Rattle.sweeps.specs.Sweeps.{RestsAt, RestsBelow, visit, Swept, PlaceSe
 use crate::value;
 use block::layout;
 use turns::buffers;
-use ways::rows::{Row, Spot};
-
-// Who attacks, the coalition where `most`, and the safe states from which an attack goes on.
-#[derive(Clone, Copy)]
-pub struct Side {
-    pub most: bool,
-    pub safe: usize,
-}
+use ways::rows::{Row, Side, Spot};
 
 // Lowers the rank of a position to one more than its value, where its state is safe and that is less. Tells whether it fell.
 fn settle_at(block: &[u8], row: Row, side: Side, ways: &[u8], spot: Spot, ranks: &mut [u8]) -> bool

@@ -104,10 +104,7 @@ fn value_by<F: Fn(usize) -> Option<usize>>(
             most: most,
             rank: v,
         };
-        let tried = Tried {
-            k: k,
-            to: lands(k),
-        };
+        let tried = Tried { k: k, to: lands(k) };
         let w = offered(block, row, ways, ranks, spot, tried, limit);
         if w != v {
             if is_final(most, rank, w) {

@@ -8,3 +8,4 @@ pub mod Leading
 pub mod Marking
 pub mod Coming
 pub mod Tells
+pub mod Starting

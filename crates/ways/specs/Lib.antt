@@ -7,3 +7,4 @@ pub mod Packed
 pub mod Listing
 pub mod Landing
 pub mod Back
+pub mod First

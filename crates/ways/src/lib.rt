@@ -3,6 +3,7 @@
 #![tactic(auto)]
 
 pub mod back;
+pub mod first;
 pub mod landing;
 pub mod lines;
 pub mod listing;

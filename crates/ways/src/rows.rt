@@ -1,4 +1,4 @@
-// A strategic row as it is played, and a position of it.
+// A strategic row as it is played, a position of it, and a side of an attack.
 ghost use Rattle.std.specs.Prelude.{Bool, true, ◌≡◌, ◌<◌};
 ghost use Rattle.block.specs.Layout as L;
 ghost use Rattle.block.specs.Inner.Valid.{Valid};
@@ -22,6 +22,13 @@ pub struct Row {
 pub struct Spot {
     pub state: usize,
     pub place: usize,
+}
+
+// Who attacks, the coalition where `most`, and the safe states from which an attack goes on.
+#[derive(Clone, Copy)]
+pub struct Side {
+    pub most: bool,
+    pub safe: usize,
 }
 
 pub fn row_of(block: &[u8], i: usize, into: bool, set: usize) -> Row

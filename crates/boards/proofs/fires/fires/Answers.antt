@@ -7,6 +7,6 @@ pub returns-then-most : goal.returns-then-most
 returns-then-most c = let law = most_fires c.args.to c.args.won in
     rw c.if-most.true (D.same (D.equal _ _) law.0 law.1)
 
-pub returns : goal.returns
-returns c = let law = some_fires c.args.to c.args.won in
+pub returns-else-most : goal.returns-else-most
+returns-else-most c = let law = some_fires c.args.to c.args.won in
     rw c.if-most.false (D.opposite (D.equal _ _) (λ e fires. law.1 fires e) law.0)

@@ -19,7 +19,7 @@ abbrev At-After-states : Type 0
 At-After-states = lts.After-states tie.the-claims reads.Pre reads.Post tie.handed_clauses
 
 pub first_ranks-requires : goal.first_ranks-requires
-first_ranks-requires c = record { valid = c.requires.valid; playable = (c.requires.playable.0, c.requires.playable.2) }
+first_ranks-requires c = record { valid = c.requires.valid; playable = (c.requires.playable.0, c.requires.playable.2); other_lt_rank_end = omega arith }
 
 pub store_nexts-requires : goal.store_nexts-requires
 store_nexts-requires c = record { valid = c.requires.valid; playable = (c.requires.playable.0, c.requires.playable.1, refl) }

@@ -1,7 +1,7 @@
 -- `store_ranks` stores one rank after another.
 use Prim.Native.Nat.{◌-◌, ◌≤◌}
-use Rattle.stages.specs.Solving.{SpanStored}
-use Rattle.stages.proofs.start.store_ranks.Given as goal
+use Rattle.ways.specs.First.{SpanStored}
+use Rattle.ways.proofs.first.store_ranks.Given as goal
 
 abbrev pub invariant-loop-p : goal.invariant-loop-p
 invariant-loop-p l = (l.first ≤ l.p) × (l.p ≤ l.end) × SpanStored l.first l.p l.rank l.initial.ranks l.ranks

@@ -2,9 +2,9 @@
 use mathlib.Core.Path.{subst}
 use Prim.Native.Nat.{ℕ}
 use native.Mathlib.Omega.{arith}
-use Rattle.sweeps.specs.Solving.{SpanStored}
-use Rattle.sweeps.proofs.Starting.{span_none, span_next}
-use Rattle.sweeps.proofs.solve.store_ranks.Goals as goal
+use Rattle.ways.specs.First.{SpanStored}
+use Rattle.ways.proofs.Starting.{span_none, span_next}
+use Rattle.ways.proofs.first.store_ranks.Goals as goal
 
 pub loop-p-init : goal.loop-p-init
 loop-p-init c = (omega arith, c.requires.0, span_none)
@@ -25,5 +25,4 @@ pub shape_of-ranks : goal.shape_of-ranks
 shape_of-ranks c = c.loop-p.invariant.2.long
 
 pub returns : goal.returns
-returns c = subst (λ (p : ℕ). SpanStored c.args.first p c.args.rank c.args.ranks.now c.loop-p.ranks) {x = c.loop-p.p} {y = c.args.end}
-    (omega (arith, c.loop-p.invariant.1, c.loop-p-test.false)) c.loop-p.invariant.2
+returns c = subst (λ (p : ℕ). SpanStored c.args.first p c.args.rank c.args.ranks.now c.loop-p.ranks) {x = c.loop-p.p} {y = c.args.end} (omega (arith, c.loop-p.invariant.1, c.loop-p-test.false)) c.loop-p.invariant.2
