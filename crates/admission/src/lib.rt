@@ -12,7 +12,6 @@ ghost use Rattle.admission.specs.Admission.{set_rules, row_rules, state_rules, N
 
 use block::layout;
 use block::refusal::{Answer, Refusal};
-use block::widths::wide;
 use turns::positions;
 
 // A row whose set is wanted: one that exists, of any kind.
@@ -67,7 +66,7 @@ pub fn no_position(block: &[u8], i: usize, s: usize, stocks: &[u8]) -> bool
     ensures { Decides (NoPosition block.now i s stocks.now) result }
 {
     layout::states(block) <= s
-        || (0..layout::MAX_RESOURCES).any(|j| above(block, i, j, wide(stocks[j])))
+        || (0..layout::MAX_RESOURCES).any(|j| above(block, i, j, usize::from(stocks[j])))
 }
 
 // A position of such a row.

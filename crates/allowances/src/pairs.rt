@@ -138,6 +138,7 @@ fn first_enough(
     ensures first_enough { FirstEnough block.now ask.row ask.state x range.first range.end result }
     ensures lent_2 { Lent block.now ask copy.new ways.new ranks.new }
 {
+    // a loop and no find: each try works in the lent buffers
     for y in (range.first..range.end).rev() {
         if !enough(block, ask, x, y, copy, ways, ranks) {
             return y + 1;

@@ -4,8 +4,6 @@ ghost use Rattle.block.specs.Layout as L;
 ghost use Rattle.block.specs.Layout.{block_bytes, max_states, max_agents, max_actions, max_resources, max_joint, max_rows, row_bytes, place_of, byte_at, at};
 ghost use Rattle.block.specs.Inner.Places.{InLayout};
 
-use crate::widths::wide;
-
 // The largest sizes: agents, resources, states, propositions, rows; actions of an agent.
 pub const MAX_AGENTS: usize = 3;
 
@@ -73,7 +71,7 @@ const RESOURCE_KIND_BASE: usize = ROW_BASE + MAX_ROWS * ROW_BYTES;
 
 pub const BLOCK_BYTES: usize = RESOURCE_KIND_BASE + MAX_RESOURCES;
 
-// The kinds of resources.
+// The kinds of resources. They and those of rows are numbers, since the check reads them of blocks where any byte can stand.
 pub const SUM_KIND: usize = 0;
 
 pub const MAX_KIND: usize = 1;
@@ -213,7 +211,7 @@ pub fn byte_at(block: &[u8], p: usize) -> usize
     requires { p < length block.now }
     ensures { result ≡ byte_at block.now p }
 {
-    wide(block[p])
+    usize::from(block[p])
 }
 
 // N: how many agents there are.
@@ -283,7 +281,7 @@ pub fn cost_byte(block: &[u8], s: usize, a: usize, k: usize, j: usize) -> usize
     byte_at(block, cost_place(s, a, k, j))
 }
 
-// What a cost with this byte takes, or less than nothing where it gives.
+// What a cost with this byte takes, or less than nothing where it gives. No cast to i8: bytes from 128 on that are no charge are as they stand.
 fn signed(c: u8) -> i32
     ensures { result ≡ L.signed c }
 {

@@ -6,4 +6,3 @@ pub mod joint;
 pub mod kinds;
 pub mod layout;
 pub mod refusal;
-pub mod widths;

@@ -13,7 +13,6 @@ ghost use Rattle.lookup.specs.Inner.Spots.{SpotMove};
 
 use block::layout;
 use block::refusal::{Answer, Refusal};
-use block::widths::wide;
 use choice::moves;
 use solver::ready::Ready;
 use turns::{positions, sizes};
@@ -61,5 +60,5 @@ pub fn ready_move(
     if m == sizes::NO_MOVE {
         return Err(Refusal::WrongSide);
     }
-    Ok(wide(m))
+    Ok(usize::from(m))
 }

@@ -7,7 +7,6 @@ ghost use Rattle.text.specs.Inner.Adding.{Adds};
 ghost use Rattle.text.specs.Numeral as F;
 ghost use Rattle.printing.specs.Lines.{list_line, set_line, plan_line, refused_line};
 
-use block::widths::wide;
 use text::output::{field, word};
 use turns::sets;
 
@@ -32,7 +31,7 @@ pub fn refused_line(out: &mut [u8], at: usize, refusal: u8) -> usize
     ensures { Adds (refused_line refusal) out.old at out.new result × (result ≤ at + 17) }
 {
     let rest = word(out, at, b"refused,");
-    number(out, rest, wide(refusal), b'\n')
+    number(out, rest, usize::from(refusal), b'\n')
 }
 
 pub fn set_line(out: &mut [u8], at: usize, i: usize, set: usize) -> usize
@@ -54,5 +53,5 @@ pub fn plan_line(out: &mut [u8], at: usize, i: usize, s: usize, rank: usize, m: 
     let state = number(out, row, i, b',');
     let own = number(out, state, s, b',');
     let move_field = number(out, own, rank, b',');
-    number(out, move_field, wide(m), b'\n')
+    number(out, move_field, usize::from(m), b'\n')
 }

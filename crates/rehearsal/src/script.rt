@@ -11,7 +11,6 @@ ghost use Rattle.rehearsal.specs.Inner.Turns.{FinishedBy, EndsAs};
 
 use crate::turn;
 use block::layout;
-use block::widths::wide;
 use solver::ready::Ready;
 use turns::{buffers, positions};
 use ways::rows::Spot;
@@ -65,7 +64,7 @@ pub fn play(
                 last: spot,
             });
         }
-        spot = turn::take_turn(block, i, ready, ways, ranks, spot, wide(script[n]))?;
+        spot = turn::take_turn(block, i, ready, ways, ranks, spot, usize::from(script[n]))?;
     }
     let finished = is_finished(kind, ready.right, bytes, spot.state, bytes);
     Some(Ended {

@@ -9,7 +9,6 @@ ghost use Rattle.solver.specs.Inner.Ready.{MadeReady};
 ghost use Rattle.rehearsal.specs.Inner.Turns.{Turned};
 
 use block::layout;
-use block::widths::wide;
 use choice::replies;
 use lookup::spots;
 use solver::ready::Ready;
@@ -31,7 +30,7 @@ pub fn take_turn(
     ensures { (p : Position) → PlacedAt (arena_of block.now i) spot.state spot.place p → CoalitionWins (arena_of block.now i) (objective_of block.now i) p → Turned (arena_of block.now i) (objective_of block.now i) p r result }
 {
     lines::find(ways, spot.state, false, r)?;
-    let m = wide(spots::spot_move(block, i, ready, ways, ranks, spot));
+    let m = usize::from(spots::spot_move(block, i, ready, ways, ranks, spot));
     let y = replies::way_to(block, ready.row, ways, spot, m)?; // the team's move is always paid
     Some(Spot {
         state: layout::next(block, spot.state, m + r),

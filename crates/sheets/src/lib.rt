@@ -12,7 +12,6 @@ ghost use Rattle.sheets.specs.Inner.Sheets.{AnsweredAt, WordsTo};
 ghost use Rattle.turns.specs.Sizes.{room_bytes};
 
 use block::refusal::{Answer, Refusal};
-use block::widths::wide;
 use block::{fill, layout, refusal};
 use lookup::spots;
 use solver::ready;
@@ -64,7 +63,7 @@ fn answer_at(
     ensures { AnsweredAt block.now i list.now k result }
 {
     let at = POSITION_BYTES * k;
-    let s = wide(list[at]);
+    let s = usize::from(list[at]);
     let stocks = &list[at + 1..at + POSITION_BYTES];
     if admission::no_position(block, i, s, stocks) {
         return Err(Refusal::Position);
@@ -78,7 +77,7 @@ fn word(a: Answer) -> usize
 {
     match a {
         Ok(m) => m,
-        Err(r) => REFUSED + wide(r.number()),
+        Err(r) => REFUSED + usize::from(r.number()),
     }
 }
 

@@ -44,6 +44,7 @@ pub fn first_staying(
     requires state_bound { (spot.state < L.states block.now) × (spot.place < row.places) × (from ≤ count_in ways.now spot.state true) }
     ensures { FirstStaying block.now row ways.now board.now spot.state spot.place from result }
 {
+    // a loop and no find: no proof was found that the closure stays as it is from call to call
     let n = lines::count(ways, spot.state, true);
     for k in from..n {
         if stays(block, row, ways, board, spot, k) {

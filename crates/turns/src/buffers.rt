@@ -6,8 +6,6 @@ ghost use Rattle.turns.specs.Buffers.{rank_in, word_in, narrow_in};
 ghost use Rattle.turns.specs.Sizes.{set_bits, narrow_bits, rank_end};
 ghost use Rattle.turns.specs.Inner.Stores.{Stored, Lowered};
 
-use block::widths::wide;
-
 // The rank of position p.
 pub fn rank_at(ranks: &[u8], p: usize) -> usize
     requires { 2 * p + 1 < length ranks.now }

@@ -11,7 +11,6 @@ ghost use Rattle.turns.specs.Sizes.{max_stock_places};
 
 use crate::moves;
 use block::layout;
-use block::widths::wide;
 
 // The stock places of resource j in row i.
 pub fn places(block: &[u8], i: usize, j: usize) -> usize
@@ -49,7 +48,7 @@ pub fn number(block: &[u8], i: usize, s: usize, stocks: &[u8]) -> usize
     let n = layout::resources(block);
     let mut x = s;
     for j in 0..n {
-        x = x * places(block, i, j) + wide(stocks[j]);
+        x = x * places(block, i, j) + usize::from(stocks[j]);
     }
     x
 }
@@ -80,13 +79,6 @@ fn negative(c: i32) -> usize
     ensures { result ≡ C.negative c }
 {
     (-c).max(0) as usize
-}
-
-// The smaller of two numbers.
-pub fn smaller(a: usize, b: usize) -> usize
-    ensures { result ≡ min a b }
-{
-    a.min(b)
 }
 
 // What the move m of row i's team takes of resource j in state s.

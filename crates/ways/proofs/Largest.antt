@@ -1,6 +1,6 @@
 -- The largest or the smallest of some numbers, found by going on from the first. Assumes nothing.
 use mathlib.Core.Bool.{Bool, true, false, not}
-use mathlib.Core.Logic.{◌⊎◌, inl, inr, ⊎_elim}
+use mathlib.Core.Logic.{inl, inr, ⊎_elim}
 use mathlib.Core.Path.{◌≡◌, refl, sym, ◌∙◌, ap, subst}
 use Prim.Native.Nat.{ℕ, zero, suc, ◌+◌, ◌-◌, ◌≤◌, ◌<◌}
 use native.Mathlib.Omega.{arith}
@@ -14,14 +14,6 @@ beyond_equal false x v e = omega arith
 pub beyond_trans : (most : Bool) (x y v : ℕ) → Beyond most x y → Beyond most y v → Beyond most x v
 beyond_trans true x y v l l' = omega arith
 beyond_trans false x y v l l' = omega arith
-
-pub larger : (most : Bool) (a b v : ℕ) → most ≡ true → a ≤ v → b ≤ v → (v ≡ a) ⊎ (v ≡ b) → Further most a b v
-larger most a b v e l l' taken =
-    record { first = subst (λ (t : Bool). Beyond t a v) (sym e) l; second = subst (λ (t : Bool). Beyond t b v) (sym e) l'; taken = taken }
-
-pub smaller : (most : Bool) (a b v : ℕ) → most ≡ false → v ≤ a → v ≤ b → (v ≡ a) ⊎ (v ≡ b) → Further most a b v
-smaller most a b v e l l' taken =
-    record { first = subst (λ (t : Bool). Beyond t a v) (sym e) l; second = subst (λ (t : Bool). Beyond t b v) (sym e) l'; taken = taken }
 
 pub beyond_turned : (most : Bool) (x v : ℕ) → Beyond most x v → Beyond (not most) v x
 beyond_turned true x v l = l

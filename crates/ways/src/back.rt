@@ -12,7 +12,6 @@ ghost use Rattle.ways.specs.Rows.{Playable};
 use crate::rows::Row;
 use crate::{lines, packs};
 use block::layout;
-use turns::positions;
 
 // The stocks from `first` to `last`, none where that is smaller.
 #[derive(Clone, Copy)]
@@ -35,7 +34,7 @@ pub fn span_of(f: usize, x: usize, t: usize, g: usize) -> Span
     }
     Span {
         first: first,
-        last: positions::smaller(f, first),
+        last: f.min(first),
     }
 }
 

@@ -8,7 +8,6 @@ ghost use Rattle.turns.specs.Inner.Stores.{Stored};
 ghost use Rattle.ways.specs.Lines.{state_bytes, ways_bytes, field_place, field_in, count_at, line_at, takes_at, gives_at, packed_in, count_in, number_in, taken_in, given_in, FoundAt};
 
 use block::layout;
-use block::widths::wide;
 use turns::{buffers, sizes};
 
 // Where the states begin, and how many bytes each has: two counts, and four lines with a byte for each joint action.
@@ -28,7 +27,7 @@ fn field(ways: &[u8], s: usize, f: usize) -> usize
     requires { (length ways.now ≡ ways_bytes) × (s < max_states) × (f < state_bytes) }
     ensures { (result ≡ field_in ways.now s f) × (result < 256) }
 {
-    wide(ways[STATES_BASE + STATE_BYTES * s + f])
+    usize::from(ways[STATES_BASE + STATE_BYTES * s + f])
 }
 
 // Stores field f of state s.

@@ -78,8 +78,8 @@ pub fn filled(ways: &[u8], last: usize, x: usize, g: usize) -> usize
 {
     let full = lines::packed(ways, last);
     let sum = lines::packed(ways, x) + lines::packed(ways, g);
-    let low = positions::smaller(full % PACK_BASE, sum % PACK_BASE);
-    let high = positions::smaller(full / PACK_BASE, sum / PACK_BASE);
+    let low = (full % PACK_BASE).min(sum % PACK_BASE);
+    let high = (full / PACK_BASE).min(sum / PACK_BASE);
     low * (full / PACK_BASE + 1) + high
 }
 

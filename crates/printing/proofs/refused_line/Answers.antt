@@ -5,4 +5,4 @@ use Rattle.printing.proofs.refused_line.Goals as goal
 
 pub returns : goal.returns
 returns c =
-    (λ rest. rw (← c.wide.ensures.value) (c.number.ensures.0 rest ∙ c.word-rest.ensures.0 _), omega (arith, c.word-rest.ensures.1, c.number.ensures.1))
+    (λ rest. rw (← c.from.ensures) (c.number.ensures.0 rest ∙ c.word-rest.ensures.0 _), omega (arith, c.word-rest.ensures.1, c.number.ensures.1))

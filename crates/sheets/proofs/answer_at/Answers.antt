@@ -15,10 +15,10 @@ stocks : (k : ℕ) (list : List ℕ) → take (3 * k + 3 - (3 * k + 1)) (drop (3
 stocks k list = let two : 3 * k + 3 - (3 * k + 1) ≡ 2 = omega arith in let first : 3 * k + 1 ≡ suc (3 * k) = omega arith in rw two (rw first refl)
 
 pub returns-then-no_position : goal.returns-then-no_position
-returns-then-no_position c = record { answer = rw (sym c.wide-s.ensures.value) (rw (sym (stocks c.args.k c.args.list.now)) (turned_down (D.truth c.no_position.ensures c.if-no_position.true))) }
+returns-then-no_position c = record { answer = rw (sym c.from-s.ensures) (rw (sym (stocks c.args.k c.args.list.now)) (turned_down (D.truth c.no_position.ensures c.if-no_position.true))) }
 
 pub ready_move-requires : goal.ready_move-requires
 ready_move-requires c = record { made_ready = c.requires.made_ready; block_in_bounds = (omega (arith, c.requires.made_ready.valid.sized.resources_fit), placed c.args.block.now c.requires.made_ready.valid c.args.i _ _ (D.falsity c.no_position.ensures c.if-no_position.false)) }
 
 pub returns : goal.returns
-returns c = record { answer = rw (sym c.wide-s.ensures.value) (rw (sym (stocks c.args.k c.args.list.now)) (past (D.falsity c.no_position.ensures c.if-no_position.false) c.ready_move.ensures)) }
+returns c = record { answer = rw (sym c.from-s.ensures) (rw (sym (stocks c.args.k c.args.list.now)) (past (D.falsity c.no_position.ensures c.if-no_position.false) c.ready_move.ensures)) }

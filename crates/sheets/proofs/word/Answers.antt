@@ -5,4 +5,4 @@ use Rattle.sheets.specs.Worksheet.{word_for}
 use Rattle.sheets.proofs.word.Goals as goal
 
 pub returns-in-Err : goal.returns-in-Err
-returns-in-Err c = omega (arith, c.number.ensures, c.wide.ensures.value, ap word_for c.in-Err.is)
+returns-in-Err c = omega (arith, c.number.ensures, c.from.ensures, ap word_for c.in-Err.is)

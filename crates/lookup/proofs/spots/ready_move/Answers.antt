@@ -26,5 +26,5 @@ returns-then-m c = turned_down ((c.spot_move-m.ensures (position c.args.s c.args
 
 pub returns : goal.returns
 returns c = let p = position c.args.s c.args.stocks.now in
-    let found = subst (RowMove c.args.block.now c.args.i p) (sym c.wide.ensures.value) ((c.spot_move-m.ensures p c.spot_of-spot.ensures).move c.if-m.false) in
+    let found = subst (RowMove c.args.block.now c.args.i p) (sym c.from.ensures) ((c.spot_move-m.ensures p c.spot_of-spot.ensures).move c.if-m.false) in
     past (λ loses. loses found.wins) (answered found)

@@ -115,7 +115,7 @@ module _ (c : At-After-take_turn) where
   turned : Turned (G c.before.before.before.before.before.before) (t c.before.before.before.before.before.before) ((stands c.before.before.before.before.before.before).play.at c.loop-n.n) (get_or c.args.script.now c.loop-n.n 0) c.take_turn.result
   turned =
       let here = (stands c.before.before.before.before.before.before).play.at c.loop-n.n in
-      subst (λ (r : ℕ). Turned (G c.before.before.before.before.before.before) (t c.before.before.before.before.before.before) here r c.take_turn.result) c.wide.ensures.value (c.take_turn.ensures here (stands c.before.before.before.before.before.before).placed ((stands c.before.before.before.before.before.before).wins goes_on))
+      subst (λ (r : ℕ). Turned (G c.before.before.before.before.before.before) (t c.before.before.before.before.before.before) here r c.take_turn.result) c.from.ensures (c.take_turn.ensures here (stands c.before.before.before.before.before.before).placed ((stands c.before.before.before.before.before.before).wins goes_on))
 
 pub returns-in_err-spot : goal.returns-in_err-spot
 returns-in_err-spot c = rw c.from_residual.ensures (stands_stuck (G c.before.before.before.before.before.before.before.before.before.before) (valid_proper c.args.block.now c.requires.made_ready.valid) (t c.before.before.before.before.before.before.before.before.before.before) c.args.script.now (full (G c.before.before.before.before.before.before.before.before.before.before) c.args.s) c.loop-n.n c.loop-n.spot.state c.loop-n.spot.place (stands c.before.before.before.before.before.before.before.before.before.before) (goes_on c.before.before.before.before)

@@ -43,7 +43,7 @@ way_to-requires c = record { valid = c.requires.made_ready.valid; playable = (c.
 pub overflow_add-m : goal.overflow_add-m
 overflow_add-m c =
     let reply = replied c.args.block.now c.args.ready.row c.args.ways.now c.args.spot.state ((c.requires.made_ready.ranked.listed.states c.args.spot.state c.requires.state_bound.0).lines false) c.args.r c.in_ok-find.field-0 c.in_ok-find.ensures in
-    record { fits = omega (arith, joint_small c.args.block.now c.requires.made_ready.valid c.args.ready.row.index c.requires.made_ready.ranked.sought.playable.inside c.requires.made_ready.ranked.sought.playable.strategic c.args.spot.state c.wide-m.result c.args.r c.requires.state_bound.0 c.in_ok-y.ensures.0 reply) }
+    record { fits = omega (arith, joint_small c.args.block.now c.requires.made_ready.valid c.args.ready.row.index c.requires.made_ready.ranked.sought.playable.inside c.requires.made_ready.ranked.sought.playable.strategic c.args.spot.state c.from-m.result c.args.r c.requires.state_bound.0 c.in_ok-y.ensures.0 reply) }
 
 pub next-requires : goal.next-requires
 next-requires c =
@@ -52,20 +52,20 @@ next-requires c =
       block_len = c.requires.made_ready.valid.sized.bytes;
       s_lt_max_states = (
         omega (arith, c.requires.state_bound.0, c.requires.made_ready.valid.sized.states_fit),
-        joint_small c.args.block.now c.requires.made_ready.valid c.args.ready.row.index c.requires.made_ready.ranked.sought.playable.inside c.requires.made_ready.ranked.sought.playable.strategic c.args.spot.state c.wide-m.result c.args.r c.requires.state_bound.0 c.in_ok-y.ensures.0 reply,
+        joint_small c.args.block.now c.requires.made_ready.valid c.args.ready.row.index c.requires.made_ready.ranked.sought.playable.inside c.requires.made_ready.ranked.sought.playable.strategic c.args.spot.state c.from-m.result c.args.r c.requires.state_bound.0 c.in_ok-y.ensures.0 reply,
       );
     }
 
 pub returns : goal.returns
 returns c p placed wins =
     let reply = replied c.args.block.now c.args.ready.row c.args.ways.now c.args.spot.state ((c.requires.made_ready.ranked.listed.states c.args.spot.state c.requires.state_bound.0).lines false) c.args.r c.in_ok-find.field-0 c.in_ok-find.ensures in
-    let move = subst (SpotMove c.args.block.now c.args.i c.args.ready.row p) (sym c.wide-m.ensures.value) (c.spot_move.ensures p placed) in
+    let move = subst (SpotMove c.args.block.now c.args.i c.args.ready.row p) (sym c.from-m.ensures) (c.spot_move.ensures p placed) in
     subst (λ (q : ℕ). Turned (arena_of c.args.block.now c.args.i) (objective_of c.args.block.now c.args.i) p c.args.r (Some (record { state = q; place = c.in_ok-y.y }))) (sym c.next.ensures)
-    (turned_to c.args.block.now c.requires.made_ready.valid c.args.ready.row c.args.spot.state c.args.spot.place c.wide-m.result c.args.r c.args.i c.requires.made_ready.ranked.index_is c.in_ok-y.y
+    (turned_to c.args.block.now c.requires.made_ready.valid c.args.ready.row c.args.spot.state c.args.spot.place c.from-m.result c.args.r c.args.i c.requires.made_ready.ranked.index_is c.in_ok-y.y
     reply c.in_ok-y.ensures p placed (move.move (λ none. move.none none wins)))
 
 pub returns-in_err-y : goal.returns-in_err-y
 returns-in_err-y c p placed wins =
-    let move = subst (SpotMove c.args.block.now c.args.i c.args.ready.row p) (sym c.wide-m.ensures.value) (c.spot_move.ensures p placed) in
-    absurd (never_unpaid c.args.block.now c.requires.made_ready.valid c.args.ready.row c.args.spot.state c.args.spot.place c.wide-m.result c.args.r c.args.i c.requires.made_ready.ranked.index_is
+    let move = subst (SpotMove c.args.block.now c.args.i c.args.ready.row p) (sym c.from-m.ensures) (c.spot_move.ensures p placed) in
+    absurd (never_unpaid c.args.block.now c.requires.made_ready.valid c.args.ready.row c.args.spot.state c.args.spot.place c.from-m.result c.args.r c.args.i c.requires.made_ready.ranked.index_is
     c.in_err-y.ensures p placed move (λ none. move.none none wins))

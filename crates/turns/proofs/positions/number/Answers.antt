@@ -34,7 +34,7 @@ pub bounds-stocks-j : goal.bounds-stocks-j
 bounds-stocks-j c = omega (arith, resource_at c.before.before.before, c.requires.i_bound.2)
 
 pub overflow_add-x : goal.overflow_add-x
-overflow_add-x c = omega (arith, stays_small c.args.block.now c.requires.valid c.args.i c.loop-j.j c.loop-j.x c.places.result c.wide.result (position c.args.s c.args.stocks.now) c.requires.i_bound.0 c.requires.i_bound.1 c.requires.position (resource_at c.before.before.before.before) c.loop-j.invariant.1 c.places.ensures c.wide.ensures.value)
+overflow_add-x c = omega (arith, stays_small c.args.block.now c.requires.valid c.args.i c.loop-j.j c.loop-j.x c.places.result c.from.result (position c.args.s c.args.stocks.now) c.requires.i_bound.0 c.requires.i_bound.1 c.requires.position (resource_at c.before.before.before.before) c.loop-j.invariant.1 c.places.ensures c.from.ensures)
 
 pub overflow_step-j : goal.overflow_step-j
 overflow_step-j c = omega arith
@@ -45,7 +45,7 @@ loop-j-smaller c = omega arith
 pub loop-j-preserved : goal.loop-j-preserved
 loop-j-preserved c = (
   omega arith,
-  goes_on c.args.block.now c.requires.valid c.args.i c.loop-j.j c.loop-j.x c.places.result c.wide.result (position c.args.s c.args.stocks.now) c.requires.i_bound.0 c.requires.i_bound.1 c.requires.position (resource_at c.before.before.before.before) c.loop-j.invariant.1 c.places.ensures c.wide.ensures.value,
+  goes_on c.args.block.now c.requires.valid c.args.i c.loop-j.j c.loop-j.x c.places.result c.from.result (position c.args.s c.args.stocks.now) c.requires.i_bound.0 c.requires.i_bound.1 c.requires.position (resource_at c.before.before.before.before) c.loop-j.invariant.1 c.places.ensures c.from.ensures,
 )
 
 pub returns : goal.returns

@@ -9,19 +9,19 @@ use Rattle.ways.proofs.packs.filled.Lts as lts
 use Rattle.ways.proofs.packs.filled.Reads as reads
 use Rattle.ways.proofs.packs.filled.Tie as tie
 
-abbrev At-After-smaller-high : Type 0
-At-After-smaller-high = lts.After-smaller2 tie.the-claims reads.Pre reads.Post tie.handed_clauses
+abbrev At-After-min-high : Type 0
+At-After-min-high = lts.After-min2 tie.the-claims reads.Pre reads.Post tie.handed_clauses
 
 -- both digits are stocks
-module _ (c : At-After-smaller-high) where
-  digits_small : (c.smaller-low.result ≤ 15) × (c.smaller-high.result ≤ 15) × (c.packed-full.result / 32 + 1 ≤ 16)
+module _ (c : At-After-min-high) where
+  digits_small : (c.min-low.result ≤ 15) × (c.min-high.result ≤ 15) × (c.packed-full.result / 32 + 1 ≤ 16)
   digits_small = (
-    omega (arith, c.smaller-low.ensures, c.packed-full.ensures.0, c.requires.narrow.0),
-    omega (arith, c.smaller-high.ensures, c.packed-full.ensures.0, c.requires.narrow.0),
+    omega (arith, c.min-low.ensures, c.packed-full.ensures.0, c.requires.narrow.0),
+    omega (arith, c.min-high.ensures, c.packed-full.ensures.0, c.requires.narrow.0),
     omega (arith, c.packed-full.ensures.0, c.requires.narrow.0),
   )
 
-  product_small : c.smaller-low.result * (c.packed-full.result / 32 + 1) ≤ 15 * 16
+  product_small : c.min-low.result * (c.packed-full.result / 32 + 1) ≤ 15 * 16
   product_small = mul-le-mul digits_small.0 digits_small.2
 
 pub overflow_mul-result : goal.overflow_mul-result
@@ -32,6 +32,6 @@ overflow_add-result-2 c = omega (arith, product_small c.before, digits_small c.b
 
 pub returns : goal.returns
 returns c = let sum : c.packed.result + c.packed-2.result ≡ _ = ap₂ ◌+◌ c.packed.ensures.0 c.packed-2.ensures.0 in
-    ap₂ (λ (u v : ℕ). u * (c.packed-full.result / 32 + 1) + v) c.smaller-low.ensures c.smaller-high.ensures
+    ap₂ (λ (u v : ℕ). u * (c.packed-full.result / 32 + 1) + v) c.min-low.ensures c.min-high.ensures
     ∙ ap (λ (w : ℕ). min (c.packed-full.result % 32) ((c.packed.result + c.packed-2.result) % 32) * w + min (c.packed-full.result / 32) ((c.packed.result + c.packed-2.result) / 32)) (add-one (c.packed-full.result / 32))
     ∙ ap₂ (λ (f w : ℕ). min (f % 32) (w % 32) * suc (f / 32) + min (f / 32) (w / 32)) c.packed-full.ensures.0 sum
