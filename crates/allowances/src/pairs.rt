@@ -73,7 +73,7 @@ fn told(block: &[u8], ask: Asked, x: usize, y: usize, copy: &[u8], ranks: &[u8])
 {
     let stocks = [stock(x), stock(y)];
     let p = positions::number(copy, ask.row, ask.state, &stocks);
-    rankings::claims(layout::kind(copy, ask.row), buffers::rank_at(ranks, p))
+    rankings::claims(rankings::goal_of(copy, ask.row), buffers::rank_at(ranks, p))
 }
 
 // Whether the row is true in the state with x and y for its bounds: those of a copy, which is solved.
@@ -95,7 +95,7 @@ fn solved(
     bounds::put_copy(block, ask.row, x, y, copy);
     rows::rank_row(copy, ask.row, ask.left, ask.right, ways, ranks);
     let p = positions::full(copy, ask.row, ask.state);
-    rankings::claims(layout::kind(copy, ask.row), buffers::rank_at(ranks, p))
+    rankings::claims(rankings::goal_of(copy, ask.row), buffers::rank_at(ranks, p))
 }
 
 // Whether the row is true in the state with x and y for its bounds. Where an action charges, a stock left under other bounds tells nothing,

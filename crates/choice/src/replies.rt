@@ -7,7 +7,7 @@ ghost use Rattle.ways.specs.Landing.{Made};
 ghost use Rattle.ways.specs.Listing.{Listed};
 ghost use Rattle.ways.specs.Rows.{Playable};
 ghost use Rattle.choice.specs.Choices.{Makes, FirstCounter, Replied};
-ghost use Rattle.rankings.specs.Kinds.{ClaimsBy};
+ghost use Rattle.rankings.specs.Kinds.{ClaimsBy, kind_of};
 ghost use Rattle.choice.specs.Tables.{RanksOf};
 
 use crate::moves::Aim;
@@ -33,7 +33,7 @@ fn find_reply(block: &[u8], row: Row, ways: &[u8], ranks: &[u8], step: Step, aim
     requires valid { Valid block.now }
     requires playable { Playable block.now row × Listed block.now row ways.now × (room_bytes ≤ length ranks.now) }
     requires made { Made block.now row step.state step.number step.place }
-    ensures { FirstCounter block.now row ranks.now aim.kind aim.own step.state step.number step.place result × (result < L.max_joint) }
+    ensures { FirstCounter block.now row ranks.now (kind_of aim.goal) aim.own step.state step.number step.place result × (result < L.max_joint) }
 {
     let c = row.places;
     let n = lines::count(ways, step.state, false);
@@ -41,7 +41,7 @@ fn find_reply(block: &[u8], row: Row, ways: &[u8], ranks: &[u8], step: Step, aim
         let r = lines::number(ways, step.state, false, k);
         let q = layout::next(block, step.state, step.number + r);
         let rank = buffers::rank_at(ranks, q * c + step.place);
-        if rankings::counters(aim.kind, row.set, aim.own, q, rank) {
+        if rankings::counters(aim.goal, row.set, aim.own, q, rank) {
             return r;
         }
     }
@@ -65,12 +65,12 @@ pub fn reply_to(
     requires fact { ClaimsBy (L.kind block.now row.index) own → ⊥ }
     ensures { Replied block.now row right ranks.now own step.state step.number step.place result × (result < L.max_joint) }
 {
-    let kind = layout::kind(block, row.index);
-    if rankings::failed(kind, row.set, right, own, step.state) {
+    let goal = rankings::goal_of(block, row.index);
+    if rankings::failed(goal, row.set, right, own, step.state) {
         return 0;
     }
     let aim = Aim {
-        kind: kind,
+        goal: goal,
         own: own,
     };
     find_reply(block, row, ways, ranks, step, aim)

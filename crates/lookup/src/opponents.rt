@@ -14,8 +14,8 @@ ghost use Rattle.lookup.specs.Calls.{answer_rules, ReplyCall};
 ghost use Rattle.turns.specs.Sizes.{room_bytes};
 
 use crate::spots;
+use block::fill;
 use block::refusal::{Answer, Refusal};
-use block::{fill, layout};
 use choice::replies;
 use solver::ready;
 use solver::ready::Ready;
@@ -43,7 +43,7 @@ fn reply_at(
 {
     let row = rows::row_of(block, i, false, ready.row.set);
     let own = buffers::rank_at(ranks, spot.state * row.places + spot.place);
-    if rankings::claims(layout::kind(block, i), own) {
+    if rankings::claims(rankings::goal_of(block, i), own) {
         return Err(Refusal::WrongSide);
     }
     listing::list_row(block, row, ways);

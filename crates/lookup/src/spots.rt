@@ -11,7 +11,6 @@ ghost use Rattle.lookup.specs.Calls.{side_rules};
 ghost use Rattle.solver.specs.Inner.Ready.{MadeReady};
 ghost use Rattle.lookup.specs.Inner.Spots.{SpotMove};
 
-use block::layout;
 use block::refusal::{Answer, Refusal};
 use choice::moves;
 use solver::ready::Ready;
@@ -37,8 +36,8 @@ pub fn spot_move(block: &[u8], i: usize, ready: Ready, ways: &[u8], ranks: &[u8]
     requires state_bound { (spot.state < L.states block.now) × (spot.place < ready.row.places) }
     ensures { (p : P.Position) → PlacedAt (arena_of block.now i) spot.state spot.place p → SpotMove block.now i ready.row p result }
 {
-    let kind = layout::kind(block, i);
-    moves::move_at(block, ready.row, ways, ranks, spot, kind)
+    let goal = rankings::goal_of(block, i);
+    moves::move_at(block, ready.row, ways, ranks, spot, goal)
 }
 
 // The team's move at a position of a row made ready.

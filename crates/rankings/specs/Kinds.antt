@@ -3,6 +3,14 @@ use Rattle.std.specs.Prelude.{cond, ◌≡◌, ℕ, ◌<◌, eqb}
 use Rattle.block.specs.Decide.{Bit}
 use Rattle.block.specs.Layout as L
 use Rattle.game.specs.Table.{never}
+use Rattle.rankings.specs.declared.Goal.{Goal}
+use Rattle.rankings.specs.declared.Goal.TheVariants.{Next, Always, Until}
+
+-- the kind of a row with this goal
+abbrev pub kind_of : Goal → ℕ
+kind_of Next = L.next_kind
+kind_of Always = L.always_kind
+kind_of Until = L.until_kind
 
 -- what stands for each strategic kind
 abbrev pub by_strategy {ℓ} : {A : Type ℓ} → ℕ → A → A → A → A

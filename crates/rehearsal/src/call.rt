@@ -8,8 +8,8 @@ ghost use Rattle.turns.specs.Sizes.{room_bytes, rank_end};
 ghost use Rattle.rehearsal.specs.Rehearsal.{script_bytes, report_bytes, finished_in, moves_in, last_in, admission_rules, play_rules, RowReports, RehearsalCall};
 
 use crate::script;
+use block::fill;
 use block::refusal::{Answer, Refusal};
-use block::{fill, layout};
 use solver::ready;
 use turns::{buffers, positions, sizes};
 use ways::lines;
@@ -69,7 +69,7 @@ fn rehearse_row(
     let mut ways = [0u8; lines::WAYS_BYTES];
     let ready = ready::prepare(block, i, &mut ways, room);
     let rank = buffers::rank_at(room, positions::full(block, i, s));
-    if !rankings::claims(layout::kind(block, i), rank) {
+    if !rankings::claims(rankings::goal_of(block, i), rank) {
         return Err(Refusal::WrongSide);
     }
     match script::play(block, i, ready, &ways, room, s, script) {

@@ -6,11 +6,12 @@ ghost use Rattle.game.specs.Position.{full};
 ghost use Rattle.game.specs.Play.{CoalitionWins};
 ghost use Rattle.game.specs.Model.{arena_of, objective_of};
 ghost use Rattle.turns.specs.Sizes.{set_bits};
+ghost use Rattle.rankings.specs.Kinds.{kind_of};
 ghost use Rattle.solver.specs.Inner.Ready.{MadeReady};
 ghost use Rattle.rehearsal.specs.Inner.Turns.{FinishedBy, EndsAs};
 
 use crate::turn;
-use block::layout;
+use rankings::Goal;
 use solver::ready::Ready;
 use turns::{buffers, positions};
 use ways::rows::Spot;
@@ -23,15 +24,15 @@ pub struct Ended {
     pub last: Spot,
 }
 
-// Whether a row of this kind is finished in state q after n moves, with a script of so many bytes; right is the set of its right row.
-fn is_finished(kind: usize, right: usize, bytes: usize, q: usize, n: usize) -> bool
+// Whether a row with this goal is finished in state q after n moves, with a script of so many bytes; right is the set of its right row.
+fn is_finished(goal: Goal, right: usize, bytes: usize, q: usize, n: usize) -> bool
     requires { q < set_bits }
-    ensures { Decides (FinishedBy kind right bytes q n) result }
+    ensures { Decides (FinishedBy (kind_of goal) right bytes q n) result }
 {
-    match kind {
-        layout::NEXT_KIND => n == 1,
-        layout::ALWAYS_KIND => n == bytes,
-        _ => buffers::has_bit(right, q),
+    match goal {
+        Goal::Next => n == 1,
+        Goal::Always => n == bytes,
+        Goal::Until => buffers::has_bit(right, q),
     }
 }
 
@@ -50,14 +51,14 @@ pub fn play(
     requires s_bound { (s < L.states block.now) × CoalitionWins (arena_of block.now i) (objective_of block.now i) (full (arena_of block.now i) s) }
     ensures { EndsAs (arena_of block.now i) (objective_of block.now i) script.now (full (arena_of block.now i) s) result }
 {
-    let kind = layout::kind(block, i);
+    let goal = rankings::goal_of(block, i);
     let bytes = script.len();
     let mut spot = Spot {
         state: s,
         place: positions::full(block, i, 0),
     };
     for n in 0..bytes {
-        if is_finished(kind, ready.right, bytes, spot.state, n) {
+        if is_finished(goal, ready.right, bytes, spot.state, n) {
             return Some(Ended {
                 moves: n,
                 finished: true,
@@ -66,7 +67,7 @@ pub fn play(
         }
         spot = turn::take_turn(block, i, ready, ways, ranks, spot, usize::from(script[n]))?;
     }
-    let finished = is_finished(kind, ready.right, bytes, spot.state, bytes);
+    let finished = is_finished(goal, ready.right, bytes, spot.state, bytes);
     Some(Ended {
         moves: bytes,
         finished: finished,

@@ -1,5 +1,5 @@
 -- The ranks of a strategic row by its kind. Assumes nothing.
-use mathlib.Core.Bool.{true, false}
+use mathlib.Core.Bool.{false}
 use mathlib.Core.List.{List}
 use mathlib.Core.Path.{◌≡◌, sym, ap, subst}
 use Prim.Native.Nat.{ℕ}
@@ -7,25 +7,18 @@ use Rattle.block.specs.Decide.{Bit}
 use Rattle.block.specs.Layout as L
 use Rattle.block.specs.Layout.{Block}
 use Rattle.game.specs.Position.{number}
-use Rattle.game.specs.Play.{Objective, next, always, until}
+use Rattle.game.specs.Play.{Objective, always}
 use Rattle.game.specs.Inner.Facts.{RankFacts}
 use Rattle.turns.specs.Buffers.{rank_in}
 use Rattle.game.specs.Model.{arena_of}
 use Rattle.game.specs.Inner.Words.{objective_by, Says}
 use Rattle.sweeps.specs.Solving.{Solved}
-use Rattle.choice.specs.Tables.{RanksOf, NextRanks}
-use Rattle.rankings.proofs.ByKind.{until_stands}
+use Rattle.choice.specs.Tables.{RanksOf}
 use Rattle.solver.proofs.Words.{no_bits}
 
 module _ (b : Block) (i left right : ℕ) (ranks : List ℕ) where
   told : (t : Objective) → objective_by (L.kind b i) left right ≡ t → RankFacts (arena_of b i) t (λ p. rank_in ranks (number (arena_of b i) p)) → RankFacts (arena_of b i) (objective_by (L.kind b i) left right) (λ p. rank_in ranks (number (arena_of b i) p))
   told t e = subst (λ (t : Objective). RankFacts (arena_of b i) t (λ p. rank_in ranks (number (arena_of b i) p))) (sym e)
-
-  pub next_ranked : L.kind b i ≡ 3 → NextRanks b i left ranks → RanksOf b i left right ranks
-  next_ranked e found = record { facts = told (next (Bit left)) (ap (λ (k : ℕ). objective_by k left right) e) found.facts; outside = found.outside }
-
-  pub until_ranked : (L.kind b i ≡ 3 → ⊥) → (L.kind b i ≡ 4 → ⊥) → Solved (arena_of b i) true left right ranks → RanksOf b i left right ranks
-  until_ranked n₃ n₄ found = record { facts = told (until (Bit left) (Bit right)) (until_stands (L.kind b i) (next (Bit left)) (always (Bit left)) (until (Bit left) (Bit right)) n₃ n₄) found.ranked; outside = found.outside }
 
   -- always: the opponents attack from every state, to come outside left
   pub always_ranked : L.kind b i ≡ 4 → (all fails : ℕ) → Says b all (λ s. Bit 0 s → ⊥) → Says b fails (λ s. Bit left s → ⊥) → Solved (arena_of b i) false all fails ranks → RanksOf b i left right ranks

@@ -14,6 +14,7 @@ ghost use Rattle.turns.specs.Sizes.{room_bytes};
 
 use block::layout;
 use choice::{moves, next};
+use rankings::Goal;
 use sweeps::solve;
 use turns::{buffers, positions};
 use ways::rows::{Row, Side};
@@ -24,17 +25,15 @@ fn true_at(block: &[u8], i: usize, left: usize, right: usize, ranks: &[u8], s: u
     requires i_bound { (i < L.rows block.now) × (s < L.states block.now) × (room_bytes ≤ length ranks.now) }
     ensures { Decides (TrueBy block.now i left right ranks.now s) result }
 {
-    let kind = layout::kind(block, i);
-    if kind == layout::PROP_KIND {
-        return buffers::has_bit(layout::mask(block, s), layout::left(block, i));
+    match layout::kind(block, i) {
+        layout::PROP_KIND => buffers::has_bit(layout::mask(block, s), layout::left(block, i)),
+        layout::NOT_KIND => !buffers::has_bit(left, s),
+        layout::OR_KIND => buffers::has_bit(left, s) || buffers::has_bit(right, s),
+        _ => {
+            let rank = buffers::rank_at(ranks, positions::full(block, i, s));
+            rankings::claims(rankings::goal_of(block, i), rank)
+        }
     }
-    if kind == layout::NOT_KIND {
-        return !buffers::has_bit(left, s);
-    }
-    if kind == layout::OR_KIND {
-        return buffers::has_bit(left, s) || buffers::has_bit(right, s);
-    }
-    rankings::claims(kind, buffers::rank_at(ranks, positions::full(block, i, s)))
 }
 
 // The set of row i.
@@ -74,25 +73,24 @@ fn rank_listed(block: &[u8], row: Row, right: usize, ways: &[u8], ranks: &mut [u
     requires sought { Sought block.now row (L.kind block.now row.index) × Listed block.now row ways.now × (length ranks.old ≡ room_bytes) }
     ensures { RanksOf block.now row.index row.set right ranks.new × (length ranks.new ≡ length ranks.old) }
 {
-    let kind = layout::kind(block, row.index);
-    if kind == layout::NEXT_KIND {
-        next::next_ranks(block, row, ways, ranks);
-        return;
+    match rankings::goal_of(block, row.index) {
+        Goal::Next => next::next_ranks(block, row, ways, ranks),
+        Goal::Always => {
+            let side = Side {
+                most: false,
+                safe: complement(block, 0),
+            };
+            let fails = complement(block, row.set);
+            solve::solve(block, row, side, ways, fails, ranks);
+        }
+        Goal::Until => {
+            let side = Side {
+                most: true,
+                safe: row.set,
+            };
+            solve::solve(block, row, side, ways, right, ranks);
+        }
     }
-    if kind == layout::ALWAYS_KIND {
-        let side = Side {
-            most: false,
-            safe: complement(block, 0),
-        };
-        let fails = complement(block, row.set);
-        solve::solve(block, row, side, ways, fails, ranks);
-        return;
-    }
-    let side = Side {
-        most: true,
-        safe: row.set,
-    };
-    solve::solve(block, row, side, ways, right, ranks);
 }
 
 // Lists row i, whose lower rows' sets are left and right, and finds its ranks.

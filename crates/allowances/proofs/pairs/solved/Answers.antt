@@ -32,10 +32,10 @@ pub full-p-requires : goal.full-p-requires
 full-p-requires c = let row = put_row c.requires.asking c.requires.shows.0 c.requires.shows.1 c.put_copy.ensures.0 in
     record { valid = put_valid c.requires.asking c.requires.shows.0 c.requires.shows.1 c.put_copy.ensures.0; i_bound = (row.0, row.1, put_state c.requires.asking c.requires.shows.0 c.requires.shows.1 c.put_copy.ensures.0) }
 
-pub kind-requires : goal.kind-requires
-kind-requires c = let valid = put_valid c.requires.asking c.requires.shows.0 c.requires.shows.1 c.put_copy.ensures.0 in
+pub goal_of-requires : goal.goal_of-requires
+goal_of-requires c = let valid = put_valid c.requires.asking c.requires.shows.0 c.requires.shows.1 c.put_copy.ensures.0 in
     let row = put_row c.requires.asking c.requires.shows.0 c.requires.shows.1 c.put_copy.ensures.0 in
-    record { block_len = valid.sized.bytes; i_lt_max_rows = omega (arith, row.0, valid.sized.rows_fit) }
+    record { block_len = valid.sized.bytes; i_lt_max_rows = omega (arith, row.0, valid.sized.rows_fit); strategic = row.1 }
 
 -- the ranks are long enough
 ranks_long : (c : At-After-full-p) → 2 * c.full-p.result + 1 < length c.rank_row.new.ranks
@@ -51,4 +51,4 @@ rank_at-requires c = ranks_long c.before.before
 
 pub returns : goal.returns
 returns c = let rank = c.rank_at.ensures.0 ∙ ap (rank_in c.rank_row.new.ranks) c.full-p.ensures in
-    let told = enough_told c.requires.asking c.requires.shows.0 c.requires.shows.1 c.put_copy.ensures.0 c.rank_row.ensures.row_ranked.ranks_of in record { decides = D.same (subst₂ (λ (k n : ℕ). Decides (ClaimsBy k n) c.claims.result) c.kind.ensures rank c.claims.ensures) told.0 told.1; copy_len_2 = (c.put_copy.ensures.1, c.rank_row.auto.ways ∙ c.requires.copy_len.1, c.rank_row.ensures.ranks_len_unchanged ∙ c.requires.copy_len.2) }
+    let told = enough_told c.requires.asking c.requires.shows.0 c.requires.shows.1 c.put_copy.ensures.0 c.rank_row.ensures.row_ranked.ranks_of in record { decides = D.same (subst₂ (λ (k n : ℕ). Decides (ClaimsBy k n) c.claims.result) c.goal_of.ensures rank c.claims.ensures) told.0 told.1; copy_len_2 = (c.put_copy.ensures.1, c.rank_row.auto.ways ∙ c.requires.copy_len.1, c.rank_row.ensures.ranks_len_unchanged ∙ c.requires.copy_len.2) }

@@ -38,9 +38,9 @@ number-p-requires c = let valid = table_valid c.requires.asking.0 c.requires.ask
     let row = table_row c.requires.asking.0 c.requires.asking.1 in
     record { valid = valid; i_bound = (row.0, row.1, valid.sized.resources_fit.1); position = fits c.before }
 
-pub kind-requires : goal.kind-requires
-kind-requires c = let valid = table_valid c.requires.asking.0 c.requires.asking.1 in
-    record { block_len = valid.sized.bytes; i_lt_max_rows = omega (arith, (table_row c.requires.asking.0 c.requires.asking.1).0, valid.sized.rows_fit) }
+pub goal_of-requires : goal.goal_of-requires
+goal_of-requires c = let valid = table_valid c.requires.asking.0 c.requires.asking.1 in
+    record { block_len = valid.sized.bytes; i_lt_max_rows = omega (arith, (table_row c.requires.asking.0 c.requires.asking.1).0, valid.sized.rows_fit); strategic = (table_row c.requires.asking.0 c.requires.asking.1).1 }
 
 pub rank_at-requires : goal.rank_at-requires
 rank_at-requires c = let row = table_row c.requires.asking.0 c.requires.asking.1 in
@@ -50,4 +50,4 @@ pub returns : goal.returns
 returns c = let G = arena_of c.args.copy.now c.args.ask.row in
     let rank = c.rank_at.ensures.0 ∙ ap (rank_in c.args.ranks.now) (c.number-p.ensures ∙ ap (number G) (placed c.before.before.before.before.before)) in
     let claimed = enough_tabled c.requires.asking.0 c.requires.asking.1 c.args.x c.args.y c.requires.shows.0 c.requires.shows.1 in
-    D.same (subst₂ (λ (k n : ℕ). Decides (ClaimsBy k n) c.claims.result) c.kind.ensures rank c.claims.ensures) claimed.0 claimed.1
+    D.same (subst₂ (λ (k n : ℕ). Decides (ClaimsBy k n) c.claims.result) c.goal_of.ensures rank c.claims.ensures) claimed.0 claimed.1

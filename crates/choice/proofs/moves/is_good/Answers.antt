@@ -9,6 +9,7 @@ use Rattle.block.specs.Inner.Tests.{fails}
 use Rattle.block.proofs.Decide as D
 use Rattle.game.specs.Position.{MoveOf}
 use Rattle.game.specs.Model.{structure_of, coalition_of, arena_of}
+use Rattle.rankings.specs.Kinds.{kind_of}
 use Rattle.ways.specs.Landing.{Lands}
 use Rattle.ways.specs.Lines.{number_in}
 use Rattle.ways.specs.Listing.{Useful, LeadsInto}
@@ -48,13 +49,13 @@ aimed-requires c = let is = sym c.number.ensures in record {
     omega (arith, (landed c.before.before).0, c.requires.sought.0.playable.places_are),
   );
   leads_into = λ soon. subst (λ (m : ℕ). LeadsInto c.args.block.now c.args.row.index c.args.spot.state m c.args.row.set) is
-      ((useful c.before.before.before.before.before.before.before).1 (c.requires.sought.0.into_is ∙ eq-eqb c.args.aim.kind 3 soon));
+      ((useful c.before.before.before.before.before.before.before).1 (c.requires.sought.0.into_is ∙ eq-eqb (kind_of c.args.aim.goal) 3 soon));
 }
 
 pub returns-in-Some : goal.returns-in-Some
 returns-in-Some c p placed = let m = number_in c.args.ways.now c.args.spot.state true c.args.k in
     let (paid, leaves) = (landed c.before.before.before).1 p placed in
-    let aimed = subst (λ (n : ℕ). AimedFrom c.args.block.now c.args.row c.args.ranks.now c.args.aim.kind c.args.aim.own c.args.spot.state n c.in-Some.y c.aimed.result) c.number.ensures c.aimed.ensures in
+    let aimed = subst (λ (n : ℕ). AimedFrom c.args.block.now c.args.row c.args.ranks.now (kind_of c.args.aim.goal) c.args.aim.own c.args.spot.state n c.in-Some.y c.aimed.result) c.number.ensures c.aimed.ensures in
     D.same (aimed p placed.fits placed.state leaves) (λ h. (move_here c.args.block.now c.requires.valid c.args.row c.requires.sought.0.playable c.args.spot.state c.args.spot.place m p placed (useful c.before.before.before.before.before.before.before.before).0.0 paid, h)) (λ good. good.1)
 
 pub returns-in-None : goal.returns-in-None

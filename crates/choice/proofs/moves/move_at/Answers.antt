@@ -7,6 +7,7 @@ use Rattle.block.proofs.Decide as D
 use Rattle.game.specs.Position.{Position, IsPosition, number}
 use Rattle.game.specs.Model.{arena_of}
 use Rattle.turns.specs.Buffers.{rank_in}
+use Rattle.rankings.specs.Kinds.{kind_of}
 use Rattle.ways.specs.Lines.{count_in, number_in}
 use Rattle.ways.specs.Places.{PlacedAt}
 use Rattle.ways.proofs.Leading.{number_inside}
@@ -52,11 +53,11 @@ module _ (c : At-After-rank_at-own) (p : Position) (fits : IsPosition (arena_of 
   own = ap (rank_in c.args.ranks.now) is ∙ sym c.rank_at-own.ensures.0
 
 pub returns-then-not-claims : goal.returns-then-not-claims
-returns-then-not-claims c right ranked p fits is = move_lost c.args.block.now c.requires.valid c.args.row c.args.kind c.requires.sought.0 c.args.ranks.now c.args.spot.state c.args.spot.place c.rank_at-own.result p (placed c.before.before.before p fits is) (own c.before.before.before p fits is) right
+returns-then-not-claims c right ranked p fits is = move_lost c.args.block.now c.requires.valid c.args.row (kind_of c.args.goal) c.requires.sought.0 c.args.ranks.now c.args.spot.state c.args.spot.place c.rank_at-own.result p (placed c.before.before.before p fits is) (own c.before.before.before p fits is) right
     (D.falsity c.claims.ensures c.if-not-claims.true)
 
 pub returns-then-own-eq0 : goal.returns-then-own-eq0
-returns-then-own-eq0 c right ranked p fits is = move_met c.args.block.now c.requires.valid c.args.row c.args.kind c.requires.sought.0 c.args.ranks.now c.args.spot.state c.args.spot.place c.rank_at-own.result p (placed c.before.before.before.before p fits is) (own c.before.before.before.before p fits is) right
+returns-then-own-eq0 c right ranked p fits is = move_met c.args.block.now c.requires.valid c.args.row (kind_of c.args.goal) c.requires.sought.0 c.args.ranks.now c.args.spot.state c.args.spot.place c.rank_at-own.result p (placed c.before.before.before.before p fits is) (own c.before.before.before.before p fits is) right
     (D.truth c.claims.ensures c.if-not-claims.false) c.if-own-eq0.true
 
 state_small : (start : At-Start) → start.args.spot.state < 24
@@ -85,7 +86,7 @@ overflow_cast-result c = let way = ((c.requires.sought.1.states c.args.spot.stat
 pub returns-then-is_good : goal.returns-then-is_good
 returns-then-is_good c right ranked p fits is = let here = placed c.before.before.before.before.before.before.before.before.before.before p fits is in
     subst (MoveFor c.args.block.now c.args.row.index c.args.row.set right c.args.ranks.now p) (sym c.number.ensures)
-    (first_found c.args.block.now c.requires.valid c.args.row c.args.kind c.requires.sought.0 c.args.ranks.now c.args.spot.state c.args.spot.place c.rank_at-own.result p here (own c.before.before.before.before.before.before.before.before.before.before p fits is) right
+    (first_found c.args.block.now c.requires.valid c.args.row (kind_of c.args.goal) c.requires.sought.0 c.args.ranks.now c.args.spot.state c.args.spot.place c.rank_at-own.result p here (own c.before.before.before.before.before.before.before.before.before.before p fits is) right
     (D.truth c.claims.ensures c.if-not-claims.false) c.if-own-eq0.false c.args.ways.now (c.requires.sought.1.states c.args.spot.state c.requires.state_bound.0)
     c.loop-k.k (within c.before.before.before.before) (c.loop-k.invariant.1 p here) (D.truth (c.is_good.ensures p here) c.if-is_good.true))
 
@@ -98,11 +99,11 @@ loop-k-smaller c = omega (arith, c.loop-k-test.true)
 pub loop-k-preserved : goal.loop-k-preserved
 loop-k-preserved c = (
   omega (arith, c.loop-k-test.true),
-  λ p here. none_more (λ j. GoodBy c.args.block.now c.args.row c.args.ranks.now c.args.kind c.rank_at-own.result p (number_in c.args.ways.now c.args.spot.state true j)) c.loop-k.k (c.loop-k.invariant.1 p here) (D.falsity (c.is_good.ensures p here) c.if-is_good.false),
+  λ p here. none_more (λ j. GoodBy c.args.block.now c.args.row c.args.ranks.now (kind_of c.args.goal) c.rank_at-own.result p (number_in c.args.ways.now c.args.spot.state true j)) c.loop-k.k (c.loop-k.invariant.1 p here) (D.falsity (c.is_good.ensures p here) c.if-is_good.false),
 )
 
 pub returns : goal.returns
 returns c right ranked p fits is = let here = placed c.before.before.before.before.before.before.before p fits is in
-    absurd (some_listed c.args.block.now c.requires.valid c.args.row c.args.kind c.requires.sought.0 c.args.ranks.now c.args.spot.state c.args.spot.place c.rank_at-own.result p here (own c.before.before.before.before.before.before.before p fits is) right
+    absurd (some_listed c.args.block.now c.requires.valid c.args.row (kind_of c.args.goal) c.requires.sought.0 c.args.ranks.now c.args.spot.state c.args.spot.place c.rank_at-own.result p here (own c.before.before.before.before.before.before.before p fits is) right
     (D.truth c.claims.ensures c.if-not-claims.false) c.if-own-eq0.false c.args.ways.now (c.requires.sought.1.states c.args.spot.state c.requires.state_bound.0) ranked
     (λ j small. c.loop-k.invariant.1 p here j (omega (arith, c.loop-k-test.false, c.count-n.ensures))))

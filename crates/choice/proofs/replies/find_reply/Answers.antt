@@ -15,7 +15,7 @@ use Rattle.ways.specs.Landing.{Leaves}
 use Rattle.ways.specs.Lines.{count_in, number_in}
 use Rattle.ways.proofs.Leading.{reply_joint, reply_inside}
 use Rattle.choice.specs.Choices.{CountersBy}
-use Rattle.rankings.specs.Kinds.{CounterBy}
+use Rattle.rankings.specs.Kinds.{CounterBy, kind_of}
 use Rattle.choice.proofs.Replying.{counters_here, here_counters}
 use Rattle.choice.proofs.Searching.{joint_number, line_first, line_none}
 use Rattle.game.proofs.Numbers.Decide.{none_more}
@@ -99,22 +99,22 @@ pub counters-requires : goal.counters-requires
 counters-requires c = omega (arith, leads c.before.before.before, state_fits c.before.before.before.before.before.before.before.before.before.before.before.before c.loop-k.k (within c.before.before.before.before.before.before))
 
 -- the test is about the reply's own state and rank
-tested : (c : At-After-counters) → CounterBy c.args.aim.kind c.args.row.set c.args.aim.own c.next-q.result c.rank_at-rank.result
-    ≡ CounterBy c.args.aim.kind c.args.row.set c.args.aim.own (L.next c.args.block.now c.args.step.state (c.args.step.number + number_in c.args.ways.now c.args.step.state false c.loop-k.k)) (rank_in c.args.ranks.now (L.next c.args.block.now c.args.step.state (c.args.step.number + number_in c.args.ways.now c.args.step.state false c.loop-k.k) * c.args.row.places + c.args.step.place))
+tested : (c : At-After-counters) → CounterBy (kind_of c.args.aim.goal) c.args.row.set c.args.aim.own c.next-q.result c.rank_at-rank.result
+    ≡ CounterBy (kind_of c.args.aim.goal) c.args.row.set c.args.aim.own (L.next c.args.block.now c.args.step.state (c.args.step.number + number_in c.args.ways.now c.args.step.state false c.loop-k.k)) (rank_in c.args.ranks.now (L.next c.args.block.now c.args.step.state (c.args.step.number + number_in c.args.ways.now c.args.step.state false c.loop-k.k) * c.args.row.places + c.args.step.place))
 tested c =
-    ap (CounterBy c.args.aim.kind c.args.row.set c.args.aim.own c.next-q.result) c.rank_at-rank.ensures.0 ∙ ap (λ (q : ℕ). CounterBy c.args.aim.kind c.args.row.set c.args.aim.own q (rank_in c.args.ranks.now (q * c.args.row.places + c.args.step.place))) (leads c.before.before.before)
+    ap (CounterBy (kind_of c.args.aim.goal) c.args.row.set c.args.aim.own c.next-q.result) c.rank_at-rank.ensures.0 ∙ ap (λ (q : ℕ). CounterBy (kind_of c.args.aim.goal) c.args.row.set c.args.aim.own q (rank_in c.args.ranks.now (q * c.args.row.places + c.args.step.place))) (leads c.before.before.before)
 
 -- the replies that are tried, from a position that the move is made from
 module _ (c : At-At-loop-k) (p : Position) (is_state : p.state ≡ c.args.step.state) (leaves : Leaves (arena_of c.args.block.now c.args.row.index) p c.args.step.number c.args.step.place) where
   abbrev Counters : ℕ → Type 0
-  Counters = CountersBy c.args.block.now c.args.row c.args.ranks.now c.args.aim.kind c.args.aim.own p c.args.step.number
+  Counters = CountersBy c.args.block.now c.args.row c.args.ranks.now (kind_of c.args.aim.goal) c.args.aim.own p c.args.step.number
 
   listed : (r : ℕ) → Counters r → ReplyTo c.args.block.now c.args.row.index c.args.step.state r
   listed r counter = subst (λ (q : ℕ). ReplyTo c.args.block.now c.args.row.index q r) is_state counter.0
 
   none_so_far : (j : ℕ) → j < c.loop-k.k → j < count_in c.args.ways.now c.args.step.state false → Counters (number_in c.args.ways.now c.args.step.state false j) → ⊥
   none_so_far j less small counter = c.loop-k.invariant.1 j less
-      (here_counters c.args.block.now c.requires.valid c.args.row c.requires.playable.0 c.args.ranks.now c.args.aim.kind c.args.aim.own c.args.step.state c.args.step.number c.args.step.place c.requires.made p is_state leaves (number_in c.args.ways.now c.args.step.state false j) (reply c.before.before.before.before.before j small) counter)
+      (here_counters c.args.block.now c.requires.valid c.args.row c.requires.playable.0 c.args.ranks.now (kind_of c.args.aim.goal) c.args.aim.own c.args.step.state c.args.step.number c.args.step.place c.requires.made p is_state leaves (number_in c.args.ways.now c.args.step.state false j) (reply c.before.before.before.before.before j small) counter)
 
 pub returns-then-counters : goal.returns-then-counters
 returns-then-counters c = let small = within c.before.before.before.before.before.before.before.before in
@@ -122,7 +122,7 @@ returns-then-counters c = let small = within c.before.before.before.before.befor
       λ p fits is_state leaves _ _. subst (Smallest (Counters c.before.before.before.before.before.before.before.before.before p is_state leaves)) (sym c.number-r.ensures)
           (line_first (ReplyTo c.args.block.now c.args.row.index c.args.step.state) (Counters c.before.before.before.before.before.before.before.before.before p is_state leaves) line (λ m counters _. listed c.before.before.before.before.before.before.before.before.before p is_state leaves m counters) c.loop-k.k small
           (λ j less. none_so_far c.before.before.before.before.before.before.before.before.before p is_state leaves j less (omega arith))
-          (counters_here c.args.block.now c.requires.valid c.args.row c.requires.playable.0 c.args.ranks.now c.args.aim.kind c.args.aim.own c.args.step.state c.args.step.number c.args.step.place c.requires.made p is_state leaves (number_in c.args.ways.now c.args.step.state false c.loop-k.k) (reply c.before.before.before.before.before.before.before.before.before.before.before.before.before.before c.loop-k.k small)
+          (counters_here c.args.block.now c.requires.valid c.args.row c.requires.playable.0 c.args.ranks.now (kind_of c.args.aim.goal) c.args.aim.own c.args.step.state c.args.step.number c.args.step.place c.requires.made p is_state leaves (number_in c.args.ways.now c.args.step.state false c.loop-k.k) (reply c.before.before.before.before.before.before.before.before.before.before.before.before.before.before c.loop-k.k small)
           (transport (tested c.before.before) (D.truth c.counters.ensures c.if-counters.true)))),
       omega (arith, c.number-r.ensures, joint_number c.args.block.now c.requires.valid (number_in c.args.ways.now c.args.step.state false c.loop-k.k) (reply c.before.before.before.before.before.before.before.before.before.before.before.before.before.before c.loop-k.k small).0),
     )
@@ -136,7 +136,7 @@ loop-k-smaller c = omega (arith, c.loop-k-test.true)
 pub loop-k-preserved : goal.loop-k-preserved
 loop-k-preserved c = (
   omega (arith, c.loop-k-test.true),
-  none_more (λ j. CounterBy c.args.aim.kind c.args.row.set c.args.aim.own (L.next c.args.block.now c.args.step.state (c.args.step.number + number_in c.args.ways.now c.args.step.state false j)) (rank_in c.args.ranks.now (L.next c.args.block.now c.args.step.state (c.args.step.number + number_in c.args.ways.now c.args.step.state false j) * c.args.row.places + c.args.step.place))) c.loop-k.k c.loop-k.invariant.1
+  none_more (λ j. CounterBy (kind_of c.args.aim.goal) c.args.row.set c.args.aim.own (L.next c.args.block.now c.args.step.state (c.args.step.number + number_in c.args.ways.now c.args.step.state false j)) (rank_in c.args.ranks.now (L.next c.args.block.now c.args.step.state (c.args.step.number + number_in c.args.ways.now c.args.step.state false j) * c.args.row.places + c.args.step.place))) c.loop-k.k c.loop-k.invariant.1
       (λ aim. D.falsity c.counters.ensures c.if-counters.false (transport (sym (tested c.before.before)) aim)),
 )
 

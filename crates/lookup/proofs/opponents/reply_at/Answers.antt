@@ -62,7 +62,7 @@ own c p placed =
     ∙ ap (rank_in c.args.ranks.now) (placed_number (arena_of c.args.block.now c.args.i) c.args.spot.state c.args.spot.place p placed)
 
 pub returns-then-claims : goal.returns-then-claims
-returns-then-claims c p placed = turned_down (claimed_wins c.requires.valid c.requires.i_bound.0 c.requires.i_bound.1 c.requires.prepared p placed.fits (subst₂ ClaimsBy c.kind.ensures (own c.before.before.before.before p placed) (D.truth c.claims.ensures c.if-claims.true)))
+returns-then-claims c p placed = turned_down (claimed_wins c.requires.valid c.requires.i_bound.0 c.requires.i_bound.1 c.requires.prepared p placed.fits (subst₂ ClaimsBy c.goal_of.ensures (own c.before.before.before.before p placed) (D.truth c.claims.ensures c.if-claims.true)))
 
 pub list_row-requires : goal.list_row-requires
 list_row-requires c = record { valid = c.requires.valid; playable = (c.row_of-row.ensures.0, c.requires.i_bound.2, c.row_of-row.ensures.4) }
@@ -76,7 +76,7 @@ made c = rw c.in-Some.is at c.way_to.ensures
 
 -- the rank says that the team does not win
 unclaimed : (c : At-Else-claims) → ClaimsBy (L.kind c.args.block.now c.args.i) c.rank_at-own.result → ⊥
-unclaimed c claim = D.falsity c.claims.ensures c.if-claims.false (subst (λ (k : ℕ). ClaimsBy k c.rank_at-own.result) (sym c.kind.ensures) claim)
+unclaimed c claim = D.falsity c.claims.ensures c.if-claims.false (subst (λ (k : ℕ). ClaimsBy k c.rank_at-own.result) (sym c.goal_of.ensures) claim)
 
 pub reply_to-r-requires : goal.reply_to-r-requires
 reply_to-r-requires c = let (move, lands) = made c.before in record {

@@ -13,7 +13,7 @@ use Rattle.game.proofs.Blocks.Passing.{valid_proper, number_few}
 use Rattle.game.proofs.Bridge.Truth.{full_fits}
 use Rattle.turns.specs.Buffers.{rank_in}
 use Rattle.ways.proofs.Placing.{placed_number}
-use Rattle.rankings.specs.Kinds.{ClaimsBy}
+use Rattle.rankings.specs.Kinds.{ClaimsBy, kind_of}
 use Rattle.choice.proofs.Moving.{places_of}
 use Rattle.solver.proofs.Readiness.{ready_table, ready_decided, claimed_wins, wins_claimed_by}
 use Rattle.rehearsal.specs.Inner.Turns.{EndsAs}
@@ -60,13 +60,13 @@ module _ (c : At-After-claims) where
   own : c.rank_at-rank.result ≡ rank_in ranks (number (G c.before.before.before.before.before.before.before.before.before.before.before.before.before.before) (full (G c.before.before.before.before.before.before.before.before.before.before.before.before.before.before) c.args.s))
   own = c.rank_at-rank.ensures.0 ∙ ap (rank_in ranks) c.full.ensures
 
-  claimed : CoalitionWins (G c.before.before.before.before.before.before.before.before.before.before.before.before.before.before) (t c.before.before.before.before.before.before.before.before.before.before.before.before.before.before) (full (G c.before.before.before.before.before.before.before.before.before.before.before.before.before.before) c.args.s) → ClaimsBy c.kind.result c.rank_at-rank.result
+  claimed : CoalitionWins (G c.before.before.before.before.before.before.before.before.before.before.before.before.before.before) (t c.before.before.before.before.before.before.before.before.before.before.before.before.before.before) (full (G c.before.before.before.before.before.before.before.before.before.before.before.before.before.before) c.args.s) → ClaimsBy (kind_of c.goal_of.result) c.rank_at-rank.result
   claimed wins =
-      subst₂ ClaimsBy (sym c.kind.ensures) (sym own) (wins_claimed_by c.prepare-ready.ensures.valid c.prepare-ready.ensures.inside c.prepare-ready.ensures.strategic c.prepare-ready.ensures.prepared (full (G c.before.before.before.before.before.before.before.before.before.before.before.before.before.before) c.args.s) (first_fits c.before.before.before.before.before.before.before.before.before.before.before.before.before.before) wins)
+      subst₂ ClaimsBy (sym c.goal_of.ensures) (sym own) (wins_claimed_by c.prepare-ready.ensures.valid c.prepare-ready.ensures.inside c.prepare-ready.ensures.strategic c.prepare-ready.ensures.prepared (full (G c.before.before.before.before.before.before.before.before.before.before.before.before.before.before) c.args.s) (first_fits c.before.before.before.before.before.before.before.before.before.before.before.before.before.before) wins)
 
-  wins_by : ClaimsBy c.kind.result c.rank_at-rank.result → CoalitionWins (G c.before.before.before.before.before.before.before.before.before.before.before.before.before.before) (t c.before.before.before.before.before.before.before.before.before.before.before.before.before.before) (full (G c.before.before.before.before.before.before.before.before.before.before.before.before.before.before) c.args.s)
+  wins_by : ClaimsBy (kind_of c.goal_of.result) c.rank_at-rank.result → CoalitionWins (G c.before.before.before.before.before.before.before.before.before.before.before.before.before.before) (t c.before.before.before.before.before.before.before.before.before.before.before.before.before.before) (full (G c.before.before.before.before.before.before.before.before.before.before.before.before.before.before) c.args.s)
   wins_by claim =
-      claimed_wins c.prepare-ready.ensures.valid c.prepare-ready.ensures.inside c.prepare-ready.ensures.strategic c.prepare-ready.ensures.prepared (full (G c.before.before.before.before.before.before.before.before.before.before.before.before.before.before) c.args.s) (first_fits c.before.before.before.before.before.before.before.before.before.before.before.before.before.before) (subst₂ ClaimsBy c.kind.ensures own claim)
+      claimed_wins c.prepare-ready.ensures.valid c.prepare-ready.ensures.inside c.prepare-ready.ensures.strategic c.prepare-ready.ensures.prepared (full (G c.before.before.before.before.before.before.before.before.before.before.before.before.before.before) c.args.s) (first_fits c.before.before.before.before.before.before.before.before.before.before.before.before.before.before) (subst₂ ClaimsBy c.goal_of.ensures own claim)
 
 pub returns-then-not-claims : goal.returns-then-not-claims
 returns-then-not-claims c = record { answers = turned_down (λ wins. D.falsity c.claims.ensures c.if-not-claims.true (claimed c.before.before wins)); kept = (refl, c.prepare-ready.ensures.long ∙ sym c.requires.script_len_bound.2) }

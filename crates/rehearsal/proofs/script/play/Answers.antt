@@ -14,6 +14,7 @@ use Rattle.game.specs.Model.{arena_of, objective_of}
 use Rattle.game.proofs.Blocks.Passing.{valid_proper}
 use Rattle.game.proofs.Bridge.Truth.{full_fits}
 use Rattle.ways.proofs.Placing.{stocks_below}
+use Rattle.rankings.specs.Kinds.{kind_of}
 use Rattle.choice.proofs.Moving.{places_of}
 use Rattle.solver.proofs.Readiness.{ready_table, ready_decided}
 use Rattle.rehearsal.specs.Rehearsal.{Finished}
@@ -32,8 +33,8 @@ At-After-take_turn = lts.After-take_turn tie.the-claims reads.Pre reads.Post goa
 abbrev At-At-loop-n : Type 0
 At-At-loop-n = lts.At-loop tie.the-claims reads.Pre reads.Post goal.the-invariant-loop-n goal.the-decreases-loop-n tie.handed_clauses
 
-pub kind-kind-requires : goal.kind-kind-requires
-kind-kind-requires c = record { block_len = c.requires.made_ready.valid.sized.bytes; i_lt_max_rows = omega (arith, c.requires.made_ready.inside, c.requires.made_ready.valid.sized.rows_fit) }
+pub goal_of-goal-requires : goal.goal_of-goal-requires
+goal_of-goal-requires c = record { block_len = c.requires.made_ready.valid.sized.bytes; i_lt_max_rows = omega (arith, c.requires.made_ready.inside, c.requires.made_ready.valid.sized.rows_fit); strategic = c.requires.made_ready.strategic }
 
 pub full-requires : goal.full-requires
 full-requires c = record { valid = c.requires.made_ready.valid; i_bound = (c.requires.made_ready.inside, c.requires.made_ready.strategic, omega (arith, c.requires.s_bound.0)) }
@@ -69,12 +70,12 @@ module _ (c : At-At-loop-n) where
       omega (arith, stands.placed.place, stocks_below G (stands.play.at c.loop-n.n) stands.placed.fits, places_of c.args.block.now c.args.ready.row c.args.i c.requires.made_ready.ranked.sought.playable c.requires.made_ready.ranked.index_is)
 
   -- whether the row is finished, by the test
-  told : FinishedBy c.kind-kind.result c.args.ready.right (length c.args.script.now) c.loop-n.spot.state c.loop-n.n ↔ Finished t (length c.args.script.now) (states G stands.play) c.loop-n.n
+  told : FinishedBy (kind_of c.goal_of-goal.result) c.args.ready.right (length c.args.script.now) c.loop-n.spot.state c.loop-n.n ↔ Finished t (length c.args.script.now) (states G stands.play) c.loop-n.n
   told =
-      subst (λ (k : ℕ). FinishedBy k c.args.ready.right (length c.args.script.now) c.loop-n.spot.state c.loop-n.n ↔ Finished t (length c.args.script.now) (states G stands.play) c.loop-n.n) (sym c.kind-kind.ensures)
+      subst (λ (k : ℕ). FinishedBy k c.args.ready.right (length c.args.script.now) c.loop-n.spot.state c.loop-n.n ↔ Finished t (length c.args.script.now) (states G stands.play) c.loop-n.n) (sym c.goal_of-goal.ensures)
       (finished_told c.requires.made_ready.valid c.requires.made_ready.inside c.requires.made_ready.strategic c.requires.made_ready.prepared (length c.args.script.now) (states G stands.play) c.loop-n.n c.loop-n.spot.state stands.placed.state inside)
 
-  ended : FinishedBy c.kind-kind.result c.args.ready.right (length c.args.script.now) c.loop-n.spot.state c.loop-n.n → EndsAs G t c.args.script.now (full G c.args.s) (Some (record { moves = c.loop-n.n; finished = true; last = c.loop-n.spot }))
+  ended : FinishedBy (kind_of c.goal_of-goal.result) c.args.ready.right (length c.args.script.now) c.loop-n.spot.state c.loop-n.n → EndsAs G t c.args.script.now (full G c.args.s) (Some (record { moves = c.loop-n.n; finished = true; last = c.loop-n.spot }))
   ended done = (
     stands.play,
     stands_done G (valid_proper c.args.block.now c.requires.made_ready.valid) t c.args.script.now (full G c.args.s) c.loop-n.n c.loop-n.spot.state c.loop-n.spot.place stands c.loop-n.invariant.0 (told.0 done),
@@ -82,16 +83,16 @@ module _ (c : At-At-loop-n) where
   )
 
   -- the script is used up
-  used_up : c.loop-n.n ≡ length c.args.script.now → (b : Bool) → Decides (FinishedBy c.kind-kind.result c.args.ready.right (length c.args.script.now) c.loop-n.spot.state (length c.args.script.now)) b
+  used_up : c.loop-n.n ≡ length c.args.script.now → (b : Bool) → Decides (FinishedBy (kind_of c.goal_of-goal.result) c.args.ready.right (length c.args.script.now) c.loop-n.spot.state (length c.args.script.now)) b
       → EndsAs G t c.args.script.now (full G c.args.s) (Some (record { moves = length c.args.script.now; finished = b; last = c.loop-n.spot }))
   used_up e true (holds done) =
       subst (λ (k : ℕ). EndsAs G t c.args.script.now (full G c.args.s) (Some (record { moves = k; finished = true; last = c.loop-n.spot }))) e
-      (ended (subst (FinishedBy c.kind-kind.result c.args.ready.right (length c.args.script.now) c.loop-n.spot.state) (sym e) done))
+      (ended (subst (FinishedBy (kind_of c.goal_of-goal.result) c.args.ready.right (length c.args.script.now) c.loop-n.spot.state) (sym e) done))
   used_up e false (fails unfinished) =
       subst (λ (k : ℕ). EndsAs G t c.args.script.now (full G c.args.s) (Some (record { moves = k; finished = false; last = c.loop-n.spot }))) e (
         stands.play,
         stands_out G (valid_proper c.args.block.now c.requires.made_ready.valid) t c.args.script.now (full G c.args.s) c.loop-n.n c.loop-n.spot.state c.loop-n.spot.place stands
-            (λ done. unfinished (subst (FinishedBy c.kind-kind.result c.args.ready.right (length c.args.script.now) c.loop-n.spot.state) e (told.1 done))) e,
+            (λ done. unfinished (subst (FinishedBy (kind_of c.goal_of-goal.result) c.args.ready.right (length c.args.script.now) c.loop-n.spot.state) e (told.1 done))) e,
         stands.placed,
       )
 
