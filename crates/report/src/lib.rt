@@ -13,6 +13,7 @@ ghost use Rattle.printing.specs.Lines.{refused_line};
 
 use block::refusal::{Answer, Refusal};
 use block::{fill, layout, refusal};
+use text::output::Output;
 use turns::sizes;
 
 // The listing is at most as long as a text, so its buffer has the length of one.
@@ -63,7 +64,9 @@ pub fn listing(text: &[u8], out: &mut [u8], ranks: &mut [u8], moves: &mut [u8]) 
 pub fn refused_line(line: &mut [u8; REFUSED_BYTES], r: Refusal) -> usize
     ensures { Filled (refused_line (number_of r)) line.new refused_bytes result }
 {
-    let n = printing::refused_line(line, 0, r.number());
+    let mut out = Output::new(line);
+    printing::refused_line(&mut out, r.number());
+    let n = out.len();
     fill::zeros(line, n);
     n
 }
