@@ -40,13 +40,10 @@ fn list_job(block: &[u8], out: &mut [u8], ranks: &mut [u8], moves: &mut [u8]) ->
 pub fn listing(text: &[u8], out: &mut [u8], ranks: &mut [u8], moves: &mut [u8]) -> Answer
     ensures { ListingCall text.now out.old ranks.old moves.old out.new ranks.new moves.new result }
 {
-    if out.len() != LISTING_BYTES {
-        return Err(Refusal::Length);
-    }
-    if ranks.len() != sizes::ROOM_BYTES {
-        return Err(Refusal::Length);
-    }
-    if moves.len() != sizes::MOVES_BYTES {
+    if out.len() != LISTING_BYTES
+        || ranks.len() != sizes::ROOM_BYTES
+        || moves.len() != sizes::MOVES_BYTES
+    {
         return Err(Refusal::Length);
     }
     let mut block = [0u8; layout::BLOCK_BYTES];

@@ -4,7 +4,7 @@ ghost use Rattle.block.specs.Layout.{kinds, max_kind};
 ghost use Rattle.text.specs.declared.sizes.Edition.TheVariants as Edition;
 ghost use Rattle.text.specs.Job as J;
 ghost use Rattle.text.specs.Numeral.{numbers, decimal};
-ghost use Rattle.text.specs.Inner.Adding.{Adds, HasRoom, Within};
+ghost use Rattle.text.specs.Inner.Adding.{Adds, HasRoom, SameBuffer, Within};
 ghost use Rattle.writer.specs.Inner.Lengths.{field_bytes, index_bytes, word_bytes, resource_bytes};
 
 use block::layout;
@@ -74,8 +74,8 @@ pub fn resource(out: &mut Output, k: usize, sep: u8)
 
 fn resource_word(out: &mut Output, k: usize)
     requires { HasRoom resource_bytes out.old × (k ≤ max_kind) }
-    ensures adds { Adds (J.resource_word k) out.old out.new }
-    ensures within { Within resource_bytes out.old out.new }
+    ensures adds { Adds (J.resource_word k) out.old out.new × (out.new.len ≡ out.old.len + resource_bytes) }
+    ensures same_buffer { SameBuffer out.old out.new }
 {
     match k {
         layout::SUM_KIND => out.word(b"sum"),

@@ -4,4 +4,4 @@ use mathlib.Core.Path.{◌∙◌}
 use Rattle.writer.proofs.output.resource.Goals as goal
 
 pub returns-clause-adds : goal.returns-clause-adds
-returns-clause-adds c = λ rest. rw append_assoc (c.put.ensures.adds.0 rest ∙ c.resource_word.ensures.adds _)
+returns-clause-adds c = λ rest. rw append_assoc (c.put.ensures.adds.0 rest ∙ c.resource_word.ensures.adds.0 _)

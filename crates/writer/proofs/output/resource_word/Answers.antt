@@ -6,9 +6,9 @@ use Rattle.writer.proofs.output.resource_word.Goals as goal
 
 pub returns-in-0-clause-adds : goal.returns-in-0-clause-adds
 unfolding resource_word
-returns-in-0-clause-adds c = λ rest. rw c.in-0.is (c.word.ensures.adds.0 rest)
+returns-in-0-clause-adds c = (λ rest. rw c.in-0.is (c.word.ensures.adds.0 rest), omega arith)
 
 pub returns-in_default-clause-adds : goal.returns-in_default-clause-adds
 unfolding resource_word
 returns-in_default-clause-adds c = let last : c.args.k ≡ 1 = omega arith in
-    λ rest. rw last (c.word-in_default.ensures.adds.0 rest)
+    (λ rest. rw last (c.word-in_default.ensures.adds.0 rest), omega arith)
