@@ -9,7 +9,6 @@ use mathlib.Core.Path.{◌≡◌, refl, sym, ap, subst, ◌∙◌}
 use Prim.Native.Nat.{ℕ, zero, suc, ◌+◌, ◌*◌, ◌/◌, ◌%◌, ◌^◌, ◌≤◌, ◌<◌}
 use native.Mathlib.Numerals.{add-one}
 use native.Mathlib.Omega.{arith}
-use lib.ListN.{length, take}
 use borrow.Author.Tests.{eq-eqb, ne_eqb}
 use Rattle.block.specs.Decide.{Bit}
 use Rattle.block.specs.Inner.Tests.{Lowest}
@@ -17,7 +16,8 @@ use Rattle.block.specs.Layout as L
 use Rattle.block.specs.Layout.{Block}
 use Rattle.block.proofs.Masks.{no_bit_above}
 use Rattle.block.proofs.Ones.{lowest_from}
-use Rattle.text.specs.Inner.Adding.{Adds}
+use Rattle.text.specs.declared.output.Output.{Output}
+use Rattle.text.specs.Inner.Adding.{front, Adds, SameBuffer}
 use Rattle.text.proofs.Adding.{adds_then}
 use Rattle.text.proofs.Decimals.{lt_or_ge}
 use Rattle.game.specs.Table.{Table}
@@ -51,17 +51,17 @@ module _ (b : Block) (i w : ℕ) (X : Table) where
   missing s not = ap (λ (t : Bool). cond t (plan_at b i X s) []) (ne_eqb (w / 2 ^ s % 2) 1 not)
 
   -- the lines of the states below from have been written
-  pub record Planned (t : List ℕ) (at : ℕ) (u : List ℕ) (next from : ℕ) : Type 0 where
-    pub so : Adds (parts (plan_of b i w X) from) t at u next
-    pub near : next ≤ at + from * 41
+  pub record Planned (t u : Output) (from : ℕ) : Type 0 where
+    pub so : Adds (parts (plan_of b i w X) from) t u
+    pub near : u.len ≤ t.len + from * 41
     pub inside : from ≤ L.states b
-    pub long : length u ≡ length t
+    pub same : SameBuffer t u
 
-  pub planned_none : (t : List ℕ) (at : ℕ) → Planned t at t at 0
+  pub planned_none : (t : Output) → Planned t t 0
   unfolding parts
-  planned_none t at = record { so = λ rest. refl; near = omega arith; inside = omega arith; long = refl }
+  planned_none t = record { so = λ rest. refl; near = omega arith; inside = omega arith; same = (refl, refl) }
 
-  module _ (states : (s : ℕ) → Bit w s → s < L.states b) {t u : List ℕ} {at next from : ℕ} (p : Planned t at u next from) where
+  module _ (states : (s : ℕ) → Bit w s → s < L.states b) {t u : Output} {from : ℕ} (p : Planned t u from) where
     -- from here on the lowest state is k further
     module _ (k : ℕ) (low : Lowest (w / 2 ^ from) k) where
       found : Bit w (from + k)
@@ -73,16 +73,16 @@ module _ (b : Block) (i w : ℕ) (X : Table) where
       skipped : parts (plan_of b i w X) (from + k) ≡ parts (plan_of b i w X) from
       skipped = parts_skip (plan_of b i w X) from (from + k) (omega arith) (λ x l u. missing x ((lowest_from w from k low).1 x l u))
 
-      pub planned_next : {v : List ℕ} {last : ℕ} → Adds (plan_at b i X (from + k)) u next v last → last ≤ next + 41 → length v ≡ length u → Planned t at v last (from + k + 1)
-      planned_next {v} {last} added short same = record {
-        so = subst (λ (l : List ℕ). Adds l t at v last) (sym (line ∙ ap (λ (l : List ℕ). l ++ plan_at b i X (from + k)) skipped)) (adds_then (parts (plan_of b i w X) from) (plan_at b i X (from + k)) t u v at next last p.so added);
+      pub planned_next : {v : Output} → Adds (plan_at b i X (from + k)) u v → v.len ≤ u.len + 41 → SameBuffer u v → Planned t v (from + k + 1)
+      planned_next {v} added short same = record {
+        so = subst (λ (l : List ℕ). Adds l t v) (sym (line ∙ ap (λ (l : List ℕ). l ++ plan_at b i X (from + k)) skipped)) (adds_then (parts (plan_of b i w X) from) (plan_at b i X (from + k)) t u v p.so added);
         near = omega (arith, p.near);
         inside = omega (arith, state_inside);
-        long = same ∙ p.long;
+        same = (same.0 ∙ p.same.0, same.1 ∙ p.same.1);
       }
         where
           line : parts (plan_of b i w X) (from + k + 1) ≡ parts (plan_of b i w X) (from + k) ++ plan_at b i X (from + k)
           line = parts_next (plan_of b i w X) (from + k) ∙ ap (λ (l : List ℕ). parts (plan_of b i w X) (from + k) ++ l) (there (from + k) found)
 
-    pub planned_all : w / 2 ^ from ≡ 0 → Adds (plan_lines b i w X) t at u next
-    planned_all none = λ rest. p.so rest ∙ ap (λ (l : List ℕ). take at t ++ (l ++ rest)) (sym (parts_skip (plan_of b i w X) from (L.states b) p.inside (λ x l u. missing x (λ one. no_bit_above from w none (x, l, one)))))
+    pub planned_all : w / 2 ^ from ≡ 0 → Adds (plan_lines b i w X) t u
+    planned_all none = λ rest. p.so rest ∙ ap (λ (l : List ℕ). front t ++ (l ++ rest)) (sym (parts_skip (plan_of b i w X) from (L.states b) p.inside (λ x l u. missing x (λ one. no_bit_above from w none (x, l, one)))))

@@ -13,6 +13,7 @@ ghost use Rattle.printing.specs.Lines.{refused_line};
 
 use block::refusal::{Answer, Refusal};
 use block::{fill, layout, refusal};
+use text::output::Output;
 use turns::sizes;
 
 // The listing is at most as long as a text, so its buffer has the length of one.
@@ -39,13 +40,10 @@ fn list_job(block: &[u8], out: &mut [u8], ranks: &mut [u8], moves: &mut [u8]) ->
 pub fn listing(text: &[u8], out: &mut [u8], ranks: &mut [u8], moves: &mut [u8]) -> Answer
     ensures { ListingCall text.now out.old ranks.old moves.old out.new ranks.new moves.new result }
 {
-    if out.len() != LISTING_BYTES {
-        return Err(Refusal::Length);
-    }
-    if ranks.len() != sizes::ROOM_BYTES {
-        return Err(Refusal::Length);
-    }
-    if moves.len() != sizes::MOVES_BYTES {
+    if out.len() != LISTING_BYTES
+        || ranks.len() != sizes::ROOM_BYTES
+        || moves.len() != sizes::MOVES_BYTES
+    {
         return Err(Refusal::Length);
     }
     let mut block = [0u8; layout::BLOCK_BYTES];
@@ -63,7 +61,9 @@ pub fn listing(text: &[u8], out: &mut [u8], ranks: &mut [u8], moves: &mut [u8]) 
 pub fn refused_line(line: &mut [u8; REFUSED_BYTES], r: Refusal) -> usize
     ensures { Filled (refused_line (number_of r)) line.new refused_bytes result }
 {
-    let n = printing::refused_line(line, 0, r.number());
+    let mut out = Output::new(line);
+    printing::refused_line(&mut out, r.number());
+    let n = out.len();
     fill::zeros(line, n);
     n
 }

@@ -2,7 +2,7 @@
 ghost use Rattle.std.specs.Prelude.{List, ◌≡◌, ℕ, ◌+◌, ◌≤◌, ◌<◌, length, take};
 ghost use Rattle.block.specs.Layout as L;
 ghost use Rattle.block.specs.Inner.Valid.{Valid};
-ghost use Rattle.text.specs.Inner.Adding.{Adds};
+ghost use Rattle.text.specs.Inner.Adding.{Adds, HasRoom, Within};
 ghost use Rattle.turns.specs.Sizes.{sets_bytes, room_bytes, moves_bytes};
 ghost use Rattle.ways.specs.Lines.{ways_bytes};
 ghost use Rattle.solver.specs.Calls.{RowTable};
@@ -15,6 +15,7 @@ use block::layout;
 use choice::{moves, tables};
 use printing::{list_line, set_line};
 use solver::label;
+use text::output::Output;
 use turns::{buffers, sizes};
 use ways::lines;
 
@@ -38,25 +39,24 @@ fn row_lines(
     sets: &mut [u8],
     ranks: &mut [u8],
     moves: &mut [u8],
-    out: &mut [u8],
-    at: usize,
-) -> usize
+    out: &mut Output,
+)
     requires valid { Valid block.now × (i < L.rows block.now) }
-    requires sets_len { (length sets.old ≡ sets_bytes) × (length ranks.old ≡ room_bytes) × (length moves.old ≡ moves_bytes) × (at + 1015 ≤ length out.old) }
+    requires sets_len { (length sets.old ≡ sets_bytes) × (length ranks.old ≡ room_bytes) × (length moves.old ≡ moves_bytes) × HasRoom 1015 out.old }
     requires lower_sets { LowerSets block.now i sets.old }
     ensures row_labelled { RowLabelled block.now i sets.old sets.new }
     ensures ranks_len { (length ranks.new ≡ room_bytes) × (length moves.new ≡ moves_bytes) }
-    ensures by_index { ((lines : List ℕ) × (RowListed block.now i lines × Adds lines out.old at out.new result)) × (result ≤ at + 1015) }
+    ensures listed { (lines : List ℕ) × (RowListed block.now i lines × Adds lines out.old out.new) }
+    ensures within { Within 1015 out.old out.new }
 {
     let mut ways = [0u8; lines::WAYS_BYTES];
     label::label_row(block, i, sets, &mut ways, ranks);
     let set = buffers::word_at(sets, i);
-    let plans = set_line(out, at, i, set);
-    if layout::kind(block, i) < layout::NEXT_KIND {
-        return plans;
+    set_line(out, i, set);
+    if layout::kind(block, i) >= layout::NEXT_KIND {
+        row_table(block, i, sets, &mut ways, ranks, moves);
+        plan_lines(block, i, set, ranks, moves, out);
     }
-    row_table(block, i, sets, &mut ways, ranks, moves);
-    plan_lines(block, i, set, ranks, moves, out, plans)
 }
 
 // The listing of a job, from the front of the buffer.
@@ -68,9 +68,10 @@ pub fn job_lines(block: &[u8], out: &mut [u8], ranks: &mut [u8], moves: &mut [u8
 {
     let mut sets = [0u8; sizes::SETS_BYTES];
     let n = layout::rows(block);
-    let mut next = list_line(out, 0, n);
+    let mut lines = Output::new(out);
+    list_line(&mut lines, n);
     for i in 0..n {
-        next = row_lines(block, i, &mut sets, ranks, moves, out, next);
+        row_lines(block, i, &mut sets, ranks, moves, &mut lines);
     }
-    next
+    lines.len()
 }

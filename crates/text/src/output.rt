@@ -1,57 +1,88 @@
-// Bytes of a text: words and numbers, added to a buffer from a place on. Nothing else of the buffer changes.
+// A text that is being written: words and numbers, added at its end. Nothing else of its buffer changes.
 ghost use Rattle.std.specs.Prelude.{◌∷◌, [], ◌≡◌, ℕ, ◌+◌, ◌^◌, ◌≤◌, ◌<◌, length};
-ghost use Rattle.text.specs.Inner.Adding.{Adds, Untouched};
+ghost use Rattle.text.specs.Inner.Adding.{Adds, HasRoom, SameBuffer, Untouched};
 ghost use Rattle.text.specs.Numeral.{numeral, decimal, field};
 
 use crate::ZERO;
 
-// Puts a byte at a place of the text.
-pub fn put(text: &mut [u8], at: usize, x: u8) -> usize
-    requires { at < length text.old }
-    ensures { Adds (x ∷ []) text.old at text.new result × (result ≡ at + 1) × Untouched text.old text.new result }
-{
-    text[at] = x;
-    at + 1
+// A lent buffer, and how many bytes of its front are written.
+#[derive(Drop)]
+pub struct Output<'a> {
+    text: &'a mut [u8],
+    len: usize,
 }
 
-fn digit(text: &mut [u8], at: usize, d: usize) -> usize
-    requires { (at < length text.old) × (d < 10) }
-    ensures { Adds (numeral d ∷ []) text.old at text.new result × (result ≡ at + 1) × Untouched text.old text.new result }
-{
-    put(text, at, (ZERO + d) as u8)
-}
-
-// The digits of a number, for which there is room.
-fn digits(text: &mut [u8], at: usize, n: usize) -> usize
-    requires { (k : ℕ) × ((0 < k) × ((n < 10 ^ k) × (at + k ≤ length text.old))) }
-    ensures adds { Adds (decimal n) text.old at text.new result }
-    ensures by_index { (k : ℕ) → 0 < k → n < 10 ^ k → result ≤ at + k }
-    ensures untouched { Untouched text.old text.new result }
-{
-    if n < 10 {
-        return digit(text, at, n);
+impl<'a> Output<'a> {
+    // No byte of the buffer is written yet.
+    pub fn new(text: &'a mut [u8]) -> Output<'a>
+        ensures same_buffer { result.text.ghost_name ≡ text.entry.ghost_name }
+        ensures empty { (result.text.now ≡ text.old) × (result.len ≡ 0) }
+    {
+        Output { text, len: 0 }
     }
-    let last = digits(text, at, n / 10);
-    digit(text, last, n % 10)
-}
 
-// A number and the byte after it.
-pub fn field(text: &mut [u8], at: usize, n: usize, sep: u8) -> usize
-    requires { (k : ℕ) × ((0 < k) × ((n < 10 ^ k) × (at + k < length text.old))) }
-    ensures adds { Adds (field n sep) text.old at text.new result }
-    ensures by_index { (k : ℕ) → 0 < k → n < 10 ^ k → result ≤ at + k + 1 }
-    ensures untouched { Untouched text.old text.new result }
-{
-    let end = digits(text, at, n);
-    put(text, end, sep)
-}
+    // How many bytes are written.
+    pub fn len(&self) -> usize
+        ensures { result ≡ self.now.len }
+    {
+        self.len
+    }
 
-// The bytes of a word.
-pub fn word(text: &mut [u8], at: usize, w: &[u8]) -> usize
-    requires { at + length w.now ≤ length text.old }
-    ensures { Adds w.now text.old at text.new result × (result ≡ at + length w.now) × Untouched text.old text.new result }
-{
-    let n = w.len();
-    text[at..at + n].copy_from_slice(w);
-    at + n
+    // Puts a byte.
+    pub fn put(&mut self, x: u8)
+        requires { HasRoom 1 self.old }
+        ensures adds { Adds (x ∷ []) self.old self.new × (self.new.len ≡ self.old.len + 1) }
+        ensures untouched { Untouched self.old self.new }
+        ensures same_buffer { SameBuffer self.old self.new }
+    {
+        self.text[self.len] = x;
+        self.len += 1;
+    }
+
+    fn digit(&mut self, d: usize)
+        requires { HasRoom 1 self.old × (d < 10) }
+        ensures adds { Adds (numeral d ∷ []) self.old self.new × (self.new.len ≡ self.old.len + 1) }
+        ensures untouched { Untouched self.old self.new }
+        ensures same_buffer { SameBuffer self.old self.new }
+    {
+        self.put((ZERO + d) as u8);
+    }
+
+    // The digits of a number, for which there is room.
+    fn digits(&mut self, n: usize)
+        requires { (k : ℕ) × ((0 < k) × ((n < 10 ^ k) × HasRoom k self.old)) }
+        ensures adds { Adds (decimal n) self.old self.new }
+        ensures by_index { (k : ℕ) → 0 < k → n < 10 ^ k → self.new.len ≤ self.old.len + k }
+        ensures untouched { Untouched self.old self.new }
+        ensures same_buffer { SameBuffer self.old self.new }
+    {
+        if n >= 10 {
+            self.digits(n / 10);
+        }
+        self.digit(n % 10);
+    }
+
+    // A number and the byte after it.
+    pub fn field(&mut self, n: usize, sep: u8)
+        requires { (k : ℕ) × ((0 < k) × ((n < 10 ^ k) × HasRoom (k + 1) self.old)) }
+        ensures adds { Adds (field n sep) self.old self.new }
+        ensures by_index { (k : ℕ) → 0 < k → n < 10 ^ k → self.new.len ≤ self.old.len + k + 1 }
+        ensures untouched { Untouched self.old self.new }
+        ensures same_buffer { SameBuffer self.old self.new }
+    {
+        self.digits(n);
+        self.put(sep);
+    }
+
+    // The bytes of a word.
+    pub fn word(&mut self, w: &[u8])
+        requires { HasRoom (length w.now) self.old }
+        ensures adds { Adds w.now self.old self.new × (self.new.len ≡ self.old.len + length w.now) }
+        ensures untouched { Untouched self.old self.new }
+        ensures same_buffer { SameBuffer self.old self.new }
+    {
+        let end = self.len + w.len();
+        self.text[self.len..end].copy_from_slice(w);
+        self.len = end;
+    }
 }

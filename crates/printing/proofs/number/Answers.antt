@@ -5,6 +5,5 @@ use Rattle.printing.proofs.number.Goals as goal
 pub field-requires : goal.field-requires
 field-requires c = (8, (omega arith, (c.requires.1, omega arith)))
 
-pub returns : goal.returns
-returns c =
-    (c.field.ensures.adds, omega (arith, c.field.ensures.by_index 8 (omega arith) c.requires.1))
+pub returns-clause-within : goal.returns-clause-within
+returns-clause-within c = (omega (arith, c.field.ensures.by_index 8 (omega arith) c.requires.1), c.field.ensures.same_buffer)

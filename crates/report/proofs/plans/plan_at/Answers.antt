@@ -25,5 +25,5 @@ rank_at-requires c = omega (arith, below c.before.before, c.requires.room_bytes_
 pub bounds-moves-p : goal.bounds-moves-p
 bounds-moves-p c = omega (arith, below c.before.before.before.before, c.requires.room_bytes_in_bounds.1)
 
-pub returns : goal.returns
-returns c = (λ rest. rw (← c.full-p.ensures, ← c.rank_at.ensures.0) (c.plan_line.ensures.0 rest), c.plan_line.ensures.1)
+pub returns-clause-adds : goal.returns-clause-adds
+returns-clause-adds c = λ rest. rw (← c.full-p.ensures, ← c.rank_at.ensures.0) (c.plan_line.ensures.adds rest)

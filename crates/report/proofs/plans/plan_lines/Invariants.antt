@@ -6,7 +6,7 @@ use Rattle.report.proofs.Planning.{Planned}
 use Rattle.report.proofs.plans.plan_lines.Given as goal
 
 abbrev pub invariant-loop-from : goal.invariant-loop-from
-invariant-loop-from l = Planned l.block l.i l.set (table_in l.ranks l.moves) l.initial.out l.at l.out l.next l.from
+invariant-loop-from l = Planned l.block l.i l.set (table_in l.ranks l.moves) l.initial.out l.out l.from
 
 abbrev pub decreases-loop-from : goal.decreases-loop-from
 decreases-loop-from l = L.states l.block - l.from

@@ -7,22 +7,22 @@ use Rattle.block.specs.declared.layout.Place.TheVariants.{Count}
 use Rattle.text.specs.Job.{acts_line, index}
 use Rattle.writer.proofs.agents.acts_line.Goals as goal
 
-pub number-costs-requires : goal.number-costs-requires
-number-costs-requires c = omega (arith, c.shared_slice_known-1.given (place_of (Count c.args.s c.args.a)), c.number-agent.ensures.upper_bound.1 (omega arith), c.number-count.ensures.upper_bound.1 (omega arith))
+pub number-requires-3 : goal.number-requires-3
+number-requires-3 c = omega (arith, c.shared_slice_known-1.given (place_of (Count c.args.s c.args.a)))
 
 pub actions-requires : goal.actions-requires
-actions-requires c = let few = c.requires.valid.0.counted c.args.s c.args.a c.requires.s_bound.0 c.requires.s_bound.1 in
-    record { valid = (c.requires.valid.0, omega (arith, c.number-agent.ensures.upper_bound.1 (omega arith), c.number-count.ensures.upper_bound.1 (omega arith))); s_bound = c.requires.s_bound }
+actions-requires c = record { valid = (c.requires.valid.0, omega (arith, (c.number.ensures.within.1 (omega arith)).0, (c.number-2.ensures.within.1 (omega arith)).0)); s_bound = c.requires.s_bound }
 
-pub returns : goal.returns
+pub returns-clause-past : goal.returns-clause-past
 unfolding acts_line index
-returns c = let few = c.requires.valid.0.counted c.args.s c.args.a c.requires.s_bound.0 c.requires.s_bound.1 in (
-  λ f.
-      rw c.count.ensures at (
-      c.actions.ensures.0 (f (L.count c.args.block.now c.args.s c.args.a))
-      ∙ c.number-costs.ensures.adds _
-      ∙ c.number-count.ensures.adds _
-      ∙ c.number-agent.ensures.adds _
-      ∙ c.word-state.ensures.0 _),
-  omega (arith, c.number-agent.ensures.upper_bound.1 (omega arith), c.number-count.ensures.upper_bound.1 (omega arith), c.number-costs.ensures.upper_bound.1 (omega arith)),
-)
+returns-clause-past c =
+    λ f.
+    rw c.count.ensures at (
+    c.actions.ensures.past (f (L.count c.args.block.now c.args.s c.args.a))
+    ∙ c.number-3.ensures.adds _
+    ∙ c.number-2.ensures.adds _
+    ∙ c.number.ensures.adds _
+    ∙ c.word.ensures.adds.0 _)
+
+pub returns-clause-within : goal.returns-clause-within
+returns-clause-within c = (omega (arith, (c.number.ensures.within.1 (omega arith)).0, (c.number-2.ensures.within.1 (omega arith)).0), (cc, cc))

@@ -1,7 +1,6 @@
 -- `resource_fields` writes the kinds of the resources.
-use mathlib.Core.Path.{◌≡◌}
-use Prim.Native.Nat.{◌+◌, ◌*◌, ◌≤◌}
-use lib.ListN.{length}
+use Prim.Native.Nat.{◌*◌, ◌≤◌}
+use Rattle.text.specs.Inner.Adding.{Within}
 use Rattle.text.specs.declared.sizes.Edition.TheVariants.{Second}
 use Rattle.block.specs.Layout.{resource_kind}
 use Rattle.block.specs.declared.layout.Place.TheVariants.{ResourceKind}
@@ -12,4 +11,4 @@ use Rattle.writer.proofs.Writing.{Collected}
 use Rattle.writer.proofs.job.resource_fields.Given as goal
 
 abbrev pub invariant-loop-j : goal.invariant-loop-j
-invariant-loop-j l = (l.j ≤ l.resources) × ((length l.text ≡ length l.initial.text) × ((l.next ≤ l.at + field_bytes * l.j) × Collected (λ left i. value (J.resource_spelling Second left) (ResourceKind i)) (resource_kind l.block) J.no_kinds l.resources l.block l.initial.text l.at l.text l.next l.j))
+invariant-loop-j l = (l.j ≤ l.resources) × (Within (field_bytes * l.j) l.initial.out l.out × Collected (λ left i. value (J.resource_spelling Second left) (ResourceKind i)) (resource_kind l.block) J.no_kinds l.resources l.block l.initial.out l.out l.j)

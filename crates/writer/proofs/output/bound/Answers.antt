@@ -4,9 +4,9 @@ use Rattle.text.specs.Job.{bound_field}
 use Rattle.writer.proofs.Writing.{bound_number}
 use Rattle.writer.proofs.output.bound.Goals as goal
 
-pub returns-then-v-eq-UNLIMITED : goal.returns-then-v-eq-UNLIMITED
+pub returns-then-v-eq-UNLIMITED-clause-adds : goal.returns-then-v-eq-UNLIMITED-clause-adds
 unfolding bound_field
-returns-then-v-eq-UNLIMITED c = (λ rest. rw c.if-v-eq-UNLIMITED.true (c.word.ensures.0 rest), omega arith)
+returns-then-v-eq-UNLIMITED-clause-adds c = λ rest. rw c.if-v-eq-UNLIMITED.true (c.word.ensures.adds.0 rest)
 
-pub returns : goal.returns
-returns c = (λ rest. rw (bound_number _ (omega arith) c.if-v-eq-UNLIMITED.false) (c.number.ensures.adds rest), omega arith)
+pub returns-else-v-eq-UNLIMITED-clause-adds : goal.returns-else-v-eq-UNLIMITED-clause-adds
+returns-else-v-eq-UNLIMITED-clause-adds c = λ rest. rw (bound_number _ (omega arith) c.if-v-eq-UNLIMITED.false) (c.number.ensures.adds rest)

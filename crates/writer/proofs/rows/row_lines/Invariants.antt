@@ -1,7 +1,6 @@
 -- `row_lines` writes the rows in turn.
-use mathlib.Core.Path.{◌≡◌}
-use Prim.Native.Nat.{◌+◌, ◌*◌, ◌≤◌}
-use lib.ListN.{length}
+use Prim.Native.Nat.{◌*◌, ◌≤◌}
+use Rattle.text.specs.Inner.Adding.{Within}
 use Rattle.text.specs.Job as J
 use Rattle.writer.specs.Inner.Lengths.{row_line_bytes}
 use Rattle.writer.specs.Inner.Writing.{written_sizes}
@@ -9,4 +8,4 @@ use Rattle.writer.proofs.Writing.{Looped}
 use Rattle.writer.proofs.rows.row_lines.Given as goal
 
 abbrev pub invariant-loop-i : goal.invariant-loop-i
-invariant-loop-i l = (l.i ≤ l.rows) × ((length l.text ≡ length l.initial.text) × ((l.next ≤ l.at + row_line_bytes * l.i) × Looped (J.row_lines (written_sizes l.block)) l.rows l.block l.initial.text l.at l.text l.next l.i))
+invariant-loop-i l = (l.i ≤ l.rows) × (Within (row_line_bytes * l.i) l.initial.out l.out × Looped (J.row_lines (written_sizes l.block)) l.rows l.block l.initial.out l.out l.i)

@@ -7,9 +7,12 @@ use Rattle.text.specs.Format.{write}
 use Rattle.text.specs.Job.{state_line, index}
 use Rattle.writer.proofs.states.state_line.Goals as goal
 
-pub number-requires : goal.number-requires
-number-requires c = omega (arith, c.shared_slice_known-1.given (place_of (Mask c.args.s)), c.number-mask.ensures.upper_bound.1 (omega arith))
+pub number-requires-2 : goal.number-requires-2
+number-requires-2 c = omega (arith, c.shared_slice_known-1.given (place_of (Mask c.args.s)), (c.number.ensures.within.1 (omega arith)).0)
 
-pub returns : goal.returns
+pub returns-clause-past : goal.returns-clause-past
 unfolding state_line index
-returns c = (λ f. rw c.mask.ensures at (c.number.ensures.adds (write f c.args.block.now) ∙ c.number-mask.ensures.adds _ ∙ c.word-state.ensures.0 _), omega (arith, c.number-mask.ensures.upper_bound.1 (omega arith)))
+returns-clause-past c = λ f. rw c.mask.ensures at (c.number-2.ensures.adds (write f c.args.block.now) ∙ c.number.ensures.adds _ ∙ c.word.ensures.adds.0 _)
+
+pub returns-clause-within : goal.returns-clause-within
+returns-clause-within c = (omega (arith, (c.number.ensures.within.1 (omega arith)).0), (cc, cc))
