@@ -214,7 +214,7 @@ pub fn byte_at(block: &[u8], p: usize) -> usize
     usize::from(block[p])
 }
 
-// N: how many agents there are.
+// The sizes, a byte each under a name and a clause of its own. N: how many agents there are.
 pub fn agents(block: &[u8]) -> usize
     requires { length block.now ≡ block_bytes }
     ensures { result ≡ L.agents block.now }

@@ -102,6 +102,7 @@ pub fn move_at(block: &[u8], row: Row, ways: &[u8], ranks: &[u8], spot: Spot, go
         own: own,
     };
     let n = lines::count(ways, spot.state, true);
+    // a loop and no find: the clause of is_good, of every position, is not found inside a closure
     for k in 0..n {
         if is_good(block, row, ways, ranks, spot, aim, k) {
             return lines::number(ways, spot.state, true, k) as u8;

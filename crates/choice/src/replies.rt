@@ -37,6 +37,7 @@ fn find_reply(block: &[u8], row: Row, ways: &[u8], ranks: &[u8], step: Step, aim
 {
     let c = row.places;
     let n = lines::count(ways, step.state, false);
+    // a loop and no find: what is handed back is the reply, and not its index
     for k in 0..n {
         let r = lines::number(ways, step.state, false, k);
         let q = layout::next(block, step.state, step.number + r);

@@ -1,4 +1,4 @@
-// Joint actions that can be done with given counts.
+// Joint actions that can be done with given counts. Test after test: where three tests by && meet, the check finds no proof of a test of three.
 ghost use Rattle.std.specs.Prelude.{◌≡◌};
 ghost use Rattle.text.specs.Job as J;
 

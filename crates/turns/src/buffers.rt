@@ -1,4 +1,5 @@
-// Words in lent buffers, lowest byte first: the rank of a position, and the set of a row with a bit for each state.
+// Words in lent buffers, lowest byte first: the rank of a position, and the set of a row with a bit for each state. They have two, four and three
+// bytes, each by one call of the library at an integer of its own: no const argument is computed from a type.
 ghost use Rattle.std.specs.Prelude.{◌≡◌, ◌↔◌, ◌⊎◌, ℕ, ◌+◌, ◌*◌, ◌^◌, ◌≤◌, ◌<◌, length};
 ghost use Rattle.block.specs.Decide.{Bit};
 ghost use Rattle.block.specs.Inner.Tests.{Decides};
