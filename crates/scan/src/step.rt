@@ -8,7 +8,7 @@ pub struct Stop {
     pub at: usize,
 }
 
-// What is read, as a byte of the block, and the next place of the text.
+// What is read, a byte of the block or what a line tells, and the next place of the text.
 #[derive(Clone, Copy)]
 pub struct Valued<T> {
     pub value: T,
