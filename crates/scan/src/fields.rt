@@ -1,4 +1,5 @@
-// The fields of a line: words, numbers that are known, bytes of the block, and those with spellings of their own.
+// The fields of a line: words, numbers that are known, bytes of the block, and those with spellings of their own. They are inlined:
+// a result that is handed on by memory takes longer than what it tells.
 ghost use Rattle.std.specs.Prelude.{◌≡◌, ℕ, ◌≤◌, ◌<◌, length, drop, set};
 ghost use Rattle.block.specs.Layout.{Block, block_bytes, place_of};
 ghost use Rattle.block.specs.Inner.Places.{InLayout};
@@ -27,6 +28,7 @@ fn bad_form(at: usize) -> Stop
 }
 
 // Past the word, which must stand there.
+#[inline(always)]
 pub fn word(text: &[u8], at: usize, word: &[u8]) -> Result<usize, Stop>
     requires { at ≤ length text.now }
     ensures text_value { (f : Format) (b : Block) → read (exactly word.now f) b (drop at text.now) ≡ resume text.now result (read f b) }
@@ -37,6 +39,7 @@ pub fn word(text: &[u8], at: usize, word: &[u8]) -> Result<usize, Stop>
 }
 
 // Past the number n and a comma, which must stand there.
+#[inline(always)]
 pub fn index(text: &[u8], at: usize, n: usize) -> Result<usize, Stop>
     requires { (at ≤ length text.now) × (n < numbers) }
     ensures text_value { (f : Format) (b : Block) → read (J.index n f) b (drop at text.now) ≡ resume text.now result (read f b) }
@@ -60,6 +63,7 @@ fn put(job: &mut [u8], x: Place, v: usize)
 }
 
 // A number of a range, stored at a place of the block.
+#[inline(always)]
 pub fn field(
     text: &[u8],
     at: usize,
@@ -88,6 +92,7 @@ pub fn field(
 }
 
 // A field with spellings of its own, stored at a place of the block.
+#[inline(always)]
 pub fn spelled(
     text: &[u8],
     at: usize,
