@@ -10,13 +10,21 @@ front t = take t.len t.text.now
 abbrev pub HasRoom : ℕ → Output → Type 0
 HasRoom n t = t.len + n ≤ length t.text.now
 
+-- from the buffer t up to a place, to the buffer u up to the next place: the word has been added
+abbrev pub AddsAt : List ℕ → List ℕ → ℕ → List ℕ → ℕ → Type 0
+AddsAt w t at u next = (rest : List ℕ) → take next u ++ rest ≡ take at t ++ (w ++ rest)
+
+-- from a place on the buffer u is as the buffer t was
+abbrev pub UntouchedAt : List ℕ → List ℕ → ℕ → Type 0
+UntouchedAt t u at = drop at u ≡ drop at t
+
 -- from the text t to the text u: the word has been added
 abbrev pub Adds : List ℕ → Output → Output → Type 0
-Adds w t u = (rest : List ℕ) → front u ++ rest ≡ front t ++ (w ++ rest)
+Adds w t u = AddsAt w t.text.now t.len u.text.now u.len
 
 -- behind the text u the buffer is as it was
 abbrev pub Untouched : Output → Output → Type 0
-Untouched t u = drop u.len u.text.now ≡ drop u.len t.text.now
+Untouched t u = UntouchedAt t.text.now u.text.now u.len
 
 -- both are in the same buffer
 abbrev pub SameBuffer : Output → Output → Type 0

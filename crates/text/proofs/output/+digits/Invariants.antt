@@ -1,4 +1,4 @@
-use Rattle.text.proofs.output.Output.+digits.Given as goal
+use Rattle.text.proofs.output.+digits.Given as goal
 
 -- proposed from what the function passes where it calls itself
 abbrev pub decreases-digits : goal.decreases-digits
