@@ -2,17 +2,17 @@
 use mathlib.Core.List.{List, ◌++◌}
 use mathlib.Core.Logic.{◌↔◌, ◌⊎◌, inl, inr, ⊎_elim}
 use mathlib.Core.Path.{◌≡◌, sym, ◌∙◌, ap, subst}
-use Prim.Native.Nat.{ℕ, ◌+◌, ◌*◌, ◌-◌, ◌/◌, ◌%◌, ◌^◌, ◌<◌, ◌≤◌}
-use native.Mathlib.Nat.{div-eq_of_lt, div-div-eq-div-mul, div-lt_iff_lt-mul, mod-eq_of_lt}
+use Prim.Native.Nat.{ℕ, suc, ◌+◌, ◌*◌, ◌-◌, ◌/◌, ◌%◌, ◌^◌, ◌<◌, ◌≤◌}
+use native.Mathlib.Nat.{add-mul-div_right, div-eq_of_lt, div-div-eq-div-mul, div-lt_iff_lt-mul, mod-eq_of_lt, pow-succ'}
 use native.Mathlib.Omega.{arith}
-use lib.Pow.{pow_pos}
+use lib.Pow.{pow_pos, pow-add, shr-shr}
 use lib.ListN.{get_or, length, take, set, replicate, length-set, length-replicate, get_or-replicate, get_or-eq_default}
 use Rattle.std.proofs.lemmas.Grind.{common_steps}
 use borrow.Rule.Slice.PartMut.{put_mid}
 use lib.Seq.{get_or-set_same, get_or-set_other, lt-length-set}
 use Rattle.block.specs.Decide.{Bit}
 use Rattle.block.proofs.Masks.{bit_above, no_bit_above}
-use Rattle.turns.specs.Buffers.{word_in, narrow_in}
+use Rattle.turns.specs.Buffers.{rank_in, word_in, narrow_in}
 use Rattle.turns.specs.Inner.Stores.{Stored}
 use Rattle.game.proofs.Numbers.Decide.{eq?, lt?}
 
@@ -60,6 +60,24 @@ module _ (l : List ℕ) (p x y : ℕ) where
   pub pair_length : length with_pair ≡ length l
   pair_length = length-set (set l (2 * p) x) (2 * p + 1) y ∙ length-set l (2 * p) x
 
+module _ (l : List ℕ) (p v : ℕ) where
+  abbrev pub with_rank : List ℕ
+  with_rank = with_pair l p (v % 256) (v / 256 % 256)
+
+  -- a byte of another rank is as before
+  rank_other : (k : ℕ) → (k ≡ 2 * p → ⊥) → (k ≡ 2 * p + 1 → ⊥) → get_or with_rank k 0 ≡ get_or l k 0
+  rank_other = pair_other l p (v % 256) (v / 256 % 256)
+
+  pub rank_stored : 2 * p + 1 < length l → v < 65536 → Stored rank_in l with_rank p v
+  rank_stored inside small = record {
+    stored = omega (arith, pair_stored l p (v % 256) (v / 256 % 256) inside);
+    others = λ i ne.
+        let low : get_or with_rank (2 * i) 0 ≡ get_or l (2 * i) 0 = rank_other (2 * i) (λ e. ne (omega arith)) (λ e. omega arith) in
+        let high : get_or with_rank (2 * i + 1) 0 ≡ get_or l (2 * i + 1) 0 = rank_other (2 * i + 1) (λ e. omega arith) (λ e. ne (omega arith)) in
+        omega (arith, low, high);
+    kept = pair_length l p (v % 256) (v / 256 % 256);
+  }
+
 -- a word is put together again from its bytes
 pub word_bytes : (w : ℕ) → w < 2 ^ 32 → w % 256 + 256 * (w / 256 % 256) + 65536 * (w / 65536 % 256) + 16777216 * (w / 16777216 % 256) ≡ w
 word_bytes w small =
@@ -71,6 +89,121 @@ word_bytes w small =
   where
     sums : (w x y z a b c d : ℕ) → 256 * x + a ≡ w → 256 * y + b ≡ x → 256 * z + c ≡ y → d ≡ z → a + 256 * b + 65536 * c + 16777216 * d ≡ w
     sums w x y z a b c d e e' e'' e''' = omega arith
+
+-- three bytes of a buffer from place a on, and the others
+module _ (l : List ℕ) (a x y z : ℕ) where
+  abbrev one : List ℕ
+  one = set l a x
+
+  abbrev two : List ℕ
+  two = set one (a + 1) y
+
+  abbrev pub with_three : List ℕ
+  with_three = set (set (set l a x) (a + 1) y) (a + 2) z
+
+  pub three_other : (k : ℕ) → (k ≡ a → ⊥) → (k ≡ a + 1 → ⊥) → (k ≡ a + 2 → ⊥) → get_or with_three k 0 ≡ get_or l k 0
+  three_other k n0 n1 n2 = get_or-set_other two (a + 2) k z 0 n2 ∙ get_or-set_other one (a + 1) k y 0 n1 ∙ get_or-set_other l a k x 0 n0
+
+  pub three_length : length with_three ≡ length l
+  three_length = length-set two (a + 2) z ∙ length-set one (a + 1) y ∙ length-set l a x
+
+  pub three_stored : a + 2 < length l → (get_or with_three a 0 ≡ x) × (get_or with_three (a + 1) 0 ≡ y) × (get_or with_three (a + 2) 0 ≡ z)
+  three_stored inside = (
+    get_or-set_other two (a + 2) a z 0 (λ e. omega arith) ∙ get_or-set_other one (a + 1) a y 0 (λ e. omega arith) ∙ get_or-set_same l a x 0 (omega arith),
+    get_or-set_other two (a + 2) (a + 1) z 0 (λ e. omega arith) ∙ get_or-set_same one (a + 1) y 0 (omega (arith, length-set l a x)),
+    get_or-set_same two (a + 2) z 0 (omega (arith, length-set l a x, length-set one (a + 1) y)),
+  )
+
+-- a set of three bytes is stored
+module _ (l : List ℕ) (i w : ℕ) where
+  abbrev pub with_narrow : List ℕ
+  with_narrow = with_three l (3 * i) (w % 256) (w / 256 % 256) (w / 65536 % 256)
+
+  narrow_other : (k : ℕ) → (k ≡ 3 * i → ⊥) → (k ≡ 3 * i + 1 → ⊥) → (k ≡ 3 * i + 2 → ⊥) → get_or with_narrow k 0 ≡ get_or l k 0
+  narrow_other = three_other l (3 * i) (w % 256) (w / 256 % 256) (w / 65536 % 256)
+
+  pub narrow_stored : 3 * i + 2 < length l → w < 2 ^ 24 → Stored narrow_in l with_narrow i w
+  narrow_stored inside small = record {
+    stored = omega (arith, three_stored l (3 * i) (w % 256) (w / 256 % 256) (w / 65536 % 256) inside, word_bytes w (omega arith));
+    others = λ k ne.
+        let b0 : get_or with_narrow (3 * k) 0 ≡ get_or l (3 * k) 0 = narrow_other (3 * k) (λ e. ne (omega arith)) (λ e. omega arith) (λ e. omega arith) in
+        let b1 : get_or with_narrow (3 * k + 1) 0 ≡ get_or l (3 * k + 1) 0 = narrow_other (3 * k + 1) (λ e. omega arith) (λ e. ne (omega arith)) (λ e. omega arith) in
+        let b2 : get_or with_narrow (3 * k + 2) 0 ≡ get_or l (3 * k + 2) 0 = narrow_other (3 * k + 2) (λ e. omega arith) (λ e. omega arith) (λ e. ne (omega arith)) in
+        omega (arith, b0, b1, b2);
+    kept = three_length l (3 * i) (w % 256) (w / 256 % 256) (w / 65536 % 256);
+  }
+
+-- and one of four
+module _ (l : List ℕ) (i w : ℕ) where
+  abbrev three : List ℕ
+  three = with_three l (4 * i) (w % 256) (w / 256 % 256) (w / 65536 % 256)
+
+  abbrev pub with_word : List ℕ
+  with_word = set (with_three l (4 * i) (w % 256) (w / 256 % 256) (w / 65536 % 256)) (4 * i + 3) (w / 16777216 % 256)
+
+  -- a byte before the last one, or of another word
+  word_front : (k : ℕ) → (k ≡ 4 * i + 3 → ⊥) → get_or with_word k 0 ≡ get_or three k 0
+  word_front k n3 = get_or-set_other three (4 * i + 3) k _ 0 n3
+
+  word_other : (k : ℕ) → (k ≡ 4 * i → ⊥) → (k ≡ 4 * i + 1 → ⊥) → (k ≡ 4 * i + 2 → ⊥) → (k ≡ 4 * i + 3 → ⊥) → get_or with_word k 0 ≡ get_or l k 0
+  word_other k n0 n1 n2 n3 = word_front k n3 ∙ three_other l (4 * i) (w % 256) (w / 256 % 256) (w / 65536 % 256) k n0 n1 n2
+
+  three_kept : length three ≡ length l
+  three_kept = three_length l (4 * i) (w % 256) (w / 256 % 256) (w / 65536 % 256)
+
+  word_length : length with_word ≡ length l
+  word_length = length-set three (4 * i + 3) _ ∙ three_kept
+
+  pub word_stored : 4 * i + 3 < length l → w < 2 ^ 32 → Stored word_in l with_word i w
+  word_stored inside small = record {
+    stored =
+        let front = three_stored l (4 * i) (w % 256) (w / 256 % 256) (w / 65536 % 256) (omega arith) in
+        let b0 : get_or with_word (4 * i) 0 ≡ w % 256 = word_front (4 * i) (λ e. omega arith) ∙ front.0 in
+        let b1 : get_or with_word (4 * i + 1) 0 ≡ w / 256 % 256 = word_front (4 * i + 1) (λ e. omega arith) ∙ front.1 in
+        let b2 : get_or with_word (4 * i + 2) 0 ≡ w / 65536 % 256 = word_front (4 * i + 2) (λ e. omega arith) ∙ front.2 in
+        let b3 : get_or with_word (4 * i + 3) 0 ≡ w / 16777216 % 256 = get_or-set_same three (4 * i + 3) _ 0 (omega (arith, three_kept)) in
+        omega (arith, b0, b1, b2, b3, word_bytes w small);
+    others = λ k ne.
+        let b0 : get_or with_word (4 * k) 0 ≡ get_or l (4 * k) 0 = word_other (4 * k) (λ e. ne (omega arith)) (λ e. omega arith) (λ e. omega arith) (λ e. omega arith) in
+        let b1 : get_or with_word (4 * k + 1) 0 ≡ get_or l (4 * k + 1) 0 = word_other (4 * k + 1) (λ e. omega arith) (λ e. ne (omega arith)) (λ e. omega arith) (λ e. omega arith) in
+        let b2 : get_or with_word (4 * k + 2) 0 ≡ get_or l (4 * k + 2) 0 = word_other (4 * k + 2) (λ e. omega arith) (λ e. omega arith) (λ e. ne (omega arith)) (λ e. omega arith) in
+        let b3 : get_or with_word (4 * k + 3) 0 ≡ get_or l (4 * k + 3) 0 = word_other (4 * k + 3) (λ e. omega arith) (λ e. omega arith) (λ e. omega arith) (λ e. ne (omega arith)) in
+        omega (arith, b0, b1, b2, b3);
+    kept = word_length;
+  }
+
+-- a word with a bit besides that it does not have
+module _ (w s : ℕ) (free : Bit w s → ⊥) where
+  bit_below : (x : ℕ) → x < s → (w + 2 ^ s) / 2 ^ x % 2 ≡ w / 2 ^ x % 2
+  bit_below x l =
+      let split : s ≡ suc (s - suc x) + x = omega arith in
+      let power : 2 ^ s ≡ 2 ^ suc (s - suc x) * 2 ^ x = ap (λ (n : ℕ). 2 ^ n) split ∙ pow-add 2 (suc (s - suc x)) x in
+      let quotient : (w + 2 ^ s) / 2 ^ x ≡ w / 2 ^ x + 2 ^ suc (s - suc x) = ap (λ (n : ℕ). (w + n) / 2 ^ x) power ∙ add-mul-div_right w (2 ^ suc (s - suc x)) (pow_pos x) in
+      omega (arith, quotient, pow-succ' 2 (s - suc x))
+
+  -- the word from bit s on is one more, and even before
+  bit_itself : (w + 2 ^ s) / 2 ^ s ≡ w / 2 ^ s + 1
+  bit_itself =
+      let one : 2 ^ s ≡ 1 * 2 ^ s = omega arith in
+      ap (λ (n : ℕ). (w + n) / 2 ^ s) one ∙ add-mul-div_right w 1 (pow_pos s)
+
+  bit_beyond : (x : ℕ) → s < x → (w + 2 ^ s) / 2 ^ x ≡ w / 2 ^ x
+  bit_beyond x l =
+      let split : s + 1 + (x - (s + 1)) ≡ x = omega arith in
+      let above : (v : ℕ) → v / 2 ^ x ≡ v / 2 ^ s / 2 ^ 1 / 2 ^ (x - (s + 1)) =
+      λ v. sym (ap (λ (n : ℕ). n / 2 ^ (x - (s + 1))) (shr-shr v s 1) ∙ shr-shr v (s + 1) (x - (s + 1)) ∙ ap (λ (n : ℕ). v / 2 ^ n) split) in
+      let half : (w + 2 ^ s) / 2 ^ s / 2 ^ 1 ≡ w / 2 ^ s / 2 ^ 1 = omega (arith, bit_itself) in
+      above (w + 2 ^ s) ∙ ap (λ (n : ℕ). n / 2 ^ (x - (s + 1))) half ∙ sym (above w)
+
+  pub bit_besides : (x : ℕ) → Bit (w + 2 ^ s) x ↔ (Bit w x ⊎ (x ≡ s))
+  bit_besides x = go (lt? x s) (eq? x s)
+    where
+      go : Dec (x < s) → Dec (x ≡ s) → Bit (w + 2 ^ s) x ↔ (Bit w x ⊎ (x ≡ s))
+      go (yes l) _ = (λ one. inl (sym (bit_below x l) ∙ one), ⊎_elim (λ one. bit_below x l ∙ one) (λ e. absurd (omega arith)))
+      go (no _) (yes e) = (λ _. inr e, λ _. subst (λ (n : ℕ). Bit (w + 2 ^ s) n) (sym e) (omega (arith, bit_itself)))
+      go (no nl) (no ne) =
+          let same = ap (λ (n : ℕ). n % 2) (bit_beyond x (omega arith)) in
+          (λ one. inl (sym same ∙ one), ⊎_elim (λ one. same ∙ one) (λ e. absurd (ne e)))
 
 -- a part of a buffer that was stored anew, n bytes from place a on, and the bytes before and after it
 module _ (l ys : List ℕ) (a n k : ℕ) (inside : a + n ≤ length l) (long : length ys ≡ n) where

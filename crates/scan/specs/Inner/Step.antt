@@ -26,6 +26,11 @@ abbrev pub past_value : {A : Type 0} → Result (Valued A) Stop → Result ℕ S
 past_value (Ok v) = Ok v.next
 past_value (Err stop) = Err stop
 
+-- a value, or another where there is none
+abbrev pub value_or : {A : Type 0} → A → Result (Valued A) Stop → A
+value_or d (Ok v) = v.value
+value_or d (Err stop) = d
+
 -- a value, where there is one, is from low to below limit
 abbrev pub Ranged : ℕ → ℕ → Result (Valued ℕ) Stop → Type 0
 Ranged low limit (Ok v) = (low ≤ v.value) × (v.value < limit)
