@@ -32,9 +32,9 @@
  * buffers. A buffer that all of them only read may be the same.
  *
  * Stack: any call takes at most RBATL_STACK_BYTES, and none allocates. As
- * bench/run measures it, in bytes: check 199, states_refusal 247, write 407, read_at
- * 3151, read 3183, label 7911, states 8103, table 8183, move 8231, reply 8263,
- * worksheet 8279, rehearse 8343, allowances 10647, list 10663.
+ * bench/run measures it, in bytes: check 207, states_refusal 255, write 415, read_at
+ * 3159, read 3207, label 8108, states 8236, table 8380, reply 8460, move 8476,
+ * worksheet 8524, rehearse 8540, list 10860, allowances 10956.
  *
  * Cost: rbatl_move and rbatl_reply solve the row anew at each call. For the moves
  * of up to 64 positions ask rbatl_worksheet, which solves it once, as
