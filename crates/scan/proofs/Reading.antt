@@ -30,7 +30,8 @@ module _ (x : Spelling) (p : Place) (k : ℕ → Format) (b : Block) (t : List �
   rest_of : ℕ → List ℕ → Outcome
   rest_of o u = cond (x.allowed o) (read (k (x.byte o)) (store b p (x.byte o)) u) (refused (x.refusal o) t)
 
-  pub value_next : (o v : ℕ) (rest : List ℕ) (b' : Block) → search x.spell x.options t ≡ found o rest → x.allowed o ≡ true → x.byte o ≡ v → b' ≡ store b p v → read (value x p k) b t ≡ read (k v) b' rest
+  pub value_next : (o v : ℕ) (rest : List ℕ) (b' : Block) → search x.spell x.options t ≡ found o rest → x.allowed o ≡ true → x.byte o ≡ v → b' ≡ store b p v →
+      read (value x p k) b t ≡ read (k v) b' rest
   unfolding rest_of
   value_next o v rest b' e a w s =
       ap (λ (y : Found). on_found y t rest_of) e

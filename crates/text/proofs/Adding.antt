@@ -37,7 +37,10 @@ module _ {w t u : List ℕ} {at i : ℕ} (b : Begun w t at u i) where
   pub begun_more : i < length w → at + i < length u → Begun w t at (set u (at + i) (get_or w i 0)) (i + 1)
   begun_more h l =
       let next : at + (i + 1) ≡ suc (at + i) = omega arith in
-      record { so = rw (next, take-suc-set u (at + i) (get_or w i 0), add-one, take-suc w i 0, ← append_assoc) (ap (λ (l : List ℕ). l ++ get_or w i 0 ∷ []) b.so); after = drop-set-lt (at + (i + 1)) u (at + i) (get_or w i 0) (omega arith) ∙ untouched_later t u (at + i) (at + (i + 1)) (omega arith) b.after }
+      record {
+        so = rw (next, take-suc-set u (at + i) (get_or w i 0), add-one, take-suc w i 0, ← append_assoc) (ap (λ (l : List ℕ). l ++ get_or w i 0 ∷ []) b.so);
+        after = drop-set-lt (at + (i + 1)) u (at + i) (get_or w i 0) (omega arith) ∙ untouched_later t u (at + i) (at + (i + 1)) (omega arith) b.after;
+      }
 
   pub begun_all : length w ≤ i → AddsAt w t at u (at + i)
   begun_all h rest = rw (b.so, take_all i w h, append_assoc) refl

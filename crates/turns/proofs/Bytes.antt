@@ -3,7 +3,7 @@ use mathlib.Core.List.{List, ◌++◌}
 use mathlib.Core.Logic.{◌↔◌, ◌⊎◌, inl, inr, ⊎_elim}
 use mathlib.Core.Path.{◌≡◌, sym, ◌∙◌, ap, subst}
 use Prim.Native.Nat.{ℕ, suc, ◌+◌, ◌*◌, ◌-◌, ◌/◌, ◌%◌, ◌^◌, ◌<◌, ◌≤◌}
-use native.Mathlib.Nat.{add-mul-div_right, div-eq_of_lt, div-div-eq-div-mul, div-lt_iff_lt-mul, mod-eq_of_lt, pow-succ'}
+use native.Mathlib.Nat.{add-mul-div_right, div-eq_of_lt, div-div-eq-div-mul, div-lt_iff_lt-mul, mod-eq_of_lt, mul-le-mul_left, mul-suc, pow-succ'}
 use native.Mathlib.Omega.{arith}
 use lib.Pow.{pow_pos, pow-add, shr-shr}
 use lib.ListN.{get_or, length, take, set, replicate, length-set, length-replicate, get_or-replicate, get_or-eq_default}
@@ -43,6 +43,40 @@ one_more entry Right l l' {n} others right so_far k small = go (eq? k n)
 pub stored_more : {entry : List ℕ → ℕ → ℕ} (Right : ℕ → ℕ → Type 0) {l l' : List ℕ} {n v : ℕ} → Stored entry l l' n v → Right n v → ((k : ℕ) → k < n → Right k (entry l k)) → (k : ℕ) → k < n + 1 → Right k (entry l' k)
 stored_more {entry} Right {l} {l'} {n} {v} put right = one_more entry Right l l' put.others (subst (Right n) (sym put.stored) right)
 
+-- the bytes before place a and from place b on are as they were
+abbrev pub Keeps : List ℕ → List ℕ → ℕ → ℕ → Type 0
+Keeps l l' a b = (k : ℕ) → (k < a) ⊎ (b ≤ k) → get_or l' k 0 ≡ get_or l k 0
+
+apart : (k i : ℕ) → (k ≡ i → ⊥) → (k < i) ⊎ (i < k)
+apart k i ne = go (lt? k i)
+  where
+    go : Dec (k < i) → (k < i) ⊎ (i < k)
+    go (yes h) = inl h
+    go (no h) = inr (omega arith)
+
+-- such a place is none of those between
+outside : (k a b c : ℕ) → (k < a) ⊎ (b ≤ k) → a ≤ c → c < b → k ≡ c → ⊥
+outside k a b c h low high e = ⊎_elim (λ l. omega arith) (λ l. omega arith) h
+
+-- of entries of w bytes, so are then those of all but entry i, whatever their width
+bytes_kept : (w i : ℕ) (l l' : List ℕ) → Keeps l l' (w * i) (w * i + w) → (k : ℕ) → (k ≡ i → ⊥) → (j : ℕ) → w * k ≤ j → j < w * k + w → get_or l' j 0 ≡ get_or l j 0
+bytes_kept w i l l' kept k ne j low high = ⊎_elim
+    (λ h. kept j (inl (omega (arith, mul-suc w k, mul-le-mul_left {m = suc k} {n = i} w (omega arith)))))
+    (λ h. kept j (inr (omega (arith, mul-suc w i, mul-le-mul_left {m = suc i} {n = k} w (omega arith)))))
+    (apart k i ne)
+
+rank_kept : (i : ℕ) (l l' : List ℕ) → Keeps l l' (2 * i) (2 * i + 2) → (k : ℕ) → (k ≡ i → ⊥) → rank_in l' k ≡ rank_in l k
+rank_kept i l l' kept k ne = let byte = bytes_kept 2 i l l' kept k ne in
+    omega (arith, byte (2 * k) (omega arith) (omega arith), byte (2 * k + 1) (omega arith) (omega arith))
+
+narrow_kept : (i : ℕ) (l l' : List ℕ) → Keeps l l' (3 * i) (3 * i + 3) → (k : ℕ) → (k ≡ i → ⊥) → narrow_in l' k ≡ narrow_in l k
+narrow_kept i l l' kept k ne = let byte = bytes_kept 3 i l l' kept k ne in
+    omega (arith, byte (3 * k) (omega arith) (omega arith), byte (3 * k + 1) (omega arith) (omega arith), byte (3 * k + 2) (omega arith) (omega arith))
+
+word_kept : (i : ℕ) (l l' : List ℕ) → Keeps l l' (4 * i) (4 * i + 4) → (k : ℕ) → (k ≡ i → ⊥) → word_in l' k ≡ word_in l k
+word_kept i l l' kept k ne = let byte = bytes_kept 4 i l l' kept k ne in
+    omega (arith, byte (4 * k) (omega arith) (omega arith), byte (4 * k + 1) (omega arith) (omega arith), byte (4 * k + 2) (omega arith) (omega arith), byte (4 * k + 3) (omega arith) (omega arith))
+
 -- two bytes of a buffer, those of entry p, and the others
 module _ (l : List ℕ) (p x y : ℕ) where
   abbrev pub with_pair : List ℕ
@@ -64,17 +98,12 @@ module _ (l : List ℕ) (p v : ℕ) where
   abbrev pub with_rank : List ℕ
   with_rank = with_pair l p (v % 256) (v / 256 % 256)
 
-  -- a byte of another rank is as before
-  rank_other : (k : ℕ) → (k ≡ 2 * p → ⊥) → (k ≡ 2 * p + 1 → ⊥) → get_or with_rank k 0 ≡ get_or l k 0
-  rank_other = pair_other l p (v % 256) (v / 256 % 256)
-
   pub rank_stored : 2 * p + 1 < length l → v < 65536 → Stored rank_in l with_rank p v
   rank_stored inside small = record {
     stored = omega (arith, pair_stored l p (v % 256) (v / 256 % 256) inside);
-    others = λ i ne.
-        let low : get_or with_rank (2 * i) 0 ≡ get_or l (2 * i) 0 = rank_other (2 * i) (λ e. ne (omega arith)) (λ e. omega arith) in
-        let high : get_or with_rank (2 * i + 1) 0 ≡ get_or l (2 * i + 1) 0 = rank_other (2 * i + 1) (λ e. omega arith) (λ e. ne (omega arith)) in
-        omega (arith, low, high);
+    others = rank_kept p l with_rank (λ k h.
+        let none = outside k (2 * p) (2 * p + 2) in
+        pair_other l p (v % 256) (v / 256 % 256) k (none (2 * p) h (omega arith) (omega arith)) (none (2 * p + 1) h (omega arith) (omega arith)));
     kept = pair_length l p (v % 256) (v / 256 % 256);
   }
 
@@ -104,6 +133,11 @@ module _ (l : List ℕ) (a x y z : ℕ) where
   pub three_other : (k : ℕ) → (k ≡ a → ⊥) → (k ≡ a + 1 → ⊥) → (k ≡ a + 2 → ⊥) → get_or with_three k 0 ≡ get_or l k 0
   three_other k n0 n1 n2 = get_or-set_other two (a + 2) k z 0 n2 ∙ get_or-set_other one (a + 1) k y 0 n1 ∙ get_or-set_other l a k x 0 n0
 
+  three_keeps : Keeps l with_three a (a + 3)
+  three_keeps k h =
+      let none = outside k a (a + 3) in
+      three_other k (none a h (omega arith) (omega arith)) (none (a + 1) h (omega arith) (omega arith)) (none (a + 2) h (omega arith) (omega arith))
+
   pub three_length : length with_three ≡ length l
   three_length = length-set two (a + 2) z ∙ length-set one (a + 1) y ∙ length-set l a x
 
@@ -119,17 +153,10 @@ module _ (l : List ℕ) (i w : ℕ) where
   abbrev pub with_narrow : List ℕ
   with_narrow = with_three l (3 * i) (w % 256) (w / 256 % 256) (w / 65536 % 256)
 
-  narrow_other : (k : ℕ) → (k ≡ 3 * i → ⊥) → (k ≡ 3 * i + 1 → ⊥) → (k ≡ 3 * i + 2 → ⊥) → get_or with_narrow k 0 ≡ get_or l k 0
-  narrow_other = three_other l (3 * i) (w % 256) (w / 256 % 256) (w / 65536 % 256)
-
   pub narrow_stored : 3 * i + 2 < length l → w < 2 ^ 24 → Stored narrow_in l with_narrow i w
   narrow_stored inside small = record {
     stored = omega (arith, three_stored l (3 * i) (w % 256) (w / 256 % 256) (w / 65536 % 256) inside, word_bytes w (omega arith));
-    others = λ k ne.
-        let b0 : get_or with_narrow (3 * k) 0 ≡ get_or l (3 * k) 0 = narrow_other (3 * k) (λ e. ne (omega arith)) (λ e. omega arith) (λ e. omega arith) in
-        let b1 : get_or with_narrow (3 * k + 1) 0 ≡ get_or l (3 * k + 1) 0 = narrow_other (3 * k + 1) (λ e. omega arith) (λ e. ne (omega arith)) (λ e. omega arith) in
-        let b2 : get_or with_narrow (3 * k + 2) 0 ≡ get_or l (3 * k + 2) 0 = narrow_other (3 * k + 2) (λ e. omega arith) (λ e. omega arith) (λ e. ne (omega arith)) in
-        omega (arith, b0, b1, b2);
+    others = narrow_kept i l with_narrow (three_keeps l (3 * i) (w % 256) (w / 256 % 256) (w / 65536 % 256));
     kept = three_length l (3 * i) (w % 256) (w / 256 % 256) (w / 65536 % 256);
   }
 
@@ -145,8 +172,10 @@ module _ (l : List ℕ) (i w : ℕ) where
   word_front : (k : ℕ) → (k ≡ 4 * i + 3 → ⊥) → get_or with_word k 0 ≡ get_or three k 0
   word_front k n3 = get_or-set_other three (4 * i + 3) k _ 0 n3
 
-  word_other : (k : ℕ) → (k ≡ 4 * i → ⊥) → (k ≡ 4 * i + 1 → ⊥) → (k ≡ 4 * i + 2 → ⊥) → (k ≡ 4 * i + 3 → ⊥) → get_or with_word k 0 ≡ get_or l k 0
-  word_other k n0 n1 n2 n3 = word_front k n3 ∙ three_other l (4 * i) (w % 256) (w / 256 % 256) (w / 65536 % 256) k n0 n1 n2
+  word_keeps : Keeps l with_word (4 * i) (4 * i + 4)
+  word_keeps k h =
+      word_front k (outside k (4 * i) (4 * i + 4) (4 * i + 3) h (omega arith) (omega arith))
+      ∙ three_keeps l (4 * i) (w % 256) (w / 256 % 256) (w / 65536 % 256) k (⊎_elim (λ l. inl l) (λ l. inr (omega arith)) h)
 
   three_kept : length three ≡ length l
   three_kept = three_length l (4 * i) (w % 256) (w / 256 % 256) (w / 65536 % 256)
@@ -163,12 +192,7 @@ module _ (l : List ℕ) (i w : ℕ) where
         let b2 : get_or with_word (4 * i + 2) 0 ≡ w / 65536 % 256 = word_front (4 * i + 2) (λ e. omega arith) ∙ front.2 in
         let b3 : get_or with_word (4 * i + 3) 0 ≡ w / 16777216 % 256 = get_or-set_same three (4 * i + 3) _ 0 (omega (arith, three_kept)) in
         omega (arith, b0, b1, b2, b3, word_bytes w small);
-    others = λ k ne.
-        let b0 : get_or with_word (4 * k) 0 ≡ get_or l (4 * k) 0 = word_other (4 * k) (λ e. ne (omega arith)) (λ e. omega arith) (λ e. omega arith) (λ e. omega arith) in
-        let b1 : get_or with_word (4 * k + 1) 0 ≡ get_or l (4 * k + 1) 0 = word_other (4 * k + 1) (λ e. omega arith) (λ e. ne (omega arith)) (λ e. omega arith) (λ e. omega arith) in
-        let b2 : get_or with_word (4 * k + 2) 0 ≡ get_or l (4 * k + 2) 0 = word_other (4 * k + 2) (λ e. omega arith) (λ e. omega arith) (λ e. ne (omega arith)) (λ e. omega arith) in
-        let b3 : get_or with_word (4 * k + 3) 0 ≡ get_or l (4 * k + 3) 0 = word_other (4 * k + 3) (λ e. omega arith) (λ e. omega arith) (λ e. omega arith) (λ e. ne (omega arith)) in
-        omega (arith, b0, b1, b2, b3);
+    others = word_kept i l with_word word_keeps;
     kept = word_length;
   }
 
@@ -205,45 +229,22 @@ module _ (w s : ℕ) (free : Bit w s → ⊥) where
           let same = ap (λ (n : ℕ). n % 2) (bit_beyond x (omega arith)) in
           (λ one. inl (sym same ∙ one), ⊎_elim (λ one. same ∙ one) (λ e. absurd (ne e)))
 
--- a part of a buffer that was stored anew, n bytes from place a on, and the bytes before and after it
-module _ (l ys : List ℕ) (a n k : ℕ) (inside : a + n ≤ length l) (long : length ys ≡ n) where
-  put_below : k < a → get_or (put_mid a n l ys) k 0 ≡ get_or l k 0
-  put_below h = grind (arith, common_steps)
-
-  put_beyond : a + n ≤ k → get_or (put_mid a n l ys) k 0 ≡ get_or l k 0
-  put_beyond h = grind (arith, common_steps)
-
-apart : (k i : ℕ) → (k ≡ i → ⊥) → (k < i) ⊎ (i < k)
-apart k i ne = go (lt? k i)
+-- a part of a buffer that was stored anew, n bytes from place a on: the bytes before and after it stay
+put_keeps : (l ys : List ℕ) (a n : ℕ) → a + n ≤ length l → length ys ≡ n → Keeps l (put_mid a n l ys) a (a + n)
+put_keeps l ys a n inside long k = ⊎_elim (λ h. below h) (λ h. beyond h)
   where
-    go : Dec (k < i) → (k < i) ⊎ (i < k)
-    go (yes h) = inl h
-    go (no h) = inr (omega arith)
+    below : k < a → get_or (put_mid a n l ys) k 0 ≡ get_or l k 0
+    below h = grind (arith, common_steps)
+
+    beyond : a + n ≤ k → get_or (put_mid a n l ys) k 0 ≡ get_or l k 0
+    beyond h = grind (arith, common_steps)
 
 -- where the part is one set, the others are as before
 pub narrow_others : (l ys : List ℕ) (i n : ℕ) → 3 * i + n ≤ length l → length ys ≡ n → n ≡ 3 → (k : ℕ) → (k ≡ i → ⊥) → narrow_in (put_mid (3 * i) n l ys) k ≡ narrow_in l k
-narrow_others l ys i n inside long three k ne = ⊎_elim
-    (λ h. omega (arith, below (3 * k) (omega arith), below (3 * k + 1) (omega arith), below (3 * k + 2) (omega arith)))
-    (λ h. omega (arith, beyond (3 * k) (omega arith), beyond (3 * k + 1) (omega arith), beyond (3 * k + 2) (omega arith)))
-    (apart k i ne)
-  where
-    below : (k : ℕ) → k < 3 * i → get_or (put_mid (3 * i) n l ys) k 0 ≡ get_or l k 0
-    below k = put_below l ys (3 * i) n k inside long
-
-    beyond : (k : ℕ) → 3 * i + n ≤ k → get_or (put_mid (3 * i) n l ys) k 0 ≡ get_or l k 0
-    beyond k = put_beyond l ys (3 * i) n k inside long
+narrow_others l ys i n inside long three = narrow_kept i l (put_mid (3 * i) n l ys) (λ k h. put_keeps l ys (3 * i) n inside long k (⊎_elim (λ l. inl l) (λ l. inr (omega arith)) h))
 
 pub word_others : (l ys : List ℕ) (i n : ℕ) → 4 * i + n ≤ length l → length ys ≡ n → n ≡ 4 → (k : ℕ) → (k ≡ i → ⊥) → word_in (put_mid (4 * i) n l ys) k ≡ word_in l k
-word_others l ys i n inside long four k ne = ⊎_elim
-    (λ h. omega (arith, below (4 * k) (omega arith), below (4 * k + 1) (omega arith), below (4 * k + 2) (omega arith), below (4 * k + 3) (omega arith)))
-    (λ h. omega (arith, beyond (4 * k) (omega arith), beyond (4 * k + 1) (omega arith), beyond (4 * k + 2) (omega arith), beyond (4 * k + 3) (omega arith)))
-    (apart k i ne)
-  where
-    below : (k : ℕ) → k < 4 * i → get_or (put_mid (4 * i) n l ys) k 0 ≡ get_or l k 0
-    below k = put_below l ys (4 * i) n k inside long
-
-    beyond : (k : ℕ) → 4 * i + n ≤ k → get_or (put_mid (4 * i) n l ys) k 0 ≡ get_or l k 0
-    beyond k = put_beyond l ys (4 * i) n k inside long
+word_others l ys i n inside long four = word_kept i l (put_mid (4 * i) n l ys) (λ k h. put_keeps l ys (4 * i) n inside long k (⊎_elim (λ l. inl l) (λ l. inr (omega arith)) h))
 
 -- a word whose bits are those of w and s is as short as both
 pub bits_short : {w s r : ℕ} → ((x : ℕ) → Bit r x ↔ (Bit w x ⊎ (x ≡ s))) → (n : ℕ) → s < n → w < 2 ^ n → r < 2 ^ n
